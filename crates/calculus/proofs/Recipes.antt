@@ -1,0 +1,46 @@
+-- The recipes of document 01 that are proved: each computes. Assumes nothing.
+use mathlib.Core.Path.{refl}
+use Rattle.calculus.specs.Words.{put, putTy, size, sizeTy}
+use Rattle.calculus.specs.Kinds.{rowFor}
+use Rattle.calculus.specs.Reading.{walk, inOrder, read, readTree}
+use Rattle.calculus.specs.Inference.{infer}
+use Rattle.calculus.specs.Reduction.{substitute, form, onNumber, onLambda, onList, onLump, amiss, third, answer, contract1, contract2, onNumbers, toML, toScheme, contract, fill, turn, step}
+use Rattle.calculus.specs.Run.{run}
+use Rattle.calculus.specs.File.{wordsOf, typed, checkWords, check, runIn, operate}
+use Rattle.calculus.specs.Recipes.{Starred, Refused}
+
+pub starred : Starred
+unfolding operate runIn check checkWords typed wordsOf run step turn fill contract toScheme toML contract2 contract1 onNumbers answer third amiss onLump onList onLambda onNumber form substitute infer read readTree inOrder walk rowFor put putTy size sizeTy
+starred =
+    record {
+      sum = refl;
+      difference = refl;
+      over = refl;
+      no-number = refl;
+      function = refl;
+      function-spent = refl;
+      function-served = refl;
+      function-full = refl;
+      unsealed = refl;
+      sealed = refl;
+      endless = refl;
+      no-list = refl;
+      no-head = refl;
+      third = refl;
+      own-code = refl;
+    }
+
+pub refused : Refused
+unfolding operate runIn check checkWords typed wordsOf infer read readTree inOrder walk rowFor size sizeTy
+refused =
+    record {
+      empty-file = refl;
+      header = refl;
+      no-kind = refl;
+      nested = refl;
+      unbound = refl;
+      untyped = refl;
+      mistyped = refl;
+      no-room = refl;
+      other-language = refl;
+    }

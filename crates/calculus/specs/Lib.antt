@@ -1,0 +1,15 @@
+pub mod Verdicts
+pub mod Trees
+pub mod Words
+pub mod Limits
+pub mod Kinds
+pub mod Reading
+pub mod Scope
+pub mod Typing
+pub mod Inference
+pub mod Reduction
+pub mod Rules
+pub mod Substitution
+pub mod Run
+pub mod File
+pub mod Recipes

@@ -1,0 +1,81 @@
+-- Document 01, "Recipes tried by hand": those with a star, and the small inputs of the table of refusals, from the file's bytes to the
+-- result. proofs/Recipes.antt proves them all.
+use Prim.Native.Nat.{ℕ, _+_, _/_, _%_}
+use mathlib.Core.List.{List, [], _∷_, _++_}
+use mathlib.Core.Path.{_≡_}
+use lib.ListN.{length, replicate}
+use Rattle.calculus.specs.Verdicts.{refused, passed}
+use Rattle.calculus.specs.Run.{End, valued, spent, error, full, ended}
+use Rattle.calculus.specs.File.{operate}
+
+-- The bytes of words, the least byte first.
+abbrev pub bytesOf : List ℕ → List ℕ
+bytesOf [] = []
+bytesOf (w ∷ ws) = (w % 256) ∷ (w / 256 % 256) ∷ (w / 65536 % 256) ∷ (w / 16777216) ∷ bytesOf ws
+
+-- A file of a declared type and a term.
+abbrev pub fileOf : List ℕ → List ℕ → List ℕ
+fileOf types terms = length types ∷ 4 ∷ length terms ∷ (4 + length types) ∷ types ++ terms
+
+-- What is lent: a limit of steps, and two buffers of one length.
+pub record Lent : Type 0 where
+  pub limit : ℕ
+  pub room : ℕ
+
+abbrev pub lent : ℕ → ℕ → Lent
+lent k n = record { limit = k; room = n }
+
+-- "Steps plentiful unless given": what the listing lends.
+abbrev pub plenty : Lent
+plenty = lent 1000000 4096
+
+-- A file that is run, with what is lent, ends: with an end, a code, steps made, words left and words wanted.
+abbrev pub Ends : List ℕ → Lent → End → ℕ → ℕ → List ℕ → ℕ → Type 0
+Ends file x end code steps left wanted =
+    operate (bytesOf file) (x .limit) (x .room) (x .room) ≡ passed (ended end code (record { steps = steps }) left wanted)
+
+-- A file is refused, with a number and a place.
+abbrev pub Refuses : List ℕ → Lent → ℕ → ℕ → Type 0
+Refuses file x number place = operate (bytesOf file) (x .limit) (x .room) (x .room) ≡ refused number place
+
+-- (ms (N to N) (fn v0)) applied to 7.
+abbrev pub converted : List ℕ
+converted = 19 ∷ 30 ∷ 4 ∷ 1 ∷ 1 ∷ 34 ∷ 32 ∷ 1809 ∷ []
+
+-- The recipes with a star.
+pub record Starred : Type 0 where
+  -- add 2 3: value 5, 1 step; subtract 2 3: 0, 1; add 16,777,215 1: error 5, 2
+  pub sum : Ends (fileOf (1 ∷ []) (21 ∷ 529 ∷ 785 ∷ [])) plenty valued 0 1 (1297 ∷ []) 0
+  pub difference : Ends (fileOf (1 ∷ []) (22 ∷ 529 ∷ 785 ∷ [])) plenty valued 0 1 (17 ∷ []) 0
+  pub over : Ends (fileOf (1 ∷ []) (21 ∷ 4294967057 ∷ 273 ∷ [])) plenty error 5 2 [] 0
+  -- ms N (fn 0): error 1, 2 steps
+  pub no-number : Ends (fileOf (1 ∷ []) (30 ∷ 1 ∷ 34 ∷ 33 ∷ [])) plenty error 1 2 [] 0
+  -- value 7, 5 steps; limit 4, spent; capacity 12 serves, 11 is full after 0 steps, wanting 12
+  pub function : Ends (fileOf (1 ∷ []) converted) plenty valued 0 5 (1809 ∷ []) 0
+  pub function-spent : Ends (fileOf (1 ∷ []) converted) (lent 4 4096) spent 0 4 (30 ∷ 1 ∷ 1825 ∷ []) 0
+  pub function-served : Ends (fileOf (1 ∷ []) converted) (lent 1000000 12) valued 0 5 (1809 ∷ []) 0
+  pub function-full : Ends (fileOf (1 ∷ []) converted) (lent 1000000 11) full 0 0 converted 12
+  -- ms N (sm L (ms L 4)): 4, 2 steps
+  pub unsealed : Ends (fileOf (1 ∷ []) (30 ∷ 1 ∷ 45 ∷ 2 ∷ 30 ∷ 2 ∷ 1057 ∷ [])) plenty valued 0 2 (1041 ∷ []) 0
+  -- ms L (fn v0), limit 0: value, 0 steps
+  pub sealed : Ends (fileOf (2 ∷ []) (30 ∷ 2 ∷ 34 ∷ 32 ∷ [])) (lent 0 4096) valued 0 0 (30 ∷ 2 ∷ 34 ∷ 32 ∷ []) 0
+  -- fix (fn N v0), under limit 3: spent with its own four words left
+  pub endless : Ends (fileOf (1 ∷ []) (20 ∷ 18 ∷ 1 ∷ 16 ∷ [])) (lent 3 4096) spent 0 3 (20 ∷ 18 ∷ 1 ∷ 16 ∷ []) 0
+  -- ms {N} (cons 1 2): error 3, 4 steps; hd (nil N): error 4, 2
+  pub no-list : Ends (fileOf (3 ∷ 1 ∷ []) (30 ∷ 3 ∷ 1 ∷ 40 ∷ 289 ∷ 545 ∷ [])) plenty error 3 4 [] 0
+  pub no-head : Ends (fileOf (1 ∷ []) (26 ∷ 24 ∷ 1 ∷ [])) plenty error 4 2 [] 0
+  -- ms N (if0 nil 1 2): 2, 2 steps; ms N (add (fn v0) (wrong 300)): error 300, 1 step
+  pub third : Ends (fileOf (1 ∷ []) (30 ∷ 1 ∷ 38 ∷ 39 ∷ 289 ∷ 545 ∷ [])) plenty valued 0 2 (529 ∷ []) 0
+  pub own-code : Ends (fileOf (1 ∷ []) (30 ∷ 1 ∷ 36 ∷ 34 ∷ 32 ∷ 76844 ∷ [])) plenty error 300 1 [] 0
+
+-- The small inputs of the table of refusals, and fn N (ms N v0) with Scheme v0.
+pub record Refused : Type 0 where
+  pub empty-file : Refuses [] plenty 1 0
+  pub header : Refuses (1 ∷ 4 ∷ 1 ∷ 6 ∷ 1 ∷ 17 ∷ []) plenty 2 0
+  pub no-kind : Refuses (1 ∷ 4 ∷ 1 ∷ 5 ∷ 1 ∷ 99 ∷ []) plenty 3 5
+  pub nested : Refuses (fileOf (1 ∷ []) (replicate 256 20 ++ 17 ∷ [])) plenty 4 261
+  pub unbound : Refuses (1 ∷ 4 ∷ 1 ∷ 5 ∷ 1 ∷ 16 ∷ []) plenty 5 5
+  pub untyped : Refuses (fileOf (1 ∷ []) (19 ∷ 17 ∷ 17 ∷ [])) plenty 6 0
+  pub mistyped : Refuses (1 ∷ 4 ∷ 1 ∷ 5 ∷ 2 ∷ 17 ∷ []) plenty 7 0
+  pub no-room : Refuses (1 ∷ 4 ∷ 1 ∷ 5 ∷ 1 ∷ 17 ∷ []) (lent 1000000 0) 8 0
+  pub other-language : Refuses (fileOf (4 ∷ 1 ∷ 1 ∷ []) (18 ∷ 1 ∷ 30 ∷ 1 ∷ 32 ∷ [])) plenty 5 11
