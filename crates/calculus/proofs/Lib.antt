@@ -1,1 +1,5 @@
+pub mod Sizes
+pub mod Walks
+pub mod Rows
+pub mod Views
 pub mod Recipes
