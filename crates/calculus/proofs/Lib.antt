@@ -1,5 +1,10 @@
+pub mod Verdicts
 pub mod Sizes
 pub mod Walks
 pub mod Rows
 pub mod Views
+pub mod Reading
+pub mod Nesting
+pub mod Nodes
+pub mod Scopes
 pub mod Recipes

@@ -3,16 +3,16 @@
 use Prim.Native.Nat.{ℕ, zero, suc, _+_, _*_, _/_, _%_, _≤_, _<_, max}
 use mathlib.Core.Bool.{Bool, true, false, cond, _&&_}
 use mathlib.Core.List.{List, [], _∷_}
-use mathlib.Core.Option.{Option, none, some}
+use mathlib.Core.Option.{Option, none, some, Option·some-injective, Option·none-ne-some}
 use mathlib.Core.Path.{_≡_, refl, sym, ap, _∙_, subst}
 use lib.Dec.{eqb, leb}
 use borrow.Author.Tests.{eqb-true, leb-true, le-leb}
 use native.Mathlib.Omega.{arith}
 use native.Mathlib.Nat.{zero-max}
-use Rattle.calculus.specs.Verdicts.{found}
 use Rattle.calculus.specs.Trees.{Lang, ml, sc}
 use Rattle.calculus.specs.Words.{word, testNumber, put, putTy}
 use Rattle.calculus.specs.Limits.{InRange, nestingTy, nesting}
+use Rattle.calculus.proofs.Verdicts.{found-some}
 use Rattle.calculus.specs.Kinds.{Sort, type, term, Tree, Trees, putTree, putTrees, Row, plain, ranged, testOf, table, rowIn, rowFor}
 
 -- Ranges and nesting, of a tree of any sort and of trees in a row.
@@ -108,17 +108,14 @@ laws (term sc) =
     also plainly (λ ts ks. refl) (λ ts h. h .1 .0) (λ ts. refl)
     also tt
 
-some-injective : {A : Type 0} (x y : A) → _≡_ {A = Option A} (some x) (some y) → x ≡ y
-some-injective x y q = cc
-
 -- The law of the row at a kind.
 row-law : {s : Sort} (rs : List (Row s)) → Laws rs → (k : ℕ) (r : Row s) → rowIn rs k ≡ some r → Law r × (r .kind ≡ k)
-row-law [] ls k r q = let z : _≡_ {A = ℕ} 0 1 = cc in absurd (omega arith)
+row-law [] ls k r q = absurd (Option·none-ne-some r q)
 row-law {s} (x ∷ rs) ls k r q = chosen (λ p. row-law rs (ls .1) k r p) (eqb k (x .kind)) refl q
   where
     chosen : (rowIn rs k ≡ some r → Law r × (r .kind ≡ k)) → (b : Bool) → eqb k (x .kind) ≡ b → cond b (some x) (rowIn rs k) ≡ some r
         → Law r × (r .kind ≡ k)
-    chosen later true e p = let z = some-injective x r p in (subst Law z (ls .0), ap (λ (y : Row s). y .kind) (sym z) ∙ sym (eqb-true k (x .kind) e))
+    chosen later true e p = let z = Option·some-injective x r p in (subst Law z (ls .0), ap (λ (y : Row s). y .kind) (sym z) ∙ sym (eqb-true k (x .kind) e))
     chosen later false e p = later p
 
 pub law-at : (s : Sort) (k : ℕ) (r : Row s) → rowIn (table s) k ≡ some r → Law r × (r .kind ≡ k)
@@ -133,22 +130,17 @@ pub record Due (s : Sort) (w : ℕ) (r : Row s) : Type 0 where
 
 pub due-word : (s : Sort) (w : ℕ) (r : Row s) → rowFor s w ≡ some r → Due s w r
 unfolding rowFor
-due-word s w r q = at-kind (rowIn (table s) (w % 256)) refl q
+due-word s w r q = let i = found-some (rowIn (table s) (w % 256)) _ r q in tested (i .0) _ _ refl refl (i .1) (i .2)
   where
     tested : (x : Row s) (a b : Bool) → leb (x .low) (w / 256) ≡ a → leb (w / 256) (x .high) ≡ b → rowIn (table s) (w % 256) ≡ some x
         → cond (a && b) (some x) none ≡ some r → Due s w r
     tested x true true p h g e =
-        let z = some-injective x r e in
+        let z = Option·some-injective x r e in
         let k = law-at s (w % 256) x g .1 in
         subst (λ (y : Row s). Due s w y) z
         (record { listed = g; low = leb-true _ _ p; high = leb-true _ _ h; spells = omega arith })
-    tested x true false p h g e = let z : _≡_ {A = ℕ} 0 1 = cc in absurd (omega arith)
-    tested x false b p h g e = let z : _≡_ {A = ℕ} 0 1 = cc in absurd (omega arith)
-
-    at-kind : (o : Option (Row s)) → rowIn (table s) (w % 256) ≡ o
-        → found o none (λ x. cond (leb (x .low) (w / 256) && leb (w / 256) (x .high)) (some x) none) ≡ some r → Due s w r
-    at-kind none g e = let z : _≡_ {A = ℕ} 0 1 = cc in absurd (omega arith)
-    at-kind (some x) g e = tested x _ _ refl refl g e
+    tested x true false p h g e = absurd (Option·none-ne-some r e)
+    tested x false b p h g e = absurd (Option·none-ne-some r e)
 
 -- What a due word makes of parts in range.
 pub due-made : (s : Sort) (w : ℕ) (r : Row s) → rowFor s w ≡ some r → (ts : Trees (r .parts)) → Made r (w / 256) ts

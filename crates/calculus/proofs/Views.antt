@@ -10,7 +10,7 @@ use native.Mathlib.Omega.{arith}
 use Rattle.calculus.specs.Trees.{Ty, N, L, list, _to_, Lang, ml, sc, Test, isFun, isList, isNull, isNum, Op1, head, tail, fixpoint, empty, testing, Op2, apply, plus, minus, pair, Term, var, num, lam, op1, op2, if0, nil, wrong, ms, sm}
 use Rattle.calculus.specs.Words.{word, put, putTy}
 use Rattle.calculus.specs.Limits.{InRange}
-use Rattle.calculus.specs.Kinds.{Sort, type, term, Tree, Trees, putTree, putTrees, Row, table, rowIn}
+use Rattle.calculus.specs.Kinds.{Sort, type, term, Tree, Trees, putTree, putTrees, Row, table, rowIn, sortOfKind, sortOf}
 use Rattle.calculus.proofs.Sizes.{sizeTree, sizeTrees, tree-length, trees-length}
 use Rattle.calculus.proofs.Rows.{TreeInRange, TreesInRange, law-at}
 
@@ -20,15 +20,16 @@ pub record View (s : Sort) (t : Tree s) : Type 0 where
   pub parts : Trees (row .parts)
   pub listed : rowIn (table s) (row .kind) ≡ some row
   pub small : row .kind < 256
+  pub home : sortOfKind (row .kind) ≡ s
   pub makes : row .make operand parts ≡ t
   pub spelt : (k : List ℕ) → putTree s t k ≡ word (row .kind) operand ∷ putTrees (row .parts) parts k
   pub fits : TreeInRange s t → (row .low ≤ operand) × (operand ≤ row .high) × TreesInRange (row .parts) parts
 
 -- A tree by its kind: the operand, the parts.
-seen : {s : Sort} (k : ℕ) {r : Row s} (o : ℕ) (ts : Trees (r .parts)) → rowIn (table s) k ≡ some r → T (ltb k 256)
+unfoldable pub seen : {s : Sort} (k : ℕ) {r : Row s} (o : ℕ) (ts : Trees (r .parts)) → rowIn (table s) k ≡ some r → T (ltb k 256) → sortOfKind k ≡ s
     → ((ks : List ℕ) → putTree s (r .make o ts) ks ≡ word k o ∷ putTrees (r .parts) ts ks)
     → (TreeInRange s (r .make o ts) → (r .low ≤ o) × (o ≤ r .high) × TreesInRange (r .parts) ts) → View s (r .make o ts)
-seen {s} k {r} o ts q h spelt fits =
+seen {s} k {r} o ts q h home spelt fits =
     let e : r .kind ≡ k = law-at s k r q .1 in
     let b = ltb→lt k 256 h in
     record {
@@ -37,61 +38,62 @@ seen {s} k {r} o ts q h spelt fits =
       parts = ts;
       listed = ap (λ (j : ℕ). rowIn (table s) j) e ∙ q;
       small = omega arith;
+      home = ap sortOfKind e ∙ home;
       makes = refl;
       spelt = λ ks. spelt ks ∙ ap (λ (j : ℕ). word j o ∷ putTrees (r .parts) ts ks) (sym e);
       fits = fits;
     }
 
 -- The operand 0 is in the range of an operand that is 0.
-fixed : {A : Type 0} → A → (0 ≤ 0) × (0 ≤ 0) × A
+pub fixed : {A : Type 0} → A → (0 ≤ 0) × (0 ≤ 0) × A
 fixed a = (omega arith, omega arith, a)
 
-view-type : (t : Ty) → View type t
+unfoldable pub view-type : (t : Ty) → View type t
 unfolding putTy
-view-type N = seen 1 0 tt refl tt (λ ks. refl) (λ h. fixed tt)
-view-type L = seen 2 0 tt refl tt (λ ks. refl) (λ h. fixed tt)
-view-type (list t) = seen 3 0 (t, tt) refl tt (λ ks. refl) (λ h. fixed (tt, tt))
-view-type (t to u) = seen 4 0 (t, (u, tt)) refl tt (λ ks. refl) (λ h. fixed (tt, (tt, tt)))
+view-type N = seen 1 0 tt refl tt refl (λ ks. refl) (λ h. fixed tt)
+view-type L = seen 2 0 tt refl tt refl (λ ks. refl) (λ h. fixed tt)
+view-type (list t) = seen 3 0 (t, tt) refl tt refl (λ ks. refl) (λ h. fixed (tt, tt))
+view-type (t to u) = seen 4 0 (t, (u, tt)) refl tt refl (λ ks. refl) (λ h. fixed (tt, (tt, tt)))
 
-view-ml : (e : Term ml) → View (term ml) e
+unfoldable pub view-ml : (e : Term ml) → View (term ml) e
 unfolding put InRange
-view-ml (var i) = seen 16 i tt refl tt (λ ks. refl) (λ h. (omega arith, h, tt))
-view-ml (num n) = seen 17 n tt refl tt (λ ks. refl) (λ h. (omega arith, h, tt))
-view-ml (lam t b) = seen 18 0 (t, (b, tt)) refl tt (λ ks. refl) (λ h. fixed (tt, (h, tt)))
-view-ml (op2 apply a b) = seen 19 0 (a, (b, tt)) refl tt (λ ks. refl) (λ h. fixed (h .0, (h .1, tt)))
-view-ml (op1 fixpoint a) = seen 20 0 (a, tt) refl tt (λ ks. refl) (λ h. fixed (h, tt))
-view-ml (op2 plus a b) = seen 21 0 (a, (b, tt)) refl tt (λ ks. refl) (λ h. fixed (h .0, (h .1, tt)))
-view-ml (op2 minus a b) = seen 22 0 (a, (b, tt)) refl tt (λ ks. refl) (λ h. fixed (h .0, (h .1, tt)))
-view-ml (if0 a b c) = seen 23 0 (a, (b, (c, tt))) refl tt (λ ks. refl) (λ h. fixed (h .0, (h .1, (h .2, tt))))
-view-ml (nil t) = seen 24 0 (t, tt) refl tt (λ ks. refl) (λ h. fixed (tt, tt))
-view-ml (op2 pair a b) = seen 25 0 (a, (b, tt)) refl tt (λ ks. refl) (λ h. fixed (h .0, (h .1, tt)))
-view-ml (op1 head a) = seen 26 0 (a, tt) refl tt (λ ks. refl) (λ h. fixed (h, tt))
-view-ml (op1 tail a) = seen 27 0 (a, tt) refl tt (λ ks. refl) (λ h. fixed (h, tt))
-view-ml (op1 empty a) = seen 28 0 (a, tt) refl tt (λ ks. refl) (λ h. fixed (h, tt))
-view-ml (wrong c t) = seen 29 c (t, tt) refl tt (λ ks. refl) (λ h. (h .0, h .1, (tt, tt)))
-view-ml (ms t a) = seen 30 0 (t, (a, tt)) refl tt (λ ks. refl) (λ h. fixed (tt, (h, tt)))
+view-ml (var i) = seen 16 i tt refl tt refl (λ ks. refl) (λ h. (omega arith, h, tt))
+view-ml (num n) = seen 17 n tt refl tt refl (λ ks. refl) (λ h. (omega arith, h, tt))
+view-ml (lam t b) = seen 18 0 (t, (b, tt)) refl tt refl (λ ks. refl) (λ h. fixed (tt, (h, tt)))
+view-ml (op2 apply a b) = seen 19 0 (a, (b, tt)) refl tt refl (λ ks. refl) (λ h. fixed (h .0, (h .1, tt)))
+view-ml (op1 fixpoint a) = seen 20 0 (a, tt) refl tt refl (λ ks. refl) (λ h. fixed (h, tt))
+view-ml (op2 plus a b) = seen 21 0 (a, (b, tt)) refl tt refl (λ ks. refl) (λ h. fixed (h .0, (h .1, tt)))
+view-ml (op2 minus a b) = seen 22 0 (a, (b, tt)) refl tt refl (λ ks. refl) (λ h. fixed (h .0, (h .1, tt)))
+view-ml (if0 a b c) = seen 23 0 (a, (b, (c, tt))) refl tt refl (λ ks. refl) (λ h. fixed (h .0, (h .1, (h .2, tt))))
+view-ml (nil t) = seen 24 0 (t, tt) refl tt refl (λ ks. refl) (λ h. fixed (tt, tt))
+view-ml (op2 pair a b) = seen 25 0 (a, (b, tt)) refl tt refl (λ ks. refl) (λ h. fixed (h .0, (h .1, tt)))
+view-ml (op1 head a) = seen 26 0 (a, tt) refl tt refl (λ ks. refl) (λ h. fixed (h, tt))
+view-ml (op1 tail a) = seen 27 0 (a, tt) refl tt refl (λ ks. refl) (λ h. fixed (h, tt))
+view-ml (op1 empty a) = seen 28 0 (a, tt) refl tt refl (λ ks. refl) (λ h. fixed (h, tt))
+view-ml (wrong c t) = seen 29 c (t, tt) refl tt refl (λ ks. refl) (λ h. (h .0, h .1, (tt, tt)))
+view-ml (ms t a) = seen 30 0 (t, (a, tt)) refl tt refl (λ ks. refl) (λ h. fixed (tt, (h, tt)))
 
-view-sc : (e : Term sc) → View (term sc) e
+unfoldable pub view-sc : (e : Term sc) → View (term sc) e
 unfolding put InRange
-view-sc (var i) = seen 32 i tt refl tt (λ ks. refl) (λ h. (omega arith, h, tt))
-view-sc (num n) = seen 33 n tt refl tt (λ ks. refl) (λ h. (omega arith, h, tt))
-view-sc (lam t b) = seen 34 0 (b, tt) refl tt (λ ks. refl) (λ h. fixed (h, tt))
-view-sc (op2 apply a b) = seen 35 0 (a, (b, tt)) refl tt (λ ks. refl) (λ h. fixed (h .0, (h .1, tt)))
-view-sc (op2 plus a b) = seen 36 0 (a, (b, tt)) refl tt (λ ks. refl) (λ h. fixed (h .0, (h .1, tt)))
-view-sc (op2 minus a b) = seen 37 0 (a, (b, tt)) refl tt (λ ks. refl) (λ h. fixed (h .0, (h .1, tt)))
-view-sc (if0 a b c) = seen 38 0 (a, (b, (c, tt))) refl tt (λ ks. refl) (λ h. fixed (h .0, (h .1, (h .2, tt))))
-view-sc (nil t) = seen 39 0 tt refl tt (λ ks. refl) (λ h. fixed tt)
-view-sc (op2 pair a b) = seen 40 0 (a, (b, tt)) refl tt (λ ks. refl) (λ h. fixed (h .0, (h .1, tt)))
-view-sc (op1 head a) = seen 41 0 (a, tt) refl tt (λ ks. refl) (λ h. fixed (h, tt))
-view-sc (op1 tail a) = seen 42 0 (a, tt) refl tt (λ ks. refl) (λ h. fixed (h, tt))
-view-sc (op1 (testing isFun) a) = seen 43 0 (a, tt) refl tt (λ ks. refl) (λ h. (omega arith, omega arith, (h, tt)))
-view-sc (op1 (testing isList) a) = seen 43 1 (a, tt) refl tt (λ ks. refl) (λ h. (omega arith, omega arith, (h, tt)))
-view-sc (op1 (testing isNull) a) = seen 43 2 (a, tt) refl tt (λ ks. refl) (λ h. (omega arith, omega arith, (h, tt)))
-view-sc (op1 (testing isNum) a) = seen 43 3 (a, tt) refl tt (λ ks. refl) (λ h. (omega arith, omega arith, (h, tt)))
-view-sc (wrong c t) = seen 44 c tt refl tt (λ ks. refl) (λ h. (h .0, h .1, tt))
-view-sc (sm t a) = seen 45 0 (t, (a, tt)) refl tt (λ ks. refl) (λ h. fixed (tt, (h, tt)))
+view-sc (var i) = seen 32 i tt refl tt refl (λ ks. refl) (λ h. (omega arith, h, tt))
+view-sc (num n) = seen 33 n tt refl tt refl (λ ks. refl) (λ h. (omega arith, h, tt))
+view-sc (lam t b) = seen 34 0 (b, tt) refl tt refl (λ ks. refl) (λ h. fixed (h, tt))
+view-sc (op2 apply a b) = seen 35 0 (a, (b, tt)) refl tt refl (λ ks. refl) (λ h. fixed (h .0, (h .1, tt)))
+view-sc (op2 plus a b) = seen 36 0 (a, (b, tt)) refl tt refl (λ ks. refl) (λ h. fixed (h .0, (h .1, tt)))
+view-sc (op2 minus a b) = seen 37 0 (a, (b, tt)) refl tt refl (λ ks. refl) (λ h. fixed (h .0, (h .1, tt)))
+view-sc (if0 a b c) = seen 38 0 (a, (b, (c, tt))) refl tt refl (λ ks. refl) (λ h. fixed (h .0, (h .1, (h .2, tt))))
+view-sc (nil t) = seen 39 0 tt refl tt refl (λ ks. refl) (λ h. fixed tt)
+view-sc (op2 pair a b) = seen 40 0 (a, (b, tt)) refl tt refl (λ ks. refl) (λ h. fixed (h .0, (h .1, tt)))
+view-sc (op1 head a) = seen 41 0 (a, tt) refl tt refl (λ ks. refl) (λ h. fixed (h, tt))
+view-sc (op1 tail a) = seen 42 0 (a, tt) refl tt refl (λ ks. refl) (λ h. fixed (h, tt))
+view-sc (op1 (testing isFun) a) = seen 43 0 (a, tt) refl tt refl (λ ks. refl) (λ h. (omega arith, omega arith, (h, tt)))
+view-sc (op1 (testing isList) a) = seen 43 1 (a, tt) refl tt refl (λ ks. refl) (λ h. (omega arith, omega arith, (h, tt)))
+view-sc (op1 (testing isNull) a) = seen 43 2 (a, tt) refl tt refl (λ ks. refl) (λ h. (omega arith, omega arith, (h, tt)))
+view-sc (op1 (testing isNum) a) = seen 43 3 (a, tt) refl tt refl (λ ks. refl) (λ h. (omega arith, omega arith, (h, tt)))
+view-sc (wrong c t) = seen 44 c tt refl tt refl (λ ks. refl) (λ h. (h .0, h .1, tt))
+view-sc (sm t a) = seen 45 0 (t, (a, tt)) refl tt refl (λ ks. refl) (λ h. fixed (tt, (h, tt)))
 
-pub view : (s : Sort) (t : Tree s) → View s t
+unfoldable pub view : (s : Sort) (t : Tree s) → View s t
 view type t = view-type t
 view (term ml) e = view-ml e
 view (term sc) e = view-sc e
@@ -102,6 +104,10 @@ kind-of v = let h = v .small in omega arith
 
 pub operand-of : {s : Sort} {t : Tree s} (v : View s t) → word (v .row .kind) (v .operand) / 256 ≡ v .operand
 operand-of v = let h = v .small in omega arith
+
+-- The sort is told by the first word.
+pub sort-of : {s : Sort} {t : Tree s} (v : View s t) → sortOf (word (v .row .kind) (v .operand)) ≡ s
+sort-of v = ap sortOfKind (kind-of v) ∙ v .home
 
 -- Where the kind is known, so is the row.
 pub row-of : {s : Sort} {t : Tree s} (v : View s t) (k : ℕ) (r : Row s) → v .row .kind ≡ k → rowIn (table s) k ≡ some r → v .row ≡ r
@@ -116,7 +122,10 @@ abbrev pub Holds : ((s : Sort) → Tree s → Type 0) → (ss : List Sort) → T
 Holds P [] ts = Unit {0}
 Holds P (s ∷ ss) ts = P s (ts .0) × Holds P ss (ts .1)
 
-module _ (P : (s : Sort) → Tree s → Type 0) (node : (s : Sort) (t : Tree s) (v : View s t) → Holds P (v .row .parts) (v .parts) → P s t) where
+abbrev pub OfParts : ((s : Sort) → Tree s → Type 0) → (s : Sort) → Tree s → Type 0
+OfParts P s t = Holds P (view s t .row .parts) (view s t .parts) → P s t
+
+module _ (P : (s : Sort) → Tree s → Type 0) (node : (s : Sort) (t : Tree s) → OfParts P s t) where
   each : (n : ℕ) → ((s : Sort) (t : Tree s) → sizeTree s t ≤ n → P s t) → (ss : List Sort) (ts : Trees ss) → sizeTrees ss ts ≤ n → Holds P ss ts
   each n p [] ts h = tt
   each n p (s ∷ ss) ts h = (p s (ts .0) (omega arith), each n p ss (ts .1) (omega arith))
@@ -125,7 +134,7 @@ module _ (P : (s : Sort) → Tree s → Type 0) (node : (s : Sort) (t : Tree s) 
   bounded zero s t h = absurd (omega (arith, sized (view s t)))
   bounded (suc n) s t h =
       let v = view s t in
-      node s t v (each n (λ s t h. bounded n s t h) (v .row .parts) (v .parts) (omega (arith, sized v)))
+      node s t (each n (λ s t h. bounded n s t h) (v .row .parts) (v .parts) (omega (arith, sized v)))
 
   pub induction : (s : Sort) (t : Tree s) → P s t
   induction s t = bounded (sizeTree s t) s t (omega arith)

@@ -8,6 +8,7 @@ use lib.Seq.{drop-drop}
 use native.Mathlib.Nat.{zero-add, add-assoc}
 use native.Mathlib.Omega.{arith}
 use Rattle.calculus.specs.Verdicts.{Verdict, refused, passed, andThen}
+use Rattle.calculus.proofs.Verdicts.{not-both}
 use Rattle.calculus.specs.Reading.{Act, opens, refuses, later, acted, walk}
 
 pub later-zero : (v : Verdict ℕ) → later 0 v ≡ v
@@ -17,6 +18,10 @@ later-zero (passed n) = rw zero-add
 pub later-later : (a b : ℕ) (v : Verdict ℕ) → later a (later b v) ≡ later (a + b) v
 later-later a b (refused r p) = rw add-assoc
 later-later a b (passed n) = rw add-assoc
+
+pub later-passed : (a : ℕ) (v : Verdict ℕ) (n : ℕ) → later a v ≡ passed n → (m : ℕ) × (v ≡ passed m)
+later-passed a (refused r p) n q = absurd (not-both r (a + p) n q)
+later-passed a (passed m) n q = (m, refl)
 
 -- The number that an answer carries: how many words, or the place.
 abbrev pub reach : Verdict ℕ → ℕ
@@ -106,7 +111,7 @@ module _ {D : Type 0} (f : D → ℕ → Act D) where
       where
         stopped : (x : Verdict ℕ) → later (a + 1) x ≡ refused r p → later (a + 1) (after (drop 1 ws) ds x) ≡ refused r p
         stopped (refused s u) g = g
-        stopped (passed n) g = let y : _≡_ {A = ℕ} 0 1 = cc in absurd (omega arith)
+        stopped (passed n) g = absurd (not-both r p (a + 1 + n) (sym g))
 
     -- its parts take the words up to the place e, and the rest of what is due goes on there
     pub parts-pass : (ps : List D) (v : Verdict ℕ) (e : ℕ) → f d (getD ws 0 0) ≡ opens ps
@@ -114,7 +119,7 @@ module _ {D : Type 0} (f : D → ℕ → Act D) where
     parts-pass ps v e o q z = opened ps o ∙ going (walk f (drop 1 ws) ps) (sym q ∙ z)
       where
         going : (x : Verdict ℕ) → later (a + 1) x ≡ passed e → later (a + 1) (after (drop 1 ws) ds x) ≡ later e (walk f (drop (e - a) ws) ds)
-        going (refused s u) g = let y : _≡_ {A = ℕ} 0 1 = cc in absurd (omega arith)
+        going (refused s u) g = absurd (not-both s (a + 1 + u) e g)
         going (passed n) g =
             let i : a + 1 + n ≡ e = cc in
             let j : 1 + n ≡ e - a = omega arith in

@@ -103,6 +103,9 @@ rowIn (r ∷ rs) k = cond (eqb k (r .kind)) (some r) (rowIn rs k)
 unfoldable pub rowFor : (s : Sort) → ℕ → Option (Row s)
 rowFor s w = found (rowIn (table s) (w % 256)) none (λ r. cond (leb (r .low) (w / 256) && leb (w / 256) (r .high)) (some r) none)
 
--- The sort of a word's kind: that in whose table it is, if in any.
+-- The sort of a kind: that in whose table it is, if in any; and of a word.
+abbrev pub sortOfKind : ℕ → Sort
+sortOfKind k = found (rowIn (table type) k) (found (rowIn (table (term ml)) k) (term sc) (λ r. term ml)) (λ r. type)
+
 abbrev pub sortOf : ℕ → Sort
-sortOf w = found (rowIn (table type) (w % 256)) (found (rowIn (table (term ml)) (w % 256)) (term sc) (λ r. term ml)) (λ r. type)
+sortOf w = sortOfKind (w % 256)
