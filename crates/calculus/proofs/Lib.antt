@@ -1,1 +1,2 @@
 pub mod Recipes
+pub mod Inference
