@@ -1,2 +1,3 @@
 pub mod Recipes
 pub mod Inference
+pub mod Typing
