@@ -1,3 +1,5 @@
 pub mod Recipes
 pub mod Inference
 pub mod Typing
+pub mod Forms
+pub mod Soundness
