@@ -56,3 +56,12 @@ module _ {m : Lang} (P : Became m → Type 0) (o : Became m) where
   on-lump R (items v w) k h ne p = ne (omega arith)
   on-lump R (sealed v) k h ne p = p v h
   on-lump R other k h ne p = ne (omega arith)
+
+-- The forms of Scheme, which has no lumps.
+pub of-scheme : (P : Form sc → Type 0) → ((n : ℕ) → P (number n)) → ((t : Static sc) (b : Term sc) → P (lambda t b))
+    → ((t : Static sc) → P (noItem t)) → ((v w : Term sc) → P (items v w)) → P other → (f : Form sc) → P f
+of-scheme P n l e i o (number x) = n x
+of-scheme P n l e i o (lambda t b) = l t b
+of-scheme P n l e i o (noItem t) = e t
+of-scheme P n l e i o (items v w) = i v w
+of-scheme P n l e i o other = o

@@ -3,3 +3,5 @@ pub mod Inference
 pub mod Typing
 pub mod Forms
 pub mod Soundness
+pub mod Places
+pub mod Ranges
