@@ -5,3 +5,4 @@ pub mod Forms
 pub mod Soundness
 pub mod Places
 pub mod Ranges
+pub mod Growth
