@@ -5,4 +5,5 @@ pub mod Forms
 pub mod Soundness
 pub mod Places
 pub mod Ranges
+pub mod Runs
 pub mod Growth
