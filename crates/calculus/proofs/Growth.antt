@@ -19,7 +19,7 @@ ran-more : {cap k : ℕ} {made : Counts} {e t : Term ml} {x : Result} → Ran ca
     → run k′ cap′ made e ≡ x
 unfolding run
 ran-more (at-value q) k′ cap′ h i f = run-value k′ cap′ _ _ q
-ran-more at-limit k′ cap′ h i f = absurd f
+ran-more (at-limit q) k′ cap′ h i f = absurd f
 ran-more (at-error q) zero cap′ h i f = absurd (omega arith)
 ran-more (at-error q) (suc k′) cap′ h i f = rw q
 ran-more (at-full q c) k′ cap′ h i f = absurd f

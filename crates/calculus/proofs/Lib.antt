@@ -7,3 +7,4 @@ pub mod Places
 pub mod Ranges
 pub mod Runs
 pub mod Growth
+pub mod Continuing

@@ -2,7 +2,7 @@
 use Prim.Native.Nat.{ℕ, zero, suc}
 use mathlib.Core.Bool.{Bool, true, false, cond}
 use mathlib.Core.List.{[]}
-use mathlib.Core.Path.{_≡_, refl}
+use mathlib.Core.Path.{_≡_, refl, ap}
 use lib.Dec.{leb}
 use Rattle.calculus.specs.Trees.{ml, Term}
 use Rattle.calculus.specs.Words.{words, size}
@@ -23,7 +23,7 @@ lastTerm (suc k) cap e = lastOf (step e) cap e (λ r. lastTerm k cap r)
 -- The run of e, with k steps left, gives the result x, and t is its last term.
 pub data Ran (cap : ℕ) : ℕ → Counts → Term ml → Result → Term ml → Type 0 where
   at-value : {k : ℕ} {made : Counts} {e : Term ml} → step e ≡ value → Ran cap k made e (ended valued 0 made (words e) 0) e
-  at-limit : {made : Counts} {e : Term ml} → Ran cap 0 made e (ended spent 0 made (words e) 0) e
+  at-limit : {made : Counts} {e : Term ml} → atLimit (step e) ≡ spent → Ran cap 0 made e (ended spent 0 made (words e) 0) e
   at-error : {k c : ℕ} {made : Counts} {e : Term ml} → step e ≡ raised c → Ran cap (suc k) made e (ended error c (counted made) [] 0) e
   at-full : {k : ℕ} {made : Counts} {e r : Term ml} → step e ≡ next r → leb (size r) cap ≡ false
       → Ran cap (suc k) made e (ended full 0 made (words e) (size r)) e
@@ -34,9 +34,9 @@ pub data Ran (cap : ℕ) : ℕ → Counts → Term ml → Result → Term ml →
 module _ (cap : ℕ) (made : Counts) (e : Term ml) where
   limit-ran : (o : Outcome ml) → step e ≡ o → Ran cap 0 made e (ended (atLimit o) 0 made (words e) 0) e
   limit-ran value q = at-value q
-  limit-ran (raised c) q = at-limit
-  limit-ran (next r) q = at-limit
-  limit-ran stuck q = at-limit
+  limit-ran (raised c) q = at-limit (ap atLimit q)
+  limit-ran (next r) q = at-limit (ap atLimit q)
+  limit-ran stuck q = at-limit (ap atLimit q)
 
   module _ (k : ℕ) (go : Term ml → Result) (last : Term ml → Term ml) (ran : (r : Term ml) → Ran cap k (counted made) r (go r) (last r)) where
     fits-ran : (r : Term ml) (b : Bool) → step e ≡ next r → leb (size r) cap ≡ b
