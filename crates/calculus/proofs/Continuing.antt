@@ -1,18 +1,16 @@
 -- A run that was spent or full, gone on with from its last term, is the run under the summed limit; and a run's count of steps is the
 -- reduction's own. Assumes nothing.
-use Prim.Native.Nat.{ℕ, zero, suc, _+_}
-use mathlib.Core.Bool.{true}
+use Prim.Native.Nat.{ℕ, zero, suc, _+_, _≤_}
 use mathlib.Core.List.{List, []}
 use mathlib.Core.Option.{Option, none, some}
-use mathlib.Core.Path.{_≡_, refl, _∙_}
-use lib.Dec.{leb}
+use mathlib.Core.Path.{_≡_, refl, sym, _∙_}
 use native.Mathlib.Nat.{suc-add, zero-add, add-zero, add-suc}
 use native.Mathlib.Omega.{arith}
 use Rattle.calculus.specs.Trees.{Lang, ml, Term}
 use Rattle.calculus.specs.Words.{words, size}
 use Rattle.calculus.specs.Reduction.{Outcome, value, raised, next, stuck, step}
 use Rattle.calculus.specs.Run.{End, valued, spent, error, full, Counts, uncounted, Result, ended, run}
-use Rattle.calculus.proofs.Runs.{lastTerm, Ran, at-value, at-limit, at-error, at-full, at-stuck, by-step, run-ran, run-value, run-next}
+use Rattle.calculus.proofs.Runs.{lastTerm, Ran, at-value, at-limit, at-error, at-full, at-stuck, by-step, run-ran, run-value, run-next, run-full}
 
 -- The words left, by the end: those of the last term, but none after an error.
 abbrev pub leftAt : End → Term ml → List ℕ
@@ -45,7 +43,7 @@ unfolding run
 ran-on j (at-value q) f = absurd f
 ran-on j (at-limit q) f = rw zero-add
 ran-on j (at-error q) f = absurd f
-ran-on j (at-full {k} q c) f = rw (suc-add k (suc j), q, c)
+ran-on j {cap} (at-full {k} {r = r} q c) f = rw (suc-add k (suc j)) (run-full (k + suc j) cap _ _ r q c ∙ sym (run-full j cap _ _ r q c))
 ran-on j (at-stuck {k} q) f = rw (suc-add k (suc j), q)
 ran-on j {cap} (by-step {k} {r = r} q c p) f = rw (suc-add k (suc j)) (run-next (k + suc j) cap _ _ r q c ∙ ran-on j p f)
 
@@ -66,7 +64,7 @@ unfolding run
 ran-later m {cap} {k} (at-value q) = run-value k cap _ _ q
 ran-later m (at-limit q) = rw q
 ran-later m {made = made} (at-error q) = rw (q, add-suc (m .steps) (made .steps))
-ran-later m (at-full q c) = rw (q, c)
+ran-later m {cap} (at-full {k} {r = r} q c) = run-full k cap _ _ r q c
 ran-later m (at-stuck q) = rw q
 ran-later m {cap} {made = made} (by-step {k} {r = r} q c p) = run-next k cap _ _ r q c ∙ rw (← (add-suc (m .steps) (made .steps))) (ran-later m p)
 
@@ -80,7 +78,7 @@ run-again k j cap made e f =
     run-on k j cap made e f ∙ rw add-zero at (run-later (run k cap made e .made) (suc j) cap uncounted (lastTerm k cap e))
 
 -- What every step that fits keeps holds of the last term.
-ran-keeps : {cap : ℕ} (P : Term ml → Type 0) → ((e r : Term ml) → step e ≡ next r → leb (size r) cap ≡ true → P e → P r)
+ran-keeps : {cap : ℕ} (P : Term ml → Type 0) → ((e r : Term ml) → step e ≡ next r → size r ≤ cap → P e → P r)
     → {k : ℕ} {made : Counts} {e t : Term ml} {x : Result} → Ran cap k made e x t → P e → P t
 ran-keeps P s (at-value q) h = h
 ran-keeps P s (at-limit q) h = h
@@ -89,7 +87,7 @@ ran-keeps P s (at-full q c) h = h
 ran-keeps P s (at-stuck q) h = h
 ran-keeps P s (by-step q c p) h = ran-keeps P s p (s _ _ q c h)
 
-pub run-keeps : (k cap : ℕ) (e : Term ml) (P : Term ml → Type 0) → ((e r : Term ml) → step e ≡ next r → leb (size r) cap ≡ true → P e → P r)
+pub run-keeps : (k cap : ℕ) (e : Term ml) (P : Term ml → Type 0) → ((e r : Term ml) → step e ≡ next r → size r ≤ cap → P e → P r)
     → P e → P (lastTerm k cap e)
 run-keeps k cap e P s h = ran-keeps P s (run-ran k cap uncounted e) h
 

@@ -1,10 +1,8 @@
 -- A run that ends as a value or an error ends the same under a larger limit and a larger capacity. Assumes nothing.
 use Prim.Native.Nat.{ℕ, zero, suc, _≤_}
 use mathlib.Core.Path.{_≡_, _∙_}
-use borrow.Author.Tests.{leb-true, le-leb}
 use native.Mathlib.Omega.{arith}
 use Rattle.calculus.specs.Trees.{ml, Term}
-use Rattle.calculus.specs.Words.{size}
 use Rattle.calculus.specs.Run.{End, valued, spent, error, full, Counts, Result, run}
 use Rattle.calculus.proofs.Runs.{Ran, at-value, at-limit, at-error, at-full, at-stuck, by-step, run-ran, run-value, run-next}
 
@@ -25,8 +23,7 @@ ran-more (at-error q) (suc k′) cap′ h i f = rw q
 ran-more (at-full q c) k′ cap′ h i f = absurd f
 ran-more (at-stuck q) k′ cap′ h i f = absurd f
 ran-more (by-step q c p) zero cap′ h i f = absurd (omega arith)
-ran-more {cap} (by-step {r = r} q c p) (suc k′) cap′ h i f =
-    run-next k′ cap′ _ _ r q (le-leb (size r) cap′ (omega (arith, leb-true (size r) cap c))) ∙ ran-more p k′ cap′ (omega arith) i f
+ran-more (by-step {r = r} q c p) (suc k′) cap′ h i f = run-next k′ cap′ _ _ r q (omega arith) ∙ ran-more p k′ cap′ (omega arith) i f
 
 -- More steps and more words never change a value or an error, nor what is counted.
 pub run-more : (k k′ cap cap′ : ℕ) (made : Counts) (e : Term ml) → k ≤ k′ → cap ≤ cap′ → Final (run k cap made e .end)

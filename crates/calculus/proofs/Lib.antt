@@ -8,3 +8,4 @@ pub mod Ranges
 pub mod Runs
 pub mod Growth
 pub mod Continuing
+pub mod Splices
