@@ -27,6 +27,7 @@ ran-left (at-full q c) = refl
 ran-left (at-stuck q) = refl
 ran-left (by-step q c p) = ran-left p
 
+-- What is left in words.
 pub run-left : (k cap : ℕ) (made : Counts) (e : Term ml) → run k cap made e .left ≡ leftAt (run k cap made e .end) (lastTerm k cap e)
 run-left k cap made e = ran-left (run-ran k cap made e)
 
@@ -52,7 +53,7 @@ pub run-on : (k j cap : ℕ) (made : Counts) (e : Term ml) → Open (run k cap m
     → run (k + suc j) cap made e ≡ run (suc j) cap (run k cap made e .made) (lastTerm k cap e)
 run-on k j cap made e f = ran-on j (run-ran k cap made e) f
 
--- What was counted before only adds up.
+-- Counts added up, and a result that comes after what m counts.
 abbrev pub together : Counts → Counts → Counts
 together m n = record { steps = m .steps + n .steps }
 
@@ -68,6 +69,7 @@ ran-later m {cap} (at-full {k} {r = r} q c) = run-full k cap _ _ r q c
 ran-later m (at-stuck q) = rw q
 ran-later m {cap} {made = made} (by-step {k} {r = r} q c p) = run-next k cap _ _ r q c ∙ rw (← (add-suc (m .steps) (made .steps))) (ran-later m p)
 
+-- A run that starts with more counted counts that much more, and is otherwise the same.
 pub run-later : (m : Counts) (k cap : ℕ) (made : Counts) (e : Term ml) → run k cap (together m made) e ≡ later m (run k cap made e)
 run-later m k cap made e = ran-later m (run-ran k cap made e)
 
@@ -77,7 +79,6 @@ pub run-again : (k j cap : ℕ) (made : Counts) (e : Term ml) → Open (run k ca
 run-again k j cap made e f =
     run-on k j cap made e f ∙ rw add-zero at (run-later (run k cap made e .made) (suc j) cap uncounted (lastTerm k cap e))
 
--- What every step that fits keeps holds of the last term.
 ran-keeps : {cap : ℕ} (P : Term ml → Type 0) → ((e r : Term ml) → step e ≡ next r → size r ≤ cap → P e → P r)
     → {k : ℕ} {made : Counts} {e t : Term ml} {x : Result} → Ran cap k made e x t → P e → P t
 ran-keeps P s (at-value q) h = h
@@ -87,6 +88,7 @@ ran-keeps P s (at-full q c) h = h
 ran-keeps P s (at-stuck q) h = h
 ran-keeps P s (by-step q c p) h = ran-keeps P s p (s _ _ q c h)
 
+-- What every step that fits keeps holds of the last term.
 pub run-keeps : (k cap : ℕ) (e : Term ml) (P : Term ml → Type 0) → ((e r : Term ml) → step e ≡ next r → size r ≤ cap → P e → P r)
     → P e → P (lastTerm k cap e)
 run-keeps k cap e P s h = ran-keeps P s (run-ran k cap uncounted e) h
@@ -110,12 +112,12 @@ ownStep error = 1
 ownStep full = 0
 
 -- The run of e came to t in the steps that it counted, but for an error's own.
-pub record Counted (made : Counts) (e t : Term ml) (x : Result) : Type 0 where
+pub record StepCount (made : Counts) (e t : Term ml) (x : Result) : Type 0 where
   pub count : ℕ
   pub reached : after count e ≡ some t
   pub adds : x .made .steps ≡ made .steps + count + ownStep (x .end)
 
-ran-counted : {cap k : ℕ} {made : Counts} {e t : Term ml} {x : Result} → Ran cap k made e x t → Counted made e t x
+ran-counted : {cap k : ℕ} {made : Counts} {e t : Term ml} {x : Result} → Ran cap k made e x t → StepCount made e t x
 unfolding after
 ran-counted (at-value q) = record { count = 0; reached = refl; adds = omega arith }
 ran-counted (at-limit q) = record { count = 0; reached = refl; adds = omega arith }
@@ -124,5 +126,6 @@ ran-counted (at-full q c) = record { count = 0; reached = refl; adds = omega ari
 ran-counted (at-stuck q) = record { count = 0; reached = refl; adds = omega arith }
 ran-counted (by-step q c p) = let h = ran-counted p in record { count = suc (h .count); reached = rw q (h .reached); adds = omega (arith, h .adds) }
 
-pub run-counted : (k cap : ℕ) (made : Counts) (e : Term ml) → Counted made e (lastTerm k cap e) (run k cap made e)
+-- A run's count of steps is the reduction's own.
+pub run-counted : (k cap : ℕ) (made : Counts) (e : Term ml) → StepCount made e (lastTerm k cap e) (run k cap made e)
 run-counted k cap made e = ran-counted (run-ran k cap made e)

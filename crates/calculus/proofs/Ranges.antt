@@ -1,4 +1,4 @@
--- Every step keeps the ranges of the operands, so that the words of every term reached are words of a file. Assumes nothing.
+-- Every step keeps the operands in their ranges. Assumes nothing.
 use Prim.Native.Nat.{ℕ, suc, _+_, _-_, _≤_}
 use mathlib.Core.Bool.{Bool, true, false, cond}
 use mathlib.Core.Path.{_≡_, refl}
@@ -173,6 +173,7 @@ fill-in-range (within f F) x h =
     let j = fill-in-range F x (i .0) in
     (j .0, λ y p. i .1 (fill F y) (j .1 y p))
 
+-- What is promised of the outcome of a term in range.
 abbrev pub OutcomeInRange : {l : Lang} → Outcome l → Type 0
 OutcomeInRange value = Unit {0}
 OutcomeInRange (raised c) = (1 ≤ c) × (c ≤ lastCode)

@@ -197,7 +197,7 @@ turn-placed (ms t a) τ h =
 turn-placed (sm t a) τ h =
     into-placed (intoScheme t) a (sm t a) t tt (turn a) _ (turn-placed a t h) (λ x p. p) (λ f. own-placed (sm t a) tt (toScheme-typed t a h f))
 
--- A step of a term of the type τ is never stuck, and the next term has that type.
+-- What is promised of the outcome of a term of the type τ: not stuck, and the next term has that type.
 abbrev pub Kept : {l : Lang} → Static l → Outcome l → Type 0
 Kept τ value = Unit {0}
 Kept τ (raised c) = Unit {0}
@@ -214,6 +214,7 @@ stepped-kept : {l : Lang} (e : Term l) (τ : Static l) (o : Turn l) → Placed e
 stepped-kept e τ done h = tt
 stepped-kept e τ (at m F n) h = outcome-kept (h .0) τ F (contract n) (h .1) (h .2)
 
+-- Progress and preservation, and no term that has a type is stuck.
 pub sound : {l : Lang} (e : Term l) (τ : Static l) → Typed [] e τ → Kept τ (step e)
 unfolding step
 sound e τ h = stepped-kept e τ (turn e) (turn-placed e τ h)
