@@ -8,3 +8,13 @@ pub mod Nesting
 pub mod Nodes
 pub mod Scopes
 pub mod Recipes
+pub mod Inference
+pub mod Typing
+pub mod Forms
+pub mod Soundness
+pub mod Places
+pub mod Ranges
+pub mod Runs
+pub mod Growth
+pub mod Continuing
+pub mod Splices

@@ -1,0 +1,193 @@
+-- Every step keeps the operands in their ranges. Assumes nothing.
+use Prim.Native.Nat.{ℕ, suc, _+_, _-_, _≤_}
+use mathlib.Core.Bool.{Bool, true, false, cond}
+use mathlib.Core.Path.{_≡_, refl}
+use lib.Dec.{eqb, leb}
+use borrow.Author.Tests.{leb-true}
+use native.Mathlib.Omega.{arith}
+use Rattle.calculus.specs.Trees.{Ty, N, L, list, _to_, Lang, ml, sc, Static, numbers, Test, isFun, isList, isNull, isNum, Op1, head, tail, fixpoint, empty, testing, Op2, apply, plus, minus, pair, Term, var, num, lam, op1, op2, if0, nil, wrong, ms, sm, fix}
+use Rattle.calculus.specs.Words.{largest, lastCode}
+use Rattle.calculus.specs.Limits.{InRange}
+use Rattle.calculus.specs.Reduction.{replaced, substitute, Form, number, lambda, noItem, items, sealed, other, form, Became, becomes, raises, nothing, onNumber, onLambda, onList, amiss, third, answer, contract1, onNumbers, contract2, toML, toScheme, contract, Frame, under, first, second, tested, intoML, intoScheme, plug, Context, here, within, fill, Outcome, value, raised, next, stuck, outcome, step}
+use Rattle.calculus.proofs.Forms.{of-scheme, on-number, on-lambda, on-list, on-lump}
+use Rattle.calculus.proofs.Places.{step-by}
+
+cond-in-range : {l : Lang} (b : Bool) (x y : Term l) → (b ≡ true → InRange x) → InRange y → InRange (cond b x y)
+cond-in-range true x y h k = h refl
+cond-in-range false x y h k = k
+
+replaced-in-range : (m l : Lang) (v : Term m) (i : ℕ) → InRange v → i ≤ largest → InRange (replaced m l v i)
+unfolding InRange
+replaced-in-range ml ml v i h k = h
+replaced-in-range ml sc v i h k = k
+replaced-in-range sc ml v i h k = k
+replaced-in-range sc sc v i h k = h
+
+substitute-in-range : {m l : Lang} (v : Term m) (k : ℕ) (e : Term l) → InRange v → InRange e → InRange (substitute v k e)
+unfolding InRange substitute
+substitute-in-range {m} v k (var {l} i) h r = cond-in-range {l = l} (eqb i k) (replaced m l v i) (var i) (λ q. replaced-in-range m l v i h r) r
+substitute-in-range v k (num n) h r = r
+substitute-in-range v k (lam t b) h r = substitute-in-range v (suc k) b h r
+substitute-in-range v k (op1 o a) h r = substitute-in-range v k a h r
+substitute-in-range v k (op2 o a b) h r = (substitute-in-range v k a h (r .0), substitute-in-range v k b h (r .1))
+substitute-in-range v k (if0 a b c) h r =
+    (substitute-in-range v k a h (r .0), substitute-in-range v k b h (r .1), substitute-in-range v k c h (r .2))
+substitute-in-range v k (nil t) h r = r
+substitute-in-range v k (wrong c t) h r = r
+substitute-in-range v k (ms t a) h r = substitute-in-range v k a h r
+substitute-in-range v k (sm t a) h r = substitute-in-range v k a h r
+
+-- The parts of a form, and what a node becomes.
+abbrev FormInRange : {l : Lang} → Form l → Type 0
+FormInRange (number n) = n ≤ largest
+FormInRange (lambda t b) = InRange b
+FormInRange (noItem t) = Unit {0}
+FormInRange (items v w) = InRange v × InRange w
+FormInRange (sealed v) = InRange v
+FormInRange other = Unit {0}
+
+form-in-range : {l : Lang} (e : Term l) → InRange e → FormInRange (form e)
+unfolding InRange form
+form-in-range (var i) h = tt
+form-in-range (num n) h = h
+form-in-range (lam t b) h = h
+form-in-range (op1 o a) h = tt
+form-in-range (op2 apply a b) h = tt
+form-in-range (op2 plus a b) h = tt
+form-in-range (op2 minus a b) h = tt
+form-in-range (op2 pair a b) h = h
+form-in-range (if0 a b c) h = tt
+form-in-range (nil t) h = tt
+form-in-range (wrong c t) h = tt
+form-in-range (ms N a) h = tt
+form-in-range (ms L a) h = h
+form-in-range (ms (list t) a) h = tt
+form-in-range (ms (t to u) a) h = tt
+form-in-range (sm t a) h = tt
+
+abbrev BecameInRange : {l : Lang} → Became l → Type 0
+BecameInRange (becomes e) = InRange e
+BecameInRange (raises c) = (1 ≤ c) × (c ≤ lastCode)
+BecameInRange nothing = Unit {0}
+
+amiss-in-range : (l : Lang) (c : ℕ) → (1 ≤ c) × (c ≤ lastCode) → BecameInRange (amiss l c)
+unfolding amiss InRange
+amiss-in-range ml c h = tt
+amiss-in-range sc c h = h
+
+third-in-range : (l : Lang) (c : Term l) → InRange c → BecameInRange (third l c)
+unfolding third
+third-in-range ml c h = tt
+third-in-range sc c h = h
+
+-- The rules.
+answer-in-range : (k : Test) (f : Form sc) → answer k f ≤ largest
+unfolding answer
+answer-in-range isFun f =
+    of-scheme (λ f. answer isFun f ≤ largest) (λ n. omega arith) (λ t b. omega arith) (λ t. omega arith) (λ v w. omega arith) (omega arith) f
+answer-in-range isList f =
+    of-scheme (λ f. answer isList f ≤ largest) (λ n. omega arith) (λ t b. omega arith) (λ t. omega arith) (λ v w. omega arith) (omega arith) f
+answer-in-range isNull f =
+    of-scheme (λ f. answer isNull f ≤ largest) (λ n. omega arith) (λ t b. omega arith) (λ t. omega arith) (λ v w. omega arith) (omega arith) f
+answer-in-range isNum f =
+    of-scheme (λ f. answer isNum f ≤ largest) (λ n. omega arith) (λ t b. omega arith) (λ t. omega arith) (λ v w. omega arith) (omega arith) f
+
+module _ {l m : Lang} (v : Term l) (h : InRange v) (o : Became m) (r : BecameInRange o) where
+  by-number : (k : ℕ → Became m) → ((n : ℕ) → n ≤ largest → BecameInRange (k n)) → BecameInRange (onNumber (form v) o k)
+  by-number k p = on-number BecameInRange o FormInRange (form v) k (form-in-range v h) (λ ne. r) p
+
+  by-lambda : (k : Static l → Term l → Became m) → ((t : Static l) (b : Term l) → InRange b → BecameInRange (k t b))
+      → BecameInRange (onLambda (form v) o k)
+  by-lambda k p = on-lambda BecameInRange o FormInRange (form v) k (form-in-range v h) (λ ne. r) p
+
+  by-list : (e : Static l → Became m) (k : Term l → Term l → Became m) → ((t : Static l) → BecameInRange (e t))
+      → ((a b : Term l) → InRange a → InRange b → BecameInRange (k a b)) → BecameInRange (onList (form v) o e k)
+  by-list e k p q = on-list BecameInRange o FormInRange (form v) e k (form-in-range v h) (λ ne. r) (λ t i. p t) (λ a b i. q a b (i .0) (i .1))
+
+contract1-in-range : {l : Lang} (o : Op1 l) (v : Term l) → InRange v → BecameInRange (contract1 o v)
+unfolding InRange contract1
+contract1-in-range (head {l}) v h = by-list v h _ (amiss-in-range l 3 (omega arith)) _ _ (λ t. omega arith) (λ a b p q. p)
+contract1-in-range (tail {l}) v h = by-list v h _ (amiss-in-range l 3 (omega arith)) _ _ (λ t. omega arith) (λ a b p q. q)
+contract1-in-range fixpoint v h = by-lambda v h nothing tt _ (λ t b p. substitute-in-range (fix v) 0 b h p)
+contract1-in-range empty v h = by-list v h nothing tt _ _ (λ t. omega arith) (λ a b p q. omega arith)
+contract1-in-range (testing k) v h = answer-in-range k (form v)
+
+numbers-in-range : (l : Lang) (v w : Term l) (k : ℕ → ℕ → Became l) → InRange v → InRange w
+    → ((n m : ℕ) → n ≤ largest → BecameInRange (k n m)) → BecameInRange (onNumbers l v w k)
+unfolding onNumbers
+numbers-in-range l v w k h i p =
+    by-number v h _ (amiss-in-range l 1 (omega arith)) _ (λ n q. by-number w i _ (amiss-in-range l 1 (omega arith)) _ (λ m r. p n m q))
+
+contract2-in-range : (l : Lang) (o : Op2) (v w : Term l) → InRange v → InRange w → BecameInRange (contract2 l o v w)
+unfolding InRange contract2
+contract2-in-range l apply v w h i = by-lambda v h _ (amiss-in-range l 2 (omega arith)) _ (λ t b p. substitute-in-range w 0 b i p)
+contract2-in-range l plus v w h i =
+    numbers-in-range l v w _ h i
+    (λ n m p. cond-in-range {l = l} (leb (n + m) largest) (num (n + m)) (wrong 5 (numbers l)) (λ q. leb-true (n + m) largest q) (omega arith))
+contract2-in-range l minus v w h i = numbers-in-range l v w _ h i (λ n m p. omega arith)
+contract2-in-range l pair v w h i = tt
+
+toML-in-range : (t : Ty) (v : Term sc) → InRange v → BecameInRange (toML t v)
+unfolding InRange toML
+toML-in-range N v h = by-number v h _ (omega arith) _ (λ n p. p)
+toML-in-range L v h = tt
+toML-in-range (list t) v h = by-list v h _ (omega arith) _ _ (λ u. tt) (λ a b p q. (p, q))
+toML-in-range (t to u) v h = by-lambda v h _ (omega arith) _ (λ s b p. (h, omega arith))
+
+toScheme-in-range : (t : Ty) (v : Term ml) → InRange v → BecameInRange (toScheme t v)
+unfolding InRange toScheme
+toScheme-in-range N v h = by-number v h nothing tt _ (λ n p. p)
+toScheme-in-range L v h = on-lump BecameInRange nothing FormInRange (form v) _ (form-in-range v h) (λ ne. tt) (λ w p. p)
+toScheme-in-range (list t) v h = by-list v h nothing tt _ _ (λ u. tt) (λ a b p q. (p, q))
+toScheme-in-range (t to u) v h = by-lambda v h nothing tt _ (λ s b p. (h, omega arith))
+
+contract-in-range : {l : Lang} (e : Term l) → InRange e → BecameInRange (contract e)
+unfolding InRange contract
+contract-in-range (var i) h = tt
+contract-in-range (num n) h = tt
+contract-in-range (lam t b) h = tt
+contract-in-range (op1 o a) h = contract1-in-range o a h
+contract-in-range (op2 {l} o a b) h = contract2-in-range l o a b (h .0) (h .1)
+contract-in-range (if0 {l} a b c) h =
+    by-number a (h .0) _ (third-in-range l c (h .2)) _ (λ n p. cond-in-range (eqb n 0) b c (λ q. h .1) (h .2))
+contract-in-range (nil t) h = tt
+contract-in-range (wrong c t) h = h
+contract-in-range (ms t a) h = toML-in-range t a h
+contract-in-range (sm t a) h = toScheme-in-range t a h
+
+-- A term in range has a node in range at every place, and takes another there.
+plug-in-range : {k l : Lang} (f : Frame k l) (x : Term k) → InRange (plug f x) → InRange x × ((y : Term k) → InRange y → InRange (plug f y))
+unfolding InRange
+plug-in-range (under o) x h = (h, λ y p. p)
+plug-in-range (first o b) x h = (h .0, λ y p. (p, h .1))
+plug-in-range (second o a) x h = (h .1, λ y p. (h .0, p))
+plug-in-range (tested b c) x h = (h .0, λ y p. (p, h .1, h .2))
+plug-in-range (intoML t) x h = (h, λ y p. p)
+plug-in-range (intoScheme t) x h = (h, λ y p. p)
+
+fill-in-range : {m l : Lang} (F : Context m l) (x : Term m) → InRange (fill F x) → InRange x × ((y : Term m) → InRange y → InRange (fill F y))
+unfolding fill
+fill-in-range here x h = (h, λ y p. p)
+fill-in-range (within f F) x h =
+    let i = plug-in-range f (fill F x) h in
+    let j = fill-in-range F x (i .0) in
+    (j .0, λ y p. i .1 (fill F y) (j .1 y p))
+
+-- What is promised of the outcome of a term in range.
+abbrev pub OutcomeInRange : {l : Lang} → Outcome l → Type 0
+OutcomeInRange value = Unit {0}
+OutcomeInRange (raised c) = (1 ≤ c) × (c ≤ lastCode)
+OutcomeInRange (next r) = InRange r
+OutcomeInRange stuck = Unit {0}
+
+outcome-in-range : {m l : Lang} (F : Context m l) (b : Became m) → BecameInRange b → ((y : Term m) → InRange y → InRange (fill F y))
+    → OutcomeInRange (outcome F b)
+outcome-in-range F (becomes e) h p = p e h
+outcome-in-range F (raises c) h p = h
+outcome-in-range F nothing h p = tt
+
+-- The next term of a term in range is in range, and so is an error's code.
+pub step-in-range : {l : Lang} (e : Term l) → InRange e → OutcomeInRange (step e)
+step-in-range e h =
+    step-by OutcomeInRange e tt
+    (λ m F n q s. let i = fill-in-range F n (rw s h) in outcome-in-range F (contract n) (contract-in-range n (i .0)) (i .1))

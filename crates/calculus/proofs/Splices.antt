@@ -1,0 +1,113 @@
+-- A step in words: the words before and after the place of the turn stay, and those of the node there become others. Assumes nothing.
+use Prim.Native.Nat.{ℕ}
+use mathlib.Core.List.{List, [], _∷_, _++_, append-assoc, append-nil}
+use mathlib.Core.Path.{_≡_, refl, sym, ap, _∙_, subst}
+use Rattle.calculus.specs.Trees.{Ty, N, L, list, _to_, Lang, ml, sc, Static, Term, var, num, lam, op1, op2, if0, nil, wrong, ms, sm}
+use Rattle.calculus.specs.Words.{by, word1, word2, putTy, putStatic, put, wordsTy, words}
+use Rattle.calculus.specs.Reduction.{Became, becomes, raises, nothing, contract, Frame, under, first, second, tested, intoML, intoScheme, plug, Context, here, within, fill, at, turn, Outcome, value, raised, next, stuck, outcome, step}
+use Rattle.calculus.proofs.Places.{step-by}
+
+putTy-append : (t : Ty) (j k : List ℕ) → putTy t (j ++ k) ≡ putTy t j ++ k
+unfolding putTy
+putTy-append N j k = refl
+putTy-append L j k = refl
+putTy-append (list t) j k = rw (putTy-append t j k)
+putTy-append (t to u) j k = rw (putTy-append u j k, putTy-append t (putTy u j) k)
+
+putStatic-append : (l : Lang) (t : Static l) (j k : List ℕ) → putStatic l t (j ++ k) ≡ putStatic l t j ++ k
+putStatic-append ml t j k = putTy-append t j k
+putStatic-append sc t j k = refl
+
+put-append : {l : Lang} (e : Term l) (j k : List ℕ) → put e (j ++ k) ≡ put e j ++ k
+unfolding put
+put-append (var i) j k = refl
+put-append (num n) j k = refl
+put-append (lam {l} t b) j k = rw (put-append b j k, putStatic-append l t (put b j) k)
+put-append (op1 o a) j k = rw (put-append a j k)
+put-append (op2 o a b) j k = rw (put-append b j k, put-append a (put b j) k)
+put-append (if0 a b c) j k = rw (put-append c j k, put-append b (put c j) k, put-append a (put b (put c j)) k)
+put-append (nil {l} t) j k = rw (putStatic-append l t j k)
+put-append (wrong {l} c t) j k = rw (putStatic-append l t j k)
+put-append (ms t a) j k = rw (put-append a j k, putTy-append t (put a j) k)
+put-append (sm t a) j k = rw (put-append a j k, putTy-append t (put a j) k)
+
+-- The words of a node before and after its open part, and those of a term before and after a place.
+abbrev before : {m l : Lang} → Frame m l → List ℕ
+before (under o) = word1 o ∷ []
+before (first {l} o b) = word2 l o ∷ []
+before (second {l} o a) = word2 l o ∷ words a
+before (tested {l} b c) = by l 23 38 ∷ []
+before (intoML t) = 30 ∷ wordsTy t
+before (intoScheme t) = 45 ∷ wordsTy t
+
+abbrev after : {m l : Lang} → Frame m l → List ℕ
+after (under o) = []
+after (first o b) = words b
+after (second o a) = []
+after (tested b c) = put b (words c)
+after (intoML t) = []
+after (intoScheme t) = []
+
+unfoldable pub wordsBefore : {m l : Lang} → Context m l → List ℕ
+wordsBefore here = []
+wordsBefore (within f F) = before f ++ wordsBefore F
+
+unfoldable pub wordsAfter : {m l : Lang} → Context m l → List ℕ
+wordsAfter here = []
+wordsAfter (within f F) = wordsAfter F ++ after f
+
+put-plug : {m l : Lang} (f : Frame m l) (x : Term m) (k : List ℕ) → put (plug f x) k ≡ before f ++ put x (after f ++ k)
+unfolding put
+put-plug (under o) x k = refl
+put-plug (first o b) x k = rw (put-append b [] k)
+put-plug (second o a) x k = rw (put-append a [] (put x k))
+put-plug (tested b c) x k = rw (put-append c [] k, put-append b (words c) k)
+put-plug (intoML t) x k = rw (putTy-append t [] (put x k))
+put-plug (intoScheme t) x k = rw (putTy-append t [] (put x k))
+
+-- The words of a term with x at a place: those before, those of x, those after.
+pub put-fill : {m l : Lang} (F : Context m l) (x : Term m) (k : List ℕ) → put (fill F x) k ≡ wordsBefore F ++ put x (wordsAfter F ++ k)
+unfolding fill wordsBefore wordsAfter
+put-fill here x k = refl
+put-fill (within f F) x k = put-plug f (fill F x) k ∙ rw (put-fill F x (after f ++ k), append-assoc, append-assoc)
+
+words-fill : {m l : Lang} (F : Context m l) (x : Term m) → words (fill F x) ≡ wordsBefore F ++ (words x ++ wordsAfter F)
+words-fill F x = put-fill F x [] ∙ rw (append-nil, put-append x [] (wordsAfter F))
+
+-- The step from e to r: the node whose turn it is, its place, what it becomes, and both terms in words.
+pub record Splice {l : Lang} (e r : Term l) : Type 0 where
+  pub lang : Lang
+  pub place : Context lang l
+  pub node : Term lang
+  pub became : Term lang
+  pub turns : turn e ≡ at lang place node
+  pub contracts : contract node ≡ becomes became
+  pub was : words e ≡ wordsBefore place ++ (words node ++ wordsAfter place)
+  pub is : words r ≡ wordsBefore place ++ (words became ++ wordsAfter place)
+
+abbrev Spliced : {l : Lang} → Term l → Outcome l → Type 0
+Spliced e value = Unit {0}
+Spliced e (raised c) = Unit {0}
+Spliced e (next r) = Splice e r
+Spliced e stuck = Unit {0}
+
+outcome-spliced : {m l : Lang} (e : Term l) (F : Context m l) (n : Term m) → turn e ≡ at m F n → fill F n ≡ e
+    → (b : Became m) → contract n ≡ b → Spliced e (outcome F b)
+outcome-spliced e F n q s (becomes x) c =
+    record {
+      lang = _;
+      place = F;
+      node = n;
+      became = x;
+      turns = q;
+      contracts = c;
+      was = ap words (sym s) ∙ words-fill F n;
+      is = words-fill F x;
+    }
+outcome-spliced e F n q s (raises c) d = tt
+outcome-spliced e F n q s nothing d = tt
+
+-- Every step is such a one.
+pub step-splice : {l : Lang} (e r : Term l) → step e ≡ next r → Splice e r
+step-splice e r q =
+    subst (Spliced e) q (step-by (Spliced e) e tt (λ m F n t s. outcome-spliced e F n t s (contract n) refl))
