@@ -57,26 +57,20 @@ value-step-iff e = (λ q. subst (Published e) q (step-published e), value-step)
 
 -- A term has at most one next term and at most one code.
 pub deterministic : {l : Lang} {e r s : Term l} → e ⟶ r → e ⟶ s → r ≡ s
-deterministic {r = r} {s = s} a b = let q : next r ≡ next s = sym (rule-step a) ∙ rule-step b in cc
+deterministic a b = cc (rule-step a, rule-step b)
 
 pub one-code : {l : Lang} {e : Term l} {c d : ℕ} → Raises c e → Raises d e → c ≡ d
-one-code {l} {c = c} {d = d} a b = let q : _≡_ {A = Outcome l} (raised c) (raised d) = sym (wrong-step a) ∙ wrong-step b in cc
+one-code a b = cc (wrong-step a, wrong-step b)
 
 -- Values have no next term and raise nothing; raised errors have no next term.
-abbrev mark : {l : Lang} → Outcome l → ℕ
-mark value = 0
-mark (raised c) = 1
-mark (next r) = 2
-mark stuck = 3
-
 pub value-no-step : {l : Lang} {e r : Term l} → Value l e → ¬ (e ⟶ r)
-value-no-step v a = omega (arith, ap mark (sym (value-step v) ∙ rule-step a))
+value-no-step v a = let z : _≡_ {A = ℕ} 0 1 = cc (value-step v, rule-step a) in omega arith
 
 pub value-no-error : {l : Lang} {e : Term l} {c : ℕ} → Value l e → ¬ Raises c e
-value-no-error v a = omega (arith, ap mark (sym (value-step v) ∙ wrong-step a))
+value-no-error v a = let z : _≡_ {A = ℕ} 0 1 = cc (value-step v, wrong-step a) in omega arith
 
 pub error-no-step : {l : Lang} {e r : Term l} {c : ℕ} → Raises c e → ¬ (e ⟶ r)
-error-no-step a b = omega (arith, ap mark (sym (wrong-step a) ∙ rule-step b))
+error-no-step a b = let z : _≡_ {A = ℕ} 0 1 = cc (wrong-step a, rule-step b) in omega arith
 
 none-stuck : {l : Lang} (e : Term l) (o : Outcome l) → Stuck e → Published e o → o ≡ stuck
 none-stuck e value ne h = absurd (ne .0 h)
@@ -88,11 +82,11 @@ none-stuck e stuck ne h = refl
 pub stuck-iff : {l : Lang} (e : Term l) → (step e ≡ stuck) ↔ Stuck e
 stuck-iff e = (
   λ q. (
-    λ v. omega (arith, ap mark (sym (value-step v) ∙ q)),
-    λ c a. omega (arith, ap mark (sym (wrong-step a) ∙ q)),
-    λ r a. omega (arith, ap mark (sym (rule-step a) ∙ q)),
+    λ v. let z : _≡_ {A = ℕ} 0 1 = cc (value-step v) in omega arith,
+    λ c a. let z : _≡_ {A = ℕ} 0 1 = cc (wrong-step a) in omega arith,
+    λ r a. let z : _≡_ {A = ℕ} 0 1 = cc (rule-step a) in omega arith,
   ),
-  λ ne. none-stuck e (step e) ne (step-published e),
+  λ h. none-stuck e (step e) h (step-published e),
 )
 
 -- n steps from one term to another.

@@ -1,16 +1,16 @@
 -- The rules at a node: `contract`, at a node whose turn it may be, makes exactly what a published rule makes. Assumes nothing.
 use Prim.Native.Nat.{ℕ, _+_}
 use mathlib.Core.Bool.{Bool, true, false, cond}
-use mathlib.Core.Logic.{_↔_, _⊎_, inl, inr}
-use mathlib.Core.Path.{_≡_, refl, ap, sym, subst}
+use mathlib.Core.Logic.{_↔_}
+use mathlib.Core.Path.{_≡_, refl, ap, subst}
 use lib.Dec.{eqb, leb}
 use native.Mathlib.Omega.{arith}
-use Rattle.calculus.proofs.Values.{mark}
 use borrow.Author.Tests.{leb-true, leb-false, le-leb, lt-leb, eqb-true, eqb-false, ne-eqb}
 use Rattle.calculus.specs.Trees.{Ty, N, L, list, _to_, Lang, ml, sc, Static, numbers, Test, isFun, isList, isNull, isNum, Op1, head, tail, fixpoint, empty, testing, Op2, apply, plus, minus, pair, Term, var, num, lam, op1, op2, if0, nil, wrong, ms, sm, app, add, sub, cons, hd, tl, fix, null?, test}
 use Rattle.calculus.specs.Words.{largest}
-use Rattle.calculus.specs.Reduction.{isLump, isPair, Form, number, lambda, noItem, items, sealed, other, form, Became, becomes, raises, nothing, onNumber, onLambda, onList, onLump, amiss, third, answer, contract1, onNumbers, contract2, toML, toScheme, contract}
+use Rattle.calculus.specs.Reduction.{isLump, isPair, form, Became, becomes, raises, nothing, onNumber, onLambda, onList, onLump, amiss, third, answer, contract1, onNumbers, contract2, toML, toScheme, contract}
 use Rattle.calculus.specs.Rules.{Value, lamV, numV, nilV, consV, lumpV, Lambda, Number, Nil, Cons, _⊢_⇒_, app-lambda, app-no-lambda, fix-lambda, add-numbers, add-over, add-no-number, sub-numbers, sub-no-number, if0-zero, if0-other, if0-no-number, hd-cons, hd-nil, hd-no-list, tl-cons, tl-nil, tl-no-list, null-nil, null-cons, fun?-lambda, fun?-other, list?-nil, list?-cons, list?-other, null?-nil, null?-other, num?-number, num?-other, ms-number, ms-no-number, ms-nil, ms-cons, ms-no-list, ms-lambda, ms-no-lambda, sm-number, sm-lump, sm-nil, sm-cons, sm-lambda}
+use Rattle.calculus.proofs.Forms.{mark, on-number, on-lambda, on-list, on-numbers, no-number, no-lambda, no-list, no-numbers, no-answer}
 
 -- The node is no value, and the parts of it that evaluation takes are values: nothing stands before its own turn.
 abbrev pub Ready : {l : Lang} → Term l → Type 0
@@ -25,92 +25,13 @@ Ready (wrong c t) = Unit {0}
 Ready (ms t a) = (isLump t ≡ false) × Value sc a
 Ready (sm t a) = Value ml a
 
--- A rule looks at the form of a value: it is the one asked for, or it is not. R is what is to be proved of the outcome.
-on-number : {l m : Lang} (R : Became m → Type 0) {v : Term l} (o : Became m) (k : ℕ → Became m) → Value l v → (¬ Number v → R o)
-    → ((n : ℕ) → v ≡ num n → R (k n)) → R (onNumber (form v) o k)
-unfolding form onNumber
-on-number R o k lamV miss fit = miss λ h. omega (arith, ap mark (h .1))
-on-number R o k numV miss fit = fit _ refl
-on-number R o k nilV miss fit = miss λ h. omega (arith, ap mark (h .1))
-on-number R o k (consV a b) miss fit = miss λ h. omega (arith, ap mark (h .1))
-on-number R o k (lumpV a) miss fit = miss λ h. omega (arith, ap mark (h .1))
-
-on-lambda : {l m : Lang} (R : Became m → Type 0) {v : Term l} (o : Became m) (k : Static l → Term l → Became m) → Value l v → (¬ Lambda v → R o)
-    → ((t : Static l) (b : Term l) → v ≡ lam t b → R (k t b)) → R (onLambda (form v) o k)
-unfolding form onLambda
-on-lambda R o k lamV miss fit = fit _ _ refl
-on-lambda R o k numV miss fit = miss λ h. omega (arith, ap mark (h .2))
-on-lambda R o k nilV miss fit = miss λ h. omega (arith, ap mark (h .2))
-on-lambda R o k (consV a b) miss fit = miss λ h. omega (arith, ap mark (h .2))
-on-lambda R o k (lumpV a) miss fit = miss λ h. omega (arith, ap mark (h .2))
-
-on-list : {l m : Lang} (R : Became m → Type 0) {v : Term l} (o : Became m) (i : Static l → Became m) (k : Term l → Term l → Became m) → Value l v
-    → (¬ Nil v → ¬ Cons v → R o) → ((t : Static l) → v ≡ nil t → R (i t))
-    → ((a b : Term l) → Value l a → Value l b → v ≡ cons a b → R (k a b)) → R (onList (form v) o i k)
-unfolding form onList
-on-list R o i k lamV miss none fit = miss (λ h. omega (arith, ap mark (h .1))) (λ h. omega (arith, ap mark (h .2)))
-on-list R o i k numV miss none fit = miss (λ h. omega (arith, ap mark (h .1))) (λ h. omega (arith, ap mark (h .2)))
-on-list R o i k nilV miss none fit = none _ refl
-on-list R o i k (consV a b) miss none fit = fit _ _ a b refl
-on-list R o i k (lumpV a) miss none fit = miss (λ h. omega (arith, ap mark (h .1))) (λ h. omega (arith, ap mark (h .2)))
-
-on-numbers : {l : Lang} (R : Became l → Type 0) {v w : Term l} (k : ℕ → ℕ → Became l) → Value l v → Value l w
-    → ((¬ Number v) ⊎ (¬ Number w) → R (amiss l 1)) → ((n m : ℕ) → v ≡ num n → w ≡ num m → R (k n m)) → R (onNumbers l v w k)
-unfolding onNumbers
-on-numbers R k v w miss fit = on-number R _ _ v (λ h. miss (inl h)) (λ n q. on-number R _ _ w (λ h. miss (inr h)) (λ m p. fit n m q p))
-
--- Where the form is not the one asked for.
-no-number : {l m : Lang} {v : Term l} (o : Became m) (k : ℕ → Became m) → Value l v → ¬ Number v → onNumber (form v) o k ≡ o
-no-number o k v ne = on-number (λ r. r ≡ o) o k v (λ h. refl) (λ n q. absurd (ne (n, q)))
-
-no-lambda : {l m : Lang} {v : Term l} (o : Became m) (k : Static l → Term l → Became m) → Value l v → ¬ Lambda v → onLambda (form v) o k ≡ o
-no-lambda o k v ne = on-lambda (λ r. r ≡ o) o k v (λ h. refl) (λ t b q. absurd (ne (t, b, q)))
-
-no-list : {l m : Lang} {v : Term l} (o : Became m) (i : Static l → Became m) (k : Term l → Term l → Became m) → Value l v → ¬ Nil v → ¬ Cons v
-    → onList (form v) o i k ≡ o
-no-list o i k v nn nc = on-list (λ r. r ≡ o) o i k v (λ n c. refl) (λ t q. absurd (nn (t, q))) (λ a b x y q. absurd (nc (a, b, q)))
-
-no-numbers : {l : Lang} {v w : Term l} (k : ℕ → ℕ → Became l) → Value l v → Value l w → (¬ Number v) ⊎ (¬ Number w)
-    → onNumbers l v w k ≡ amiss l 1
-no-numbers k v w (inl ne) = on-numbers (λ r. r ≡ amiss _ 1) k v w (λ h. refl) (λ n m q p. absurd (ne (n, q)))
-no-numbers k v w (inr ne) = on-numbers (λ r. r ≡ amiss _ 1) k v w (λ h. refl) (λ n m q p. absurd (ne (m, p)))
-
 -- What is computed at a node is a rule's outcome; or the node is a wrong; or it is nothing.
 abbrev pub Ruled : {l : Lang} → Term l → Became l → Type 0
 Ruled {l} e (becomes r) = l ⊢ e ⇒ r
 Ruled {l} e (raises c) = (t : Static l) × (e ≡ wrong c t)
 Ruled e nothing = Unit {0}
 
--- What a test asks; a value of which it does not hold is answered with 1.
-abbrev Holds : Test → Term sc → Type 0
-Holds isFun v = Lambda v
-Holds isList v = Nil v ⊎ Cons v
-Holds isNull v = Nil v
-Holds isNum v = Number v
-
-no-answer : (k : Test) {v : Term sc} → Value sc v → ¬ Holds k v → answer k (form v) ≡ 1
-unfolding form answer
-no-answer isFun lamV n = absurd (n (_, _, refl))
-no-answer isFun numV n = refl
-no-answer isFun nilV n = refl
-no-answer isFun (consV a b) n = refl
-no-answer isList lamV n = refl
-no-answer isList numV n = refl
-no-answer isList nilV n = absurd (n (inl (_, refl)))
-no-answer isList (consV a b) n = absurd (n (inr (_, _, refl)))
-no-answer isNull lamV n = refl
-no-answer isNull numV n = refl
-no-answer isNull nilV n = absurd (n (_, refl))
-no-answer isNull (consV a b) n = refl
-no-answer isNum lamV n = refl
-no-answer isNum numV n = absurd (n (_, refl))
-no-answer isNum nilV n = refl
-no-answer isNum (consV a b) n = refl
-
-neither : {A B : Type 0} → ¬ A → ¬ B → ¬ (A ⊎ B)
-neither na nb (inl a) = na a
-neither na nb (inr b) = nb b
-
+-- The rule for a test. The outcome r plays no part: the laws of forms are used to tell the forms apart.
 abbrev Tested : Test → Term sc → Became sc → Type 0
 Tested k v r = sc ⊢ test k v ⇒ num (answer k (form v))
 
@@ -118,7 +39,7 @@ test-ruled : (k : Test) {v : Term sc} → Value sc v → Tested k v nothing
 unfolding form answer
 test-ruled isFun h = on-lambda (Tested isFun _) nothing (λ t b. nothing) h (λ n. rw (no-answer isFun h n) (fun?-other h n)) (λ t b q. rw q fun?-lambda)
 test-ruled isList h =
-    on-list (Tested isList _) nothing (λ t. nothing) (λ a b. nothing) h (λ n c. rw (no-answer isList h (neither n c)) (list?-other h n c))
+    on-list (Tested isList _) nothing (λ t. nothing) (λ a b. nothing) h (λ n c. rw (no-answer isList h (n, c)) (list?-other h n c))
     (λ t q. rw q list?-nil) (λ a b x y q. rw q (list?-cons x y))
 test-ruled isNull h =
     on-list (Tested isNull _) nothing (λ t. nothing) (λ a b. nothing) h (λ n c. rw (no-answer isNull h n) (null?-other h n)) (λ t q. rw q null?-nil)
@@ -214,7 +135,7 @@ rule-made fun?-lambda = (lamV, refl)
 rule-made (fun?-other v ne) = (v, rw (no-answer isFun v ne))
 rule-made list?-nil = (nilV, refl)
 rule-made (list?-cons v w) = (consV v w, refl)
-rule-made (list?-other v nn nc) = (v, rw (no-answer isList v (neither nn nc)))
+rule-made (list?-other v nn nc) = (v, rw (no-answer isList v (nn, nc)))
 rule-made null?-nil = (nilV, refl)
 rule-made (null?-other v ne) = (v, rw (no-answer isNull v ne))
 rule-made num?-number = (numV, refl)

@@ -1,5 +1,8 @@
 pub mod Recipes
 pub mod Values
+pub mod Forms
 pub mod Contraction
 pub mod Turns
 pub mod Agreement
+pub mod Substitution
+pub mod Derivations

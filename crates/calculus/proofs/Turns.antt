@@ -42,7 +42,7 @@ turn-found (op2 o a b) =
 turn-found (if0 a b c) = into-found (tested b c) a (turn a) (own false (if0 a b c)) tt (turn-found a) (ready-found (if0 a b c))
 turn-found (nil t) = nilV
 turn-found (wrong c t) = ready-found (wrong c t) tt
-turn-found (ms t a) = 
+turn-found (ms t a) =
     into-found (intoML t) a (turn a) (own (isLump t) (ms t a)) tt (turn-found a) λ v.
     own-found (ms t a) (isLump t) (λ h. lump-value t h v) (λ q. (q, v))
 turn-found (sm t a) = into-found (intoScheme t) a (turn a) (own false (sm t a)) tt (turn-found a) (ready-found (sm t a))

@@ -1,20 +1,11 @@
 -- Values: the test computes the published definition, and it is never a value's turn. Assumes nothing.
-use Prim.Native.Nat.{ℕ}
 use mathlib.Core.Bool.{Bool, true, false, _&&_}
 use mathlib.Core.Logic.{_↔_}
 use mathlib.Core.Path.{_≡_, refl}
 use lib.Dec.{T}
 use Rattle.calculus.specs.Trees.{Ty, N, L, list, _to_, Lang, ml, sc, Op2, apply, plus, minus, pair, Term, var, num, lam, op1, op2, if0, nil, wrong, ms, sm}
-use Rattle.calculus.specs.Reduction.{isLump, isPair, isValue, Form, number, lambda, noItem, items, sealed, other, form, done, turn}
+use Rattle.calculus.specs.Reduction.{isLump, isPair, isValue, done, turn}
 use Rattle.calculus.specs.Rules.{Value, lamV, numV, nilV, consV, lumpV}
-
-abbrev tag : {l : Lang} → Form l → ℕ
-tag (number n) = 0
-tag (lambda t b) = 1
-tag (noItem t) = 2
-tag (items v w) = 3
-tag (sealed v) = 4
-tag other = 5
 
 -- An operator's node with values for parts is a value if the operator is cons; ms of a value, if the type is L.
 pub pair-value : {l : Lang} (o : Op2) {a b : Term l} → T (isPair o) → Value l a → Value l b → Value l (op2 o a b)
@@ -70,7 +61,3 @@ value-turn numV = refl
 value-turn nilV = refl
 value-turn (consV v w) = rw (value-turn v, value-turn w)
 value-turn (lumpV v) = rw (value-turn v)
-
--- A mark of a term's form, by which forms are told apart.
-abbrev pub mark : {l : Lang} → Term l → ℕ
-mark e = tag (form e)
