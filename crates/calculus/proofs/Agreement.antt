@@ -1,13 +1,13 @@
 -- The reduction computed is the reduction published, of every term, typed or not. Assumes nothing.
 use Prim.Native.Nat.{ℕ, suc}
 use mathlib.Core.Logic.{_↔_}
-use mathlib.Core.Path.{_≡_, refl, ap, sym, subst, _∙_}
+use mathlib.Core.Path.{_≡_, refl, ap, subst, _∙_}
 use native.Mathlib.Omega.{arith}
 use Rattle.calculus.specs.Trees.{Lang, Term, wrong}
 use Rattle.calculus.specs.Reduction.{Became, becomes, raises, nothing, contract, Context, fill, Turn, done, at, turn, Outcome, value, raised, next, stuck, outcome, stepped, step}
-use Rattle.calculus.specs.Rules.{Value, _⊢_⇒_, Evaluated, _⟶_, by-rule, Raises, by-wrong, Stuck}
+use Rattle.calculus.specs.Rules.{Value, Evaluated, _⟶_, by-rule, Raises, by-wrong, Stuck}
 use Rattle.calculus.proofs.Values.{value-turn}
-use Rattle.calculus.proofs.Contraction.{Ready, Ruled, contract-ruled, rule-iff}
+use Rattle.calculus.proofs.Contraction.{Ruled, contract-ruled, rule-iff}
 use Rattle.calculus.proofs.Turns.{Found, turn-found, turn-filled}
 
 -- Published, so computed.
@@ -45,13 +45,15 @@ step-published : {l : Lang} (e : Term l) → Published e (step e)
 unfolding step
 step-published e = turn-published e (turn e) (turn-found e)
 
--- The step computed to a next term, to a raised error or to a value is the published one.
+-- The next term computed is the published one.
 pub next-iff : {l : Lang} (e r : Term l) → (step e ≡ next r) ↔ (e ⟶ r)
 next-iff e r = (λ q. subst (Published e) q (step-published e), rule-step)
 
+-- An error computed is the raised one, and its code.
 pub raised-iff : {l : Lang} (e : Term l) (c : ℕ) → (step e ≡ raised c) ↔ Raises c e
 raised-iff e c = (λ q. subst (Published e) q (step-published e), wrong-step)
 
+-- No step is computed of values alone.
 pub value-step-iff : {l : Lang} (e : Term l) → (step e ≡ value) ↔ Value l e
 value-step-iff e = (λ q. subst (Published e) q (step-published e), value-step)
 

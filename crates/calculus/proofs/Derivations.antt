@@ -4,7 +4,7 @@ use native.Mathlib.Omega.{arith}
 use Rattle.calculus.specs.Trees.{N, L, list, _to_, Lang, ml, apply, plus, pair, Term, var, num, lam, if0, nil, wrong, ms, sm, app, add, cons, fix}
 use Rattle.calculus.specs.Reduction.{substitute, form, first, second, intoML, here, within, fill}
 use Rattle.calculus.specs.Rules.{lamV, numV, nilV, _⊢_⇒_, app-lambda, fix-lambda, if0-no-number, ms-number, ms-cons, ms-no-list, ms-lambda, sm-number, sm-lump, _⟶_, by-rule, Raises, by-wrong}
-use Rattle.calculus.proofs.Forms.{mark}
+use Rattle.calculus.proofs.Contraction.{mark}
 use Rattle.calculus.proofs.Agreement.{Steps, stay, then}
 
 at-root : {l : Lang} {e r : Term l} → l ⊢ e ⇒ r → e ⟶ r
@@ -32,13 +32,16 @@ unfolding substitute
 endless = then (at-root fix-lambda) stay
 
 -- ms {N} (cons 1 2): error 3, in the fourth step; the head is converted before the tail is looked at.
+tail-no-list : ml ⊢ ms (list N) (num 2) ⇒ wrong 3 (list N)
+unfolding form
+tail-no-list = ms-no-list (numV {n = 2}) (λ h. omega (arith, ap mark (h .1))) (λ h. omega (arith, ap mark (h .2)))
+
 pub no-list : Steps 3 (ms (list N) (cons (num 1) (num 2))) (cons (num 1) (wrong 3 (list N))) × Raises {l = ml} 3 (cons (num 1) (wrong 3 (list N)))
-unfolding fill form
+unfolding fill
 no-list = (
   then (at-root (ms-cons numV numV))
       (then (by-rule (within (first pair (ms (list N) (num 2))) here) (tt, tt) ms-number)
-      (then (by-rule (within (second pair (num 1)) here) (numV, tt) (ms-no-list (numV {n = 2}) (λ h. omega (arith, ap mark (h .1))) (λ h. omega (arith, ap mark (h .2)))))
-      stay)),
+      (then (by-rule (within (second pair (num 1)) here) (numV, tt) tail-no-list) stay)),
   by-wrong (within (second pair (num 1)) here) (numV, tt) (list N),
 )
 

@@ -1,6 +1,5 @@
 pub mod Recipes
 pub mod Values
-pub mod Forms
 pub mod Contraction
 pub mod Turns
 pub mod Agreement

@@ -29,6 +29,7 @@ own-found : {l : Lang} (e : Term l) (b : Bool) → (T b → Value l e) → (b �
 own-found e true v h = v tt
 own-found e false v h = ready-found e (h refl)
 
+-- So it is of every term: what `turn` finds is there.
 pub turn-found : {l : Lang} (e : Term l) → Found e (turn e)
 unfolding turn
 turn-found (var i) = ready-found (var i) tt
@@ -47,7 +48,7 @@ turn-found (ms t a) =
     own-found (ms t a) (isLump t) (λ h. lump-value t h v) (λ q. (q, v))
 turn-found (sm t a) = into-found (intoScheme t) a (turn a) (own false (sm t a)) tt (turn-found a) (ready-found (sm t a))
 
--- There is no turn in values alone.
+-- It is no node's turn in values alone.
 pub turn-done : {l : Lang} (e : Term l) → (turn e ≡ done) ↔ T (isValue e)
 turn-done e = (λ q. value-iff e .1 (subst (Found e) q (turn-found e)), λ h. value-turn (value-iff e .0 h))
 

@@ -1,8 +1,9 @@
 -- Values: the test computes the published definition, and it is never a value's turn. Assumes nothing.
-use mathlib.Core.Bool.{Bool, true, false, _&&_}
+use mathlib.Core.Bool.{true, _&&_}
 use mathlib.Core.Logic.{_↔_}
 use mathlib.Core.Path.{_≡_, refl}
 use lib.Dec.{T}
+use mir.Facts.{and-yes}
 use Rattle.calculus.specs.Trees.{Ty, N, L, list, _to_, Lang, ml, sc, Op2, apply, plus, minus, pair, Term, var, num, lam, op1, op2, if0, nil, wrong, ms, sm}
 use Rattle.calculus.specs.Reduction.{isLump, isPair, isValue, done, turn}
 use Rattle.calculus.specs.Rules.{Value, lamV, numV, nilV, consV, lumpV}
@@ -20,10 +21,6 @@ lump-value L h v = lumpV v
 lump-value (list t) h v = absurd h
 lump-value (t to u) h v = absurd h
 
-both : (a b : Bool) → T (a && b) → T a × T b
-both true b h = (tt, h)
-both false b h = absurd h
-
 tested-value : {l : Lang} (e : Term l) → T (isValue e) → Value l e
 unfolding isValue
 tested-value (var i) h = absurd h
@@ -31,13 +28,13 @@ tested-value (num n) h = numV
 tested-value (lam t b) h = lamV
 tested-value (op1 o a) h = absurd h
 tested-value (op2 o a b) h =
-    let p = both (isPair o && isValue a) (isValue b) h in
-    let q = both (isPair o) (isValue a) (p .0) in
+    let p = and-yes (isPair o && isValue a) (isValue b) h in
+    let q = and-yes (isPair o) (isValue a) (p .0) in
     pair-value o (q .0) (tested-value a (q .1)) (tested-value b (p .1))
 tested-value (if0 a b c) h = absurd h
 tested-value (nil t) h = nilV
 tested-value (wrong c t) h = absurd h
-tested-value (ms t a) h = let p = both (isLump t) (isValue a) h in lump-value t (p .0) (tested-value a (p .1))
+tested-value (ms t a) h = let p = and-yes (isLump t) (isValue a) h in lump-value t (p .0) (tested-value a (p .1))
 tested-value (sm t a) h = absurd h
 
 -- The test holds of a value.
