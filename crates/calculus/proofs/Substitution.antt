@@ -69,7 +69,7 @@ plug-closed (intoML t) a h = h
 plug-closed (intoScheme t) a h = h
 
 -- What stands in a closed term where evaluation goes is closed: no frame is a lambda.
-pub fill-closed : {m l : Lang} (F : Context m l) (n : Term m) → Scoped [] (fill F n) → Scoped [] n
+fill-closed : {m l : Lang} (F : Context m l) (n : Term m) → Scoped [] (fill F n) → Scoped [] n
 unfolding fill
 fill-closed here n h = h
 fill-closed (within f F) n h = fill-closed F n (plug-closed f (fill F n) h)
