@@ -1,0 +1,112 @@
+-- What is due at a word, by the table in code: where the calculus looks for a row of a sort, the code looks up one row by the kind. Assumes
+-- nothing.
+use Prim.Native.Nat.{ℕ, zero, suc, _+_, _/_, _%_, _≤_, _<_}
+use mathlib.Core.Bool.{Bool, true, false, cond, _&&_}
+use mathlib.Core.List.{List, [], _∷_}
+use mathlib.Core.Option.{Option, none, some}
+use mathlib.Core.Path.{_≡_, refl, sym, ap, _∙_}
+use lib.Dec.{eqb, leb, ltb}
+use borrow.Author.Tests.{ltb-true, ltb-false}
+use native.Mathlib.Omega.{arith}
+use Rattle.calculus.specs.Verdicts.{found}
+use Rattle.calculus.specs.Trees.{Lang, ml, sc}
+use Rattle.calculus.specs.Kinds.{Sort, type, term, Row, table, rowIn, rowFor}
+use Rattle.nodes.specs.declared.kinds.Row as code
+use Rattle.nodes.specs.Table.{sortNumber, noEntry, rowOf, listed}
+use Rattle.nodes.specs.Walks.{sortThen, sortsOf, isDue}
+use Rattle.nodes.proofs.Table.{same-list, not-in, past}
+
+-- What a walk needs of a row: its parts and its operand's range.
+abbrev Use : Type 0
+Use = Option (List Sort × ℕ × ℕ)
+
+abbrev use-of : {s : Sort} → Option (Row s) → Use
+use-of o = found o none (λ r. some (r .parts, r .low, r .high))
+
+abbrev use-in : Sort → code.Row → Use
+use-in s r = cond (eqb (r .sort) (sortNumber s)) (some (sortsOf (r .parts), r .low, r .high)) none
+
+-- The code's row tells it of every sort: one computed test for each.
+use-at : (s : Sort) (k : ℕ) → k < 48 → use-of (rowIn (table s) k) ≡ use-in s (rowOf k)
+unfolding rowOf sortsOf
+use-at type k h = same-list (λ j. use-of (rowIn (table type) j)) (λ j. use-in type (rowOf j)) 48 refl k h
+use-at (term ml) k h = same-list (λ j. use-of (rowIn (table (term ml)) j)) (λ j. use-in (term ml) (rowOf j)) 48 refl k h
+use-at (term sc) k h = same-list (λ j. use-of (rowIn (table (term sc)) j)) (λ j. use-in (term sc) (rowOf j)) 48 refl k h
+
+use-past : (s : Sort) (k : ℕ) → 48 ≤ k → use-of (rowIn (table s) k) ≡ use-in s (rowOf k)
+use-past type k h = rw (past k h, not-in (table type) tt k h)
+use-past (term ml) k h = rw (past k h, not-in (table (term ml)) tt k h)
+use-past (term sc) k h = rw (past k h, not-in (table (term sc)) tt k h)
+
+use-is : (s : Sort) (k : ℕ) → use-of (rowIn (table s) k) ≡ use-in s (rowOf k)
+use-is s k = by (ltb k 48) refl
+  where
+    by : (b : Bool) → ltb k 48 ≡ b → use-of (rowIn (table s) k) ≡ use-in s (rowOf k)
+    by true e = use-at s k (ltb-true k 48 e)
+    by false e = use-past s k (ltb-false k 48 e)
+
+-- A due word, by the code's row.
+module _ {B : Type 0} (x : B) (f : List Sort → B) (o : ℕ) where
+  abbrev from-use : Use → B
+  from-use u = found u x (λ y. cond (leb (y .1) o && leb o (y .2)) (f (y .0)) x)
+
+  ranged : {s : Sort} (r : Row s) (b : Bool) → found (cond b (some r) none) x (λ r. f (r .parts)) ≡ cond b (f (r .parts)) x
+  ranged r true = refl
+  ranged r false = refl
+
+  by-use : {s : Sort} (i : Option (Row s))
+      → found (found i none (λ r. cond (leb (r .low) o && leb o (r .high)) (some r) none)) x (λ r. f (r .parts)) ≡ from-use (use-of i)
+  by-use none = refl
+  by-use (some r) = ranged r (leb (r .low) o && leb o (r .high))
+
+  by-row : (b c : Bool) (r : code.Row) → leb (r .low) o && leb o (r .high) ≡ c
+      → from-use (cond b (some (sortsOf (r .parts), r .low, r .high)) none) ≡ cond (b && c) (f (sortsOf (r .parts))) x
+  by-row true c r e = rw e
+  by-row false c r e = refl
+
+pub row-due : {B : Type 0} (x : B) (f : List Sort → B) (s : Sort) (w : ℕ)
+    → found (rowFor s w) x (λ r. f (r .parts)) ≡ cond (isDue (rowOf (w % 256)) (sortNumber s) (w / 256)) (f (sortsOf (rowOf (w % 256) .parts))) x
+unfolding rowFor
+row-due x f s w =
+    by-use x f (w / 256) (rowIn (table s) (w % 256))
+    ∙ ap (from-use x f (w / 256)) (use-is s (w % 256))
+    ∙ by-row x f (w / 256) (eqb (rowOf (w % 256) .sort) (sortNumber s)) _ (rowOf (w % 256)) refl
+
+-- The sorts that a number stands for: none, or the first and the others.
+pub none-due : (d : ℕ) → d % 4 ≡ 0 → sortsOf d ≡ []
+unfolding sortsOf
+none-due d h = rw h
+
+pub record FirstDue (d : ℕ) : Type 0 where
+  pub sort : Sort
+  pub number : sortNumber sort ≡ d % 4
+  pub sorts : sortsOf d ≡ sort ∷ sortsOf (d / 4)
+
+pub first-due : (d : ℕ) → d < 64 → (d % 4 ≡ 0 → ⊥) → FirstDue d
+unfolding sortsOf
+first-due d h g = by (d % 4) refl
+  where
+    rest : sortThen (d / 4 % 4) (sortThen (d / 16 % 4) []) ≡ sortThen (d / 4 % 4) (sortThen (d / 4 / 4 % 4) (sortThen (d / 4 / 16 % 4) []))
+    rest =
+        let e : d / 16 % 4 ≡ d / 4 / 4 % 4 = omega arith in
+        let z : d / 4 / 16 % 4 ≡ 0 = omega arith in
+        rw (e, z)
+
+    by : (n : ℕ) → d % 4 ≡ n → FirstDue d
+    by zero e = absurd (g e)
+    by (suc zero) e = record { sort = type; number = sym e; sorts = rw e (ap (λ (l : List Sort). type ∷ l) rest) }
+    by (suc (suc zero)) e = record { sort = term ml; number = sym e; sorts = rw e (ap (λ (l : List Sort). term ml ∷ l) rest) }
+    by (suc (suc (suc zero))) e = record { sort = term sc; number = sym e; sorts = rw e (ap (λ (l : List Sort). term sc ∷ l) rest) }
+    by (suc (suc (suc (suc n)))) e = absurd (omega (arith, e))
+
+small : (k : ℕ) → k < 48 → ltb (rowOf k .parts) 64 ≡ true
+unfolding rowOf
+small k h = same-list (λ j. ltb (rowOf j .parts) 64) (λ j. true) 48 refl k h
+
+-- A kind's parts are at most three.
+pub parts-small : (k : ℕ) → rowOf k .parts < 64
+parts-small k = by (ltb k 48) refl
+  where
+    by : (b : Bool) → ltb k 48 ≡ b → rowOf k .parts < 64
+    by true e = ltb-true (rowOf k .parts) 64 (small k (ltb-true k 48 e))
+    by false e = rw (past k (ltb-false k 48 e)) (omega arith)

@@ -1,0 +1,31 @@
+-- What is due in code, and what a walk answers.
+use Prim.Native.Nat.{ℕ, zero, suc, _/_, _%_}
+use mathlib.Core.Bool.{Bool, _&&_}
+use mathlib.Core.List.{List, [], _∷_}
+use lib.Dec.{eqb, leb}
+use Rattle.calculus.specs.Verdicts.{Verdict, passed}
+use Rattle.calculus.specs.Trees.{ml, sc}
+use Rattle.calculus.specs.Kinds.{Sort, type, term}
+use Rattle.nodes.specs.declared.kinds.Row as code
+use Rattle.nodes.specs.declared.walks.Walked.{Walked}
+use Rattle.nodes.specs.declared.walks.Walked.the-variants.{Took, Refused}
+use Rattle.nodes.specs.Refusals.{refusal}
+
+-- How many words were taken, or the refusal.
+abbrev pub walked : Walked → Verdict ℕ
+walked (Took n) = passed n
+walked (Refused r) = refusal r
+
+-- The sorts that a number stands for: up to three digits in base 4, the first the lowest; 0 ends them.
+abbrev pub sortThen : ℕ → List Sort → List Sort
+sortThen zero ss = []
+sortThen (suc zero) ss = type ∷ ss
+sortThen (suc (suc zero)) ss = term ml ∷ ss
+sortThen (suc (suc (suc n))) ss = term sc ∷ ss
+
+unfoldable pub sortsOf : ℕ → List Sort
+sortsOf d = sortThen (d % 4) (sortThen (d / 4 % 4) (sortThen (d / 16 % 4) []))
+
+-- A kind is of a sort, and has an operand in its range.
+abbrev pub isDue : code.Row → ℕ → ℕ → Bool
+isDue r s o = eqb (r .sort) s && (leb (r .low) o && leb o (r .high))

@@ -1,0 +1,143 @@
+// The one table of kinds, which reader, checker and reducer look up.
+
+ghost use mathlib.Core.Path.{_≡_};
+ghost use Prim.Native.Nat.{_%_};
+ghost use Rattle.nodes.specs.Table.{rowOf, kinds};
+
+// The sorts of nodes. 0 is none.
+pub const TYPE: u64 = 1;
+
+pub const ML: u64 = 2;
+
+pub const SCHEME: u64 = 3;
+
+// The shapes of terms, and of types.
+pub const VARIABLE: u64 = 1;
+
+pub const NUMBER: u64 = 2;
+
+pub const LAMBDA: u64 = 3;
+
+pub const OPERATOR_1: u64 = 4;
+
+pub const OPERATOR_2: u64 = 5;
+
+pub const IF0: u64 = 6;
+
+pub const NIL: u64 = 7;
+
+pub const WRONG: u64 = 8;
+
+pub const BOUNDARY: u64 = 9;
+
+pub const NUMBERS: u64 = 10;
+
+pub const LUMP: u64 = 11;
+
+pub const LIST: u64 = 12;
+
+pub const FUNCTION: u64 = 13;
+
+// The places of a row's columns: its parts' sorts, its shape, and its operand's range.
+const FIRST: u64 = 4;
+
+const SECOND: u64 = 16;
+
+const THIRD: u64 = 64;
+
+const SHAPE: u64 = 256;
+
+const FROM_ONE: u64 = 4096;
+
+const UP_TO: u64 = 8192;
+
+const LARGEST: u64 = 16777215;
+
+const LAST_CODE: u64 = 65535;
+
+// A row of the table is one number, because a const array is copied to the stack where it is used. A kind that is none has the row 0.
+pub const KINDS: [u64; 48] = [
+    0,
+    TYPE + SHAPE * NUMBERS, // 1 N
+    TYPE + SHAPE * LUMP, // 2 L
+    TYPE + FIRST * TYPE + SHAPE * LIST, // 3 list
+    TYPE + FIRST * TYPE + SECOND * TYPE + SHAPE * FUNCTION, // 4 function
+    0,
+    0,
+    0,
+    0,
+    0,
+    0,
+    0,
+    0,
+    0,
+    0,
+    0,
+    ML + SHAPE * VARIABLE + UP_TO * LARGEST, // 16 variable
+    ML + SHAPE * NUMBER + UP_TO * LARGEST, // 17 number
+    ML + FIRST * TYPE + SECOND * ML + SHAPE * LAMBDA, // 18 lambda
+    ML + FIRST * ML + SECOND * ML + SHAPE * OPERATOR_2, // 19 application
+    ML + FIRST * ML + SHAPE * OPERATOR_1, // 20 fix
+    ML + FIRST * ML + SECOND * ML + SHAPE * OPERATOR_2, // 21 add
+    ML + FIRST * ML + SECOND * ML + SHAPE * OPERATOR_2, // 22 subtract
+    ML + FIRST * ML + SECOND * ML + THIRD * ML + SHAPE * IF0, // 23 if0
+    ML + FIRST * TYPE + SHAPE * NIL, // 24 nil
+    ML + FIRST * ML + SECOND * ML + SHAPE * OPERATOR_2, // 25 cons
+    ML + FIRST * ML + SHAPE * OPERATOR_1, // 26 hd
+    ML + FIRST * ML + SHAPE * OPERATOR_1, // 27 tl
+    ML + FIRST * ML + SHAPE * OPERATOR_1, // 28 null?
+    ML + FIRST * TYPE + SHAPE * WRONG + FROM_ONE + UP_TO * LAST_CODE, // 29 wrong
+    ML + FIRST * TYPE + SECOND * SCHEME + SHAPE * BOUNDARY, // 30 ms
+    0,
+    SCHEME + SHAPE * VARIABLE + UP_TO * LARGEST, // 32 variable
+    SCHEME + SHAPE * NUMBER + UP_TO * LARGEST, // 33 number
+    SCHEME + FIRST * SCHEME + SHAPE * LAMBDA, // 34 lambda
+    SCHEME + FIRST * SCHEME + SECOND * SCHEME + SHAPE * OPERATOR_2, // 35 application
+    SCHEME + FIRST * SCHEME + SECOND * SCHEME + SHAPE * OPERATOR_2, // 36 add
+    SCHEME + FIRST * SCHEME + SECOND * SCHEME + SHAPE * OPERATOR_2, // 37 subtract
+    SCHEME + FIRST * SCHEME + SECOND * SCHEME + THIRD * SCHEME + SHAPE * IF0, // 38 if0
+    SCHEME + SHAPE * NIL, // 39 nil
+    SCHEME + FIRST * SCHEME + SECOND * SCHEME + SHAPE * OPERATOR_2, // 40 cons
+    SCHEME + FIRST * SCHEME + SHAPE * OPERATOR_1, // 41 hd
+    SCHEME + FIRST * SCHEME + SHAPE * OPERATOR_1, // 42 tl
+    SCHEME + FIRST * SCHEME + SHAPE * OPERATOR_1 + UP_TO * 3, // 43 test
+    SCHEME + SHAPE * WRONG + FROM_ONE + UP_TO * LAST_CODE, // 44 wrong
+    SCHEME + FIRST * TYPE + SECOND * ML + SHAPE * BOUNDARY, // 45 sm
+    0,
+    0,
+];
+
+// What the table says of a kind: its sort, its parts' sorts (the first in the lowest digit, in base 4; 0 ends them), its shape, and the least
+// and the greatest operand.
+pub struct Row {
+    pub sort: u64,
+    pub parts: u64,
+    pub shape: u64,
+    pub low: u64,
+    pub high: u64,
+}
+
+// The row of a word's kind.
+pub fn row_at(table: &[u64; 48], w: u32) -> Row
+    requires { ⌜ now table ≡ kinds ⌝ }
+    ensures { λ r. ⌜ r ≡ rowOf (w % 256) ⌝ }
+{
+    let k = (w % 256) as usize;
+    if 48 <= k {
+        return Row {
+            sort: 0,
+            parts: 0,
+            shape: 0,
+            low: 0,
+            high: 0,
+        };
+    }
+    let r = table[k];
+    Row {
+        sort: r % 4,
+        parts: r / 4 % 64,
+        shape: r / 256 % 16,
+        low: r / 4096 % 2,
+        high: r / 8192,
+    }
+}
