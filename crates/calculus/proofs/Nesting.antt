@@ -170,6 +170,19 @@ ordered-passes s ws o =
     ap (noneLeft (length ws)) (ap (λ (l : List ℕ). walk nestedDue l ((s, levels) ∷ [])) (o .spelt) ∙ tree-taken s (o .tree) (o .ranged) levels (o .nests) [] [] ∙ ap passed n)
     ∙ rw (eq-eqb (length ws) (length ws) refl)
 
+-- Words that pass are taken to the last.
+pub passes-all : (s : Sort) (ws : List ℕ) (n : ℕ) → inOrder s ws ≡ passed n → n ≡ length ws
+unfolding inOrder
+passes-all s ws n q = all (walk nestedDue ws ((s, levels) ∷ [])) q
+  where
+    equal : (m : ℕ) (b : Bool) → eqb m (length ws) ≡ b → cond b (passed m) (refused 3 m) ≡ passed n → n ≡ length ws
+    equal m true e p = sym (passed-injective m n p) ∙ eqb-true m (length ws) e
+    equal m false e p = absurd (not-both 3 m n p)
+
+    all : (v : Verdict ℕ) → noneLeft (length ws) v ≡ passed n → n ≡ length ws
+    all (refused r p) g = absurd (not-both r p n g)
+    all (passed m) g = equal m (eqb m (length ws)) refl g
+
 -- Words that pass are such a node.
 pub passes-ordered : (s : Sort) (ws : List ℕ) (n : ℕ) → inOrder s ws ≡ passed n → Ordered s ws
 unfolding inOrder walk

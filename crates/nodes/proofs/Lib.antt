@@ -1,3 +1,4 @@
 pub mod Table
 pub mod Dues
 pub mod Ways
+pub mod Readers

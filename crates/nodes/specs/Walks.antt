@@ -1,11 +1,13 @@
 -- What is due in code, and what a walk answers.
-use Prim.Native.Nat.{ℕ, zero, suc, _/_, _%_}
+use Prim.Native.Nat.{ℕ, zero, suc, _+_, _/_, _%_}
 use mathlib.Core.Bool.{Bool, _&&_}
 use mathlib.Core.List.{List, [], _∷_}
 use lib.Dec.{eqb, leb}
-use Rattle.calculus.specs.Verdicts.{Verdict, passed}
+use lib.ListN.{length}
+use Rattle.calculus.specs.Verdicts.{Verdict, passed, andThen}
 use Rattle.calculus.specs.Trees.{ml, sc}
 use Rattle.calculus.specs.Kinds.{Sort, type, term}
+use Rattle.calculus.specs.Reading.{later, inOrder}
 use Rattle.nodes.specs.declared.kinds.Row as code
 use Rattle.nodes.specs.declared.walks.Walked.{Walked}
 use Rattle.nodes.specs.declared.walks.Walked.the-variants.{Took, Refused}
@@ -29,3 +31,7 @@ sortsOf d = sortThen (d % 4) (sortThen (d / 4 % 4) (sortThen (d / 16 % 4) []))
 -- A kind is of a sort, and has an operand in its range.
 abbrev pub isDue : code.Row → ℕ → ℕ → Bool
 isDue r s o = eqb (r .sort) s && (leb (r .low) o && leb o (r .high))
+
+-- "then 3 and 4 in one walk, type before term".
+unfoldable pub bothOrdered : List ℕ → List ℕ → Verdict ℕ
+bothOrdered types terms = andThen (later 4 (inOrder type types)) (λ n. later (4 + length types) (inOrder (term ml) terms))

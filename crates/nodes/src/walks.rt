@@ -6,9 +6,10 @@ use crate::refusals::Refusal;
 ghost use mathlib.Core.Path.{_≡_};
 ghost use Prim.Native.Nat.{_+_, _/_, _<_, _^_};
 ghost use lib.ListN.{length};
-ghost use Rattle.calculus.specs.Reading.{later, walk, levelled, nestedDue};
-ghost use Rattle.nodes.specs.Table.{kinds};
-ghost use Rattle.nodes.specs.Walks.{walked, sortsOf, isDue};
+ghost use Rattle.calculus.specs.Reading.{later, walk, levelled, nestedDue, inOrder, nodeSize, nodeAt};
+ghost use Rattle.calculus.specs.Kinds.{Sort};
+ghost use Rattle.nodes.specs.Table.{kinds, sortNumber};
+ghost use Rattle.nodes.specs.Walks.{walked, sortsOf, isDue, bothOrdered};
 
 // How many words were gone by when the walk ended, or why it did not.
 pub enum Walked {
@@ -56,4 +57,57 @@ pub fn walk(table: &[u64; 48], words: &[u32], at: usize, due: u64, room: usize) 
     };
     let n = end - at;
     walk(table, &words[n..], end, due / 4, room)
+}
+
+// Whether the words, which stand at a place of the file, are one node of a sort, nested no deeper than 256: refusals 3 and 4.
+fn in_order(table: &[u64; 48], words: &[u32], at: usize, sort: u64) -> Walked
+    requires { ⌜ (now table ≡ kinds) × (sort < 4) × (at + length (now words) < 2 ^ 63) ⌝ }
+    ensures { λ r. ⌜ ((s : Sort) → sort ≡ sortNumber s → walked r ≡ later at (inOrder s (now (words .entry)))) ⌝ }
+{
+    let found = walk(table, words, at, sort, 256);
+    let Walked::Took(end) = found else {
+        return found;
+    };
+    if end - at == words.len() {
+        return Walked::Took(end);
+    }
+    Walked::Refused(Refusal::Word(end))
+}
+
+// Refusals 3 and 4 of a file: the words of the declared type, which stand at the place 4, and then those of the term. For the rooms above.
+pub fn ordered(types: &[u32], terms: &[u32]) -> Walked
+    ensures { λ r. ⌜ walked r ≡ bothOrdered (now (types .entry)) (now (terms .entry)) ⌝ }
+{
+    let table = crate::kinds::KINDS;
+    let first = in_order(&table, types, 4, crate::kinds::TYPE);
+    let Walked::Took(end) = first else {
+        return first;
+    };
+    in_order(&table, terms, end, crate::kinds::ML)
+}
+
+// How many words the node at the start of the words has; 0 where no whole node starts there.
+fn node_size(words: &[u32]) -> usize
+    ensures { λ r. ⌜ r ≡ nodeSize (now (words .entry)) ⌝ }
+{
+    if words.len() == 0 {
+        return 0;
+    }
+    let table = crate::kinds::KINDS;
+    let row = row_at(&table, words[0]);
+    match walk(&table, words, 0, row.sort, words.len()) {
+        Walked::Took(n) => n,
+        Walked::Refused(_) => 0,
+    }
+}
+
+// The reader of nodes: the node at a place of the words, from its first word to its last, or the empty part where no whole node starts there.
+pub fn node(words: &[u32], at: usize) -> &[u32]
+    ensures { λ r. ⌜ now r ≡ nodeAt (now (words .entry)) at ⌝ }
+{
+    if words.len() <= at {
+        return &words[..0];
+    }
+    let n = node_size(&words[at..]);
+    &words[at..at + n]
 }
