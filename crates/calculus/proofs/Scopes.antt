@@ -1,6 +1,6 @@
 -- Refusal 5: the scope walk takes exactly the words of a closed term. Assumes nothing.
 use Prim.Native.Nat.{ℕ, suc, _+_, _/_, _%_}
-use mathlib.Core.Bool.{Bool, true, false, cond, not, _&&_, _||_}
+use mathlib.Core.Bool.{Bool, true, false, cond, not}
 use mathlib.Core.List.{List, [], _∷_, _++_}
 use mathlib.Core.Logic.{_↔_}
 use mathlib.Core.Path.{_≡_, refl, sym, ap, _∙_, subst}
@@ -29,7 +29,7 @@ TreesScoped Γ (s ∷ ss) ts = TreeScoped Γ s (ts .0) × TreesScoped Γ ss (ts 
 
 -- A word without its lambda, and the lambdas around its parts, by kind and operand.
 abbrev freeAt : List Lang → ℕ → ℕ → Bool
-freeAt Γ k o = (eqb k 16 && not (lambdaAt Γ o ml)) || (eqb k 32 && not (lambdaAt Γ o sc))
+freeAt Γ k o = cond (eqb k 16) (not (lambdaAt Γ o ml)) (cond (eqb k 32) (not (lambdaAt Γ o sc)) false)
 
 abbrev insideAt : List Lang → ℕ → List Lang
 insideAt Γ k = cond (eqb k 18) (ml ∷ Γ) (cond (eqb k 34) (sc ∷ Γ) Γ)
@@ -43,10 +43,6 @@ free-iff : (b : Bool) → T b ↔ ((not b ≡ false) × Unit {0})
 free-iff true = (λ h. (refl, tt), λ x. tt)
 free-iff false = (λ h. absurd h, λ x. let z : _≡_ {A = ℕ} 0 1 = cc in absurd (omega arith))
 
-or-false : (b : Bool) → b || false ≡ b
-or-false true = refl
-or-false false = refl
-
 scoped-type : (t : Ty) (Γ : List Lang) → Agrees Γ type t
 unfolding view view-type seen
 scoped-type N Γ = (λ h. (refl, tt), λ x. tt)
@@ -56,7 +52,7 @@ scoped-type (t to u) Γ = (λ h. (refl, (tt, (tt, tt))), λ x. tt)
 
 scoped-ml : (e : Term ml) (Γ : List Lang) → Agrees Γ (term ml) e
 unfolding view view-ml seen
-scoped-ml (var i) Γ = rw (or-false (not (lambdaAt Γ i ml))) (free-iff (lambdaAt Γ i ml))
+scoped-ml (var i) Γ = free-iff (lambdaAt Γ i ml)
 scoped-ml (num n) Γ = (λ h. (refl, tt), λ x. tt)
 scoped-ml (lam t b) Γ = (λ h. (refl, (tt, (h, tt))), λ x. x .1 .1 .0)
 scoped-ml (op2 apply a b) Γ = (λ h. (refl, (h .0, (h .1, tt))), λ x. (x .1 .0, x .1 .1 .0))
@@ -109,7 +105,7 @@ module _ (s : Sort) (t : Tree s) (Γ : List Lang) where
   abbrev Δ : List Lang
   Δ = insideAt Γ (v .row .kind)
 
-  due-free : (isFree ml Γ w || isFree sc Γ w) ≡ freeAt Γ (v .row .kind) (v .operand)
+  due-free : isFree Γ w ≡ freeAt Γ (v .row .kind) (v .operand)
   due-free = rw (kind-of v, operand-of v)
 
   part-count : partCount w ≡ length (v .row .parts)

@@ -1,12 +1,11 @@
 -- Document 01, "A variable's operand .. counts the lambda words between it and its own lambda, those of both languages. Its own lambda
 -- must be of its own language."
 use Prim.Native.Nat.{ℕ, zero, suc, _/_, _%_}
-use mathlib.Core.Bool.{Bool, true, false, cond, not, _&&_, _||_}
+use mathlib.Core.Bool.{Bool, true, false, cond, not}
 use mathlib.Core.List.{List, [], _∷_}
 use lib.Dec.{T, eqb}
 use lib.ListN.{length, replicate}
 use Rattle.calculus.specs.Trees.{Lang, ml, sc, Term, var, num, lam, op1, op2, if0, nil, wrong, ms, sm}
-use Rattle.calculus.specs.Words.{by}
 use Rattle.calculus.specs.Kinds.{Row, rowIn, table, sortOf}
 use Rattle.calculus.specs.Verdicts.{found}
 use Rattle.calculus.specs.Reading.{Act, opens, refuses}
@@ -36,9 +35,9 @@ Scoped Γ (wrong c t) = Unit {0}
 Scoped Γ (ms t a) = Scoped Γ a
 Scoped Γ (sm t a) = Scoped Γ a
 
--- Of words: a variable of the language l that has no lambda of it there.
-abbrev pub isFree : Lang → List Lang → ℕ → Bool
-isFree l Γ w = eqb (w % 256) (by l 16 32) && not (lambdaAt Γ (w / 256) l)
+-- Of words: a variable, of ML or of Scheme, that has no lambda of its language there.
+abbrev pub isFree : List Lang → ℕ → Bool
+isFree Γ w = cond (eqb (w % 256) 16) (not (lambdaAt Γ (w / 256) ml)) (cond (eqb (w % 256) 32) (not (lambdaAt Γ (w / 256) sc)) false)
 
 -- The lambdas around a word's parts.
 abbrev pub inside : List Lang → ℕ → List Lang
@@ -49,4 +48,4 @@ partCount w = found (rowIn (table (sortOf w)) (w % 256)) 0 (λ r. length (r .par
 
 -- "5 | a variable without a lambda of its language there".
 abbrev pub scopeDue : List Lang → ℕ → Act (List Lang)
-scopeDue Γ w = cond (isFree ml Γ w || isFree sc Γ w) (refuses 5) (opens (replicate (partCount w) (inside Γ w)))
+scopeDue Γ w = cond (isFree Γ w) (refuses 5) (opens (replicate (partCount w) (inside Γ w)))

@@ -1,4 +1,7 @@
 pub mod Table
 pub mod Dues
 pub mod Ways
+pub mod Nested
 pub mod Readers
+pub mod Lambdas
+pub mod Scoping

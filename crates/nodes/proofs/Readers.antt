@@ -25,7 +25,8 @@ use Rattle.nodes.specs.declared.walks.Walked.the-variants.{Took, Refused
 use Rattle.nodes.specs.Refusals.{numberOf, placeOf}
 use Rattle.nodes.specs.Table.{sortNumber, entry, noEntry, rowOf}
 use Rattle.nodes.specs.Walks.{walked, sortsOf, bothOrdered}
-use Rattle.nodes.proofs.Ways.{Answer, part-length}
+use Rattle.nodes.proofs.Ways.{part-length}
+use Rattle.nodes.proofs.Nested.{Answer}
 
 sort-alone : (s : Sort) → sortsOf (sortNumber s) ≡ s ∷ []
 unfolding sortsOf

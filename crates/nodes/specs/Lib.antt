@@ -1,3 +1,4 @@
 pub mod Table
 pub mod Refusals
 pub mod Walks
+pub mod Around

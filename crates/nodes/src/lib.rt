@@ -2,4 +2,5 @@
 
 pub mod kinds;
 pub mod refusals;
+pub mod scopes;
 pub mod walks;

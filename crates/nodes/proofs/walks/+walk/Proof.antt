@@ -1,4 +1,4 @@
--- `nodes::walks::walk` meets its contract: each way out is one law of Ways, and the parts' words are there. The measure is the number of
+-- `nodes::walks::walk` meets its contract: each way out is one law of Nested, and the parts' words are there. The measure is the number of
 -- words left. Assumes nothing.
 use borrow.Author.Needs.{needs}
 use borrow.Author.Tests.{not-true, not-false}
@@ -9,7 +9,8 @@ use native.Mathlib.Nat.{pos-of-ne-zero}
 use native.Mathlib.Omega.{arith}
 use Rattle.nodes.specs.declared.walks.Walked.the-variants.{Took}
 use Rattle.nodes.proofs.Dues.{parts-small}
-use Rattle.nodes.proofs.Ways.{part-length, nothing-due, run-out, undue, too-deep, inner-refused, inner-ends, goes-on}
+use Rattle.nodes.proofs.Ways.{part-length}
+use Rattle.nodes.proofs.Nested.{nothing-due, run-out, undue, too-deep, inner-refused, inner-ends, goes-on}
 use Prim.Native.Nat.{ℕ, _<_}
 use borrow.Fn.Kinds.{In}
 use borrow.Fn.PlainCycle.{Measures, is, falls, and}

@@ -1,0 +1,156 @@
+-- The lambdas around a word, as the buffer holds them: variables and lambdas by the table's shapes, and what noting a lambda changes. Assumes
+-- nothing.
+use Prim.Native.Nat.{ℕ, zero, suc, _+_, _-_, _/_, _%_, _≤_, _<_}
+use mathlib.Core.Bool.{Bool, true, false, cond, not}
+use mathlib.Core.List.{List, [], _∷_}
+use mathlib.Core.Path.{_≡_, refl, sym, ap, _∙_}
+use lib.Dec.{eqb, ltb}
+use lib.ListN.{length, getD, set}
+use lib.Seq.{getD-set-same, getD-set-other}
+use borrow.Author.Tests.{eq-eqb, ne-eqb, eqb-true, eqb-false, ltb-true, ltb-false}
+use native.Mathlib.Numerals.{add-one}
+use native.Mathlib.Omega.{arith}
+use Rattle.calculus.specs.Verdicts.{found}
+use Rattle.calculus.specs.Trees.{Lang, ml, sc}
+use Rattle.calculus.specs.Kinds.{Sort, type, term, Row, table, rowIn, sortOfKind}
+use Rattle.calculus.specs.Scope.{sameLang, lambdaAt, isFree, inside, partCount}
+use Rattle.nodes.specs.declared.kinds.Row as code
+use Rattle.nodes.specs.Table.{rowOf, listed}
+use Rattle.nodes.specs.Walks.{sortsOf}
+use Rattle.nodes.specs.Around.{langOf, around, Entered}
+use Rattle.nodes.proofs.Table.{same-list, not-in, past}
+
+-- What hangs on two kinds, ML's and Scheme's, hangs on the shape that they share and the sort.
+module _ {X : Type 0} (a b c : X) where
+  by-kinds : ℕ → ℕ → ℕ → X
+  by-kinds m s k = cond (eqb k m) a (cond (eqb k s) b c)
+
+  by-shape : ℕ → code.Row → X
+  by-shape h r = cond (eqb (r .shape) h) (cond (eqb (r .sort) 2) a b) c
+
+  agree : (m s h : ℕ) → m < 48 → s < 48 → (h ≡ 0 → ⊥) → listed (by-kinds m s) 0 48 ≡ listed (λ k. by-shape h (rowOf k)) 0 48
+      → (k : ℕ) → by-kinds m s k ≡ by-shape h (rowOf k)
+  unfolding by-kinds by-shape
+  agree m s h hm hs hh e k = by (ltb k 48) refl
+    where
+      by : (t : Bool) → ltb k 48 ≡ t → by-kinds m s k ≡ by-shape h (rowOf k)
+      by true g = same-list (by-kinds m s) (λ j. by-shape h (rowOf j)) 48 e k (ltb-true k 48 g)
+      by false g =
+          let far = ltb-false k 48 g in
+          rw (past k far, ne-eqb k m (λ p. omega (arith, p)), ne-eqb k s (λ p. omega (arith, p)), ne-eqb 0 h (λ p. hh (sym p)))
+
+  pub by-variable : (k : ℕ) → cond (eqb k 16) a (cond (eqb k 32) b c) ≡ cond (eqb (rowOf k .shape) 1) (cond (eqb (rowOf k .sort) 2) a b) c
+  unfolding by-kinds by-shape rowOf
+  by-variable k = agree 16 32 1 (omega arith) (omega arith) (λ p. omega (arith, p)) refl k
+
+  pub by-lambda : (k : ℕ) → cond (eqb k 18) a (cond (eqb k 34) b c) ≡ cond (eqb (rowOf k .shape) 3) (cond (eqb (rowOf k .sort) 2) a b) c
+  unfolding by-kinds by-shape rowOf
+  by-lambda k = agree 18 34 3 (omega arith) (omega arith) (λ p. omega (arith, p)) refl k
+
+-- How many parts a kind has.
+parts-below : (k : ℕ) → k < 48 → found (rowIn (table (sortOfKind k)) k) 0 (λ r. length (r .parts)) ≡ length (sortsOf (rowOf k .parts))
+unfolding rowOf sortsOf
+parts-below k h = same-list (λ j. found (rowIn (table (sortOfKind j)) j) 0 (λ r. length (r .parts))) (λ j. length (sortsOf (rowOf j .parts))) 48 refl k h
+
+parts-past : (k : ℕ) → 48 ≤ k → found (rowIn (table (sortOfKind k)) k) 0 (λ r. length (r .parts)) ≡ length (sortsOf (rowOf k .parts))
+unfolding sortsOf
+parts-past k h = rw (past k h, not-in (table type) tt k h, not-in (table (term ml)) tt k h, not-in (table (term sc)) tt k h)
+
+pub part-count : (w : ℕ) → partCount w ≡ length (sortsOf (rowOf (w % 256) .parts))
+part-count w = by (ltb (w % 256) 48) refl
+  where
+    by : (t : Bool) → ltb (w % 256) 48 ≡ t → partCount w ≡ length (sortsOf (rowOf (w % 256) .parts))
+    by true g = parts-below (w % 256) (ltb-true (w % 256) 48 g)
+    by false g = parts-past (w % 256) (ltb-false (w % 256) 48 g)
+
+-- The lambda with n others between, in the buffer.
+lambda-there : (d : ℕ) (b : List ℕ) (n : ℕ) (l : Lang) → n < d → lambdaAt (around d b) n l ≡ sameLang (langOf (getD b (d - 1 - n) 0)) l
+lambda-there zero b n l h = absurd (omega (arith, h))
+lambda-there (suc d) b zero l h =
+    let e : d ≡ suc d - 1 - 0 = omega arith in
+    ap (λ (i : ℕ). sameLang (langOf (getD b i 0)) l) e
+lambda-there (suc d) b (suc n) l h =
+    let e : d - 1 - n ≡ suc d - 1 - suc n = omega arith in
+    lambda-there d b n l (omega arith) ∙ ap (λ (i : ℕ). sameLang (langOf (getD b i 0)) l) e
+
+no-lambda-there : (d : ℕ) (b : List ℕ) (n : ℕ) (l : Lang) → d ≤ n → lambdaAt (around d b) n l ≡ false
+no-lambda-there zero b n l h = refl
+no-lambda-there (suc d) b zero l h = absurd (omega (arith, h))
+no-lambda-there (suc d) b (suc n) l h = no-lambda-there d b n l (omega arith)
+
+same-ml : (x : ℕ) → sameLang (langOf x) ml ≡ eqb x 2
+same-ml x = by (eqb x 2)
+  where
+    by : (t : Bool) → sameLang (cond t ml sc) ml ≡ t
+    by true = refl
+    by false = refl
+
+not-sc : (x : ℕ) → not (sameLang (langOf x) sc) ≡ eqb x 2
+not-sc x = by (eqb x 2)
+  where
+    by : (t : Bool) → not (sameLang (cond t ml sc) sc) ≡ t
+    by true = refl
+    by false = refl
+
+-- The ways out of the test of a variable.
+module _ (b : List ℕ) (d w : ℕ) (row : code.Row) (is : row ≡ rowOf (w % 256)) where
+  free-by : isFree (around d b) w
+      ≡ cond (eqb (row .shape) 1) (cond (eqb (row .sort) 2) (not (lambdaAt (around d b) (w / 256) ml)) (not (lambdaAt (around d b) (w / 256) sc))) false
+  free-by = by-variable _ _ false (w % 256) ∙ rw is
+
+  pub no-variable : (row .shape ≡ 1 → ⊥) → false ≡ isFree (around d b) w
+  no-variable h = sym (free-by ∙ rw (ne-eqb (row .shape) 1 h))
+
+  module _ (h : row .shape ≡ 1) where
+    pub too-far : d ≤ w / 256 → true ≡ isFree (around d b) w
+    too-far g = sym (free-by ∙ rw (eq-eqb (row .shape) 1 h, no-lambda-there d b (w / 256) ml g, no-lambda-there d b (w / 256) sc g) (both (eqb (row .sort) 2)))
+      where
+        both : (t : Bool) → cond t true true ≡ true
+        both true = refl
+        both false = refl
+
+    pub ml-variable : w / 256 < d → row .sort ≡ 2 → not (eqb (getD b (d - 1 - w / 256) 0) 2) ≡ isFree (around d b) w
+    ml-variable g s = sym (free-by ∙ rw (eq-eqb (row .shape) 1 h, eq-eqb (row .sort) 2 s, lambda-there d b (w / 256) ml g, same-ml (getD b (d - 1 - w / 256) 0)))
+
+    pub scheme-variable : w / 256 < d → (row .sort ≡ 2 → ⊥) → eqb (getD b (d - 1 - w / 256) 0) 2 ≡ isFree (around d b) w
+    scheme-variable g s = sym (free-by ∙ rw (eq-eqb (row .shape) 1 h, ne-eqb (row .sort) 2 s, lambda-there d b (w / 256) sc g) (not-sc (getD b (d - 1 - w / 256) 0)))
+
+-- A store from the depth on changes no lambda around.
+around-set : (d e : ℕ) (b : List ℕ) (v : ℕ) → d ≤ e → around d (set b e v) ≡ around d b
+around-set zero e b v h = refl
+around-set (suc d) e b v h = rw (getD-set-other b e d v 0 (λ p. omega (arith, p)), around-set d e b v (omega arith))
+
+-- What stays around a word's parts stays around the word.
+pub kept-outside : (b b′ c : List ℕ) (d w r : ℕ) → Entered b b′ d w r → around r c ≡ around r b′ → around d c ≡ around d b
+kept-outside b b′ c d w r h e = by (eqb r d) refl ∙ h .kept
+  where
+    by : (t : Bool) → eqb r d ≡ t → around d c ≡ around d b′
+    by true g = rw (eqb-true r d g) at e
+    by false g =
+        let n = eqb-false r d g in
+        let z : r ≡ suc d = omega (arith, h .least, h .most, n) in
+        let k : around (suc d) c ≡ around (suc d) b′ = rw z at e in
+        cc
+
+-- The ways out of noting a lambda.
+module _ (b : List ℕ) (d w : ℕ) (row : code.Row) (is : row ≡ rowOf (w % 256)) where
+  inside-by : inside (around d b) w ≡ cond (eqb (row .shape) 3) (cond (eqb (row .sort) 2) (ml ∷ around d b) (sc ∷ around d b)) (around d b)
+  inside-by = by-lambda _ _ (around d b) (w % 256) ∙ rw is
+
+  pub no-lambda : (row .shape ≡ 3 → ⊥) → Entered b b d w d
+  no-lambda h = record { parts = sym (inside-by ∙ rw (ne-eqb (row .shape) 3 h)); kept = refl; least = omega arith; most = omega arith }
+
+  noted : (v : ℕ) → d < length b → inside (around d b) w ≡ langOf v ∷ around d b → Entered b (set b d v) d w (d + 1)
+  noted v h e =
+      record {
+        parts = rw (add-one d, getD-set-same b d v 0 h, around-set d d b v (omega arith)) (sym e);
+        kept = around-set d d b v (omega arith);
+        least = omega arith;
+        most = omega arith;
+      }
+
+  pub ml-lambda : d < length b → row .shape ≡ 3 → row .sort ≡ 2 → Entered b (set b d 2) d w (d + 1)
+  ml-lambda h g s = noted 2 h (inside-by ∙ rw (eq-eqb (row .shape) 3 g, eq-eqb (row .sort) 2 s))
+
+  pub scheme-lambda : d < length b → row .shape ≡ 3 → (row .sort ≡ 2 → ⊥) → Entered b (set b d 3) d w (d + 1)
+  scheme-lambda h g s = noted 3 h (inside-by ∙ rw (eq-eqb (row .shape) 3 g, ne-eqb (row .sort) 2 s))
