@@ -18,3 +18,9 @@ pub mod Runs
 pub mod Growth
 pub mod Continuing
 pub mod Splices
+pub mod Values
+pub mod Contraction
+pub mod Turns
+pub mod Agreement
+pub mod Substitution
+pub mod Derivations

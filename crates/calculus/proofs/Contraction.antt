@@ -1,0 +1,215 @@
+-- The rules at a node: what `contract` makes of a node that is ready for a rule is exactly what a published rule makes. Assumes nothing.
+use Prim.Native.Nat.{ℕ, _+_}
+use mathlib.Core.Bool.{Bool, true, false, cond}
+use mathlib.Core.Logic.{_↔_, _⊎_, inl, inr}
+use mathlib.Core.Path.{_≡_, refl, ap, subst}
+use lib.Dec.{eqb, leb}
+use native.Mathlib.Omega.{arith}
+use borrow.Author.Tests.{leb-true, leb-false, le-leb, lt-leb, eqb-true, eqb-false, ne-eqb}
+use Rattle.calculus.specs.Trees.{N, L, list, _to_, Lang, ml, sc, Static, numbers, Test, isFun, isList, isNull, isNum, head, tail, fixpoint, empty, testing, apply, plus, minus, pair, Term, var, num, lam, op1, op2, if0, nil, wrong, ms, sm, app, add, sub, cons, hd, tl, fix, null?, test}
+use Rattle.calculus.specs.Words.{largest}
+use Rattle.calculus.specs.Reduction.{isLump, isPair, Form, number, lambda, noItem, items, sealed, other, form, Became, becomes, raises, nothing, onNumber, onLambda, onList, onLump, amiss, third, answer, contract1, onNumbers, contract2, toML, toScheme, contract}
+use Rattle.calculus.specs.Rules.{Value, lamV, numV, nilV, consV, lumpV, Lambda, Number, Nil, Cons, _⊢_⇒_, app-lambda, app-no-lambda, fix-lambda, add-numbers, add-over, add-no-number, sub-numbers, sub-no-number, if0-zero, if0-other, if0-no-number, hd-cons, hd-nil, hd-no-list, tl-cons, tl-nil, tl-no-list, null-nil, null-cons, fun?-lambda, fun?-other, list?-nil, list?-cons, list?-other, null?-nil, null?-other, num?-number, num?-other, ms-number, ms-no-number, ms-nil, ms-cons, ms-no-list, ms-lambda, ms-no-lambda, sm-number, sm-lump, sm-nil, sm-cons, sm-lambda}
+
+-- The node is no value, and the parts of it that evaluation takes are values: nothing stands before its own turn.
+abbrev pub Ready : {l : Lang} → Term l → Type 0
+Ready (var i) = Unit {0}
+Ready (num n) = ⊥
+Ready (lam t b) = ⊥
+Ready (op1 {l} o a) = Value l a
+Ready (op2 {l} o a b) = (isPair o ≡ false) × Value l a × Value l b
+Ready (if0 {l} a b c) = Value l a
+Ready (nil t) = ⊥
+Ready (wrong c t) = Unit {0}
+Ready (ms t a) = (isLump t ≡ false) × Value sc a
+Ready (sm t a) = Value ml a
+
+abbrev tag : {l : Lang} → Form l → ℕ
+tag (number n) = 0
+tag (lambda t b) = 1
+tag (noItem t) = 2
+tag (items v w) = 3
+tag (sealed v) = 4
+tag other = 5
+
+-- A number for a term's form, by which two forms are told apart.
+abbrev pub mark : {l : Lang} → Term l → ℕ
+mark e = tag (form e)
+
+-- A rule looks at the form of a value: it is the one asked for, or it is not. R is what is to be proved of the outcome.
+module _ {m : Lang} (R : Became m → Type 0) (o : Became m) where
+  on-number : {l : Lang} {v : Term l} (k : ℕ → Became m) → Value l v → (¬ Number v → R o) → ((n : ℕ) → v ≡ num n → R (k n))
+      → R (onNumber (form v) o k)
+  unfolding form onNumber
+  on-number k lamV miss fit = miss λ h. omega (arith, ap mark (h .1))
+  on-number k numV miss fit = fit _ refl
+  on-number k nilV miss fit = miss λ h. omega (arith, ap mark (h .1))
+  on-number k (consV a b) miss fit = miss λ h. omega (arith, ap mark (h .1))
+  on-number k (lumpV a) miss fit = miss λ h. omega (arith, ap mark (h .1))
+
+  on-lambda : {l : Lang} {v : Term l} (k : Static l → Term l → Became m) → Value l v → (¬ Lambda v → R o)
+      → ((t : Static l) (b : Term l) → v ≡ lam t b → R (k t b)) → R (onLambda (form v) o k)
+  unfolding form onLambda
+  on-lambda k lamV miss fit = fit _ _ refl
+  on-lambda k numV miss fit = miss λ h. omega (arith, ap mark (h .2))
+  on-lambda k nilV miss fit = miss λ h. omega (arith, ap mark (h .2))
+  on-lambda k (consV a b) miss fit = miss λ h. omega (arith, ap mark (h .2))
+  on-lambda k (lumpV a) miss fit = miss λ h. omega (arith, ap mark (h .2))
+
+  on-list : {l : Lang} {v : Term l} (i : Static l → Became m) (k : Term l → Term l → Became m) → Value l v → (¬ Nil v → ¬ Cons v → R o)
+      → ((t : Static l) → v ≡ nil t → R (i t)) → ((a b : Term l) → Value l a → Value l b → v ≡ cons a b → R (k a b)) → R (onList (form v) o i k)
+  unfolding form onList
+  on-list i k lamV miss none fit = miss (λ h. omega (arith, ap mark (h .1))) (λ h. omega (arith, ap mark (h .2)))
+  on-list i k numV miss none fit = miss (λ h. omega (arith, ap mark (h .1))) (λ h. omega (arith, ap mark (h .2)))
+  on-list i k nilV miss none fit = none _ refl
+  on-list i k (consV a b) miss none fit = fit _ _ a b refl
+  on-list i k (lumpV a) miss none fit = miss (λ h. omega (arith, ap mark (h .1))) (λ h. omega (arith, ap mark (h .2)))
+
+on-numbers : {l : Lang} (R : Became l → Type 0) {v w : Term l} (k : ℕ → ℕ → Became l) → Value l v → Value l w
+    → ((¬ Number v) ⊎ (¬ Number w) → R (amiss l 1)) → ((n m : ℕ) → v ≡ num n → w ≡ num m → R (k n m)) → R (onNumbers l v w k)
+unfolding onNumbers
+on-numbers R k v w miss fit = on-number R _ _ v (λ h. miss (inl h)) (λ n q. on-number R _ _ w (λ h. miss (inr h)) (λ m p. fit n m q p))
+
+-- Where the form is not the one asked for.
+module _ {l m : Lang} {v : Term l} (h : Value l v) (o : Became m) where
+  no-number : (k : ℕ → Became m) → ¬ Number v → onNumber (form v) o k ≡ o
+  no-number k ne = on-number (λ r. r ≡ o) o k h (λ n. refl) (λ n q. absurd (ne (n, q)))
+
+  no-lambda : (k : Static l → Term l → Became m) → ¬ Lambda v → onLambda (form v) o k ≡ o
+  no-lambda k ne = on-lambda (λ r. r ≡ o) o k h (λ n. refl) (λ t b q. absurd (ne (t, b, q)))
+
+  no-list : (i : Static l → Became m) (k : Term l → Term l → Became m) → ¬ Nil v → ¬ Cons v → onList (form v) o i k ≡ o
+  no-list i k nn nc = on-list (λ r. r ≡ o) o i k h (λ n c. refl) (λ t q. absurd (nn (t, q))) (λ a b x y q. absurd (nc (a, b, q)))
+
+no-numbers : {l : Lang} {v w : Term l} (k : ℕ → ℕ → Became l) → Value l v → Value l w → (¬ Number v) ⊎ (¬ Number w)
+    → onNumbers l v w k ≡ amiss l 1
+no-numbers k v w (inl ne) = on-numbers (λ r. r ≡ amiss _ 1) k v w (λ h. refl) (λ n m q p. absurd (ne (n, q)))
+no-numbers k v w (inr ne) = on-numbers (λ r. r ≡ amiss _ 1) k v w (λ h. refl) (λ n m q p. absurd (ne (m, p)))
+
+-- A test does not hold of a value.
+abbrev Fails : Test → Term sc → Type 0
+Fails isFun v = ¬ Lambda v
+Fails isList v = (¬ Nil v) × (¬ Cons v)
+Fails isNull v = ¬ Nil v
+Fails isNum v = ¬ Number v
+
+-- The answer is a rule's, and 1 where the test does not hold.
+answered : (k : Test) {v : Term sc} → Value sc v → (sc ⊢ test k v ⇒ num (answer k (form v))) × (Fails k v → answer k (form v) ≡ 1)
+unfolding form answer
+answered isFun lamV = (fun?-lambda, λ h. absurd (h (_, _, refl)))
+answered isFun {v} numV = (fun?-other {v = v} numV (λ h. omega (arith, ap mark (h .2))), λ h. refl)
+answered isFun {v} nilV = (fun?-other {v = v} nilV (λ h. omega (arith, ap mark (h .2))), λ h. refl)
+answered isFun {v} (consV a b) = (fun?-other {v = v} (consV a b) (λ h. omega (arith, ap mark (h .2))), λ h. refl)
+answered isList {v} lamV = (list?-other {v = v} lamV (λ h. omega (arith, ap mark (h .1))) (λ h. omega (arith, ap mark (h .2))), λ h. refl)
+answered isList {v} numV = (list?-other {v = v} numV (λ h. omega (arith, ap mark (h .1))) (λ h. omega (arith, ap mark (h .2))), λ h. refl)
+answered isList nilV = (list?-nil, λ h. absurd (h .0 (_, refl)))
+answered isList (consV a b) = (list?-cons a b, λ h. absurd (h .1 (_, _, refl)))
+answered isNull {v} lamV = (null?-other {v = v} lamV (λ h. omega (arith, ap mark (h .1))), λ h. refl)
+answered isNull {v} numV = (null?-other {v = v} numV (λ h. omega (arith, ap mark (h .1))), λ h. refl)
+answered isNull nilV = (null?-nil, λ h. absurd (h (_, refl)))
+answered isNull {v} (consV a b) = (null?-other {v = v} (consV a b) (λ h. omega (arith, ap mark (h .1))), λ h. refl)
+answered isNum {v} lamV = (num?-other {v = v} lamV (λ h. omega (arith, ap mark (h .1))), λ h. refl)
+answered isNum numV = (num?-number, λ h. absurd (h (_, refl)))
+answered isNum {v} nilV = (num?-other {v = v} nilV (λ h. omega (arith, ap mark (h .1))), λ h. refl)
+answered isNum {v} (consV a b) = (num?-other {v = v} (consV a b) (λ h. omega (arith, ap mark (h .1))), λ h. refl)
+
+-- What is computed at a node is a rule's outcome; or the node is a wrong; or it is nothing.
+abbrev pub Ruled : {l : Lang} → Term l → Became l → Type 0
+Ruled {l} e (becomes r) = l ⊢ e ⇒ r
+Ruled {l} e (raises c) = (t : Static l) × (e ≡ wrong c t)
+Ruled e nothing = Unit {0}
+
+sum-ruled : {l : Lang} (n m : ℕ) (x : Bool) → leb (n + m) largest ≡ x → l ⊢ add (num n) (num m) ⇒ cond x (num (n + m)) (wrong 5 (numbers l))
+sum-ruled n m true q = add-numbers (leb-true (n + m) largest q)
+sum-ruled n m false q = add-over (leb-false (n + m) largest q)
+
+zero-ruled : {l : Lang} (n : ℕ) (a b : Term l) (x : Bool) → eqb n 0 ≡ x → l ⊢ if0 (num n) a b ⇒ cond x a b
+zero-ruled n a b true q = rw (eqb-true n 0 q) if0-zero
+zero-ruled n a b false q = if0-other (eqb-false n 0 q)
+
+-- So it is at every node that is ready.
+pub contract-ruled : {l : Lang} (e : Term l) → Ready e → Ruled e (contract e)
+unfolding contract contract1 contract2 toML toScheme form onLump amiss third
+contract-ruled (var i) h = tt
+contract-ruled (num n) h = tt
+contract-ruled (lam t b) h = tt
+contract-ruled (op1 (head {l = ml}) v) h = on-list (Ruled (hd v)) _ _ _ h (λ n c. tt) (λ t q. rw q hd-nil) (λ a b x y q. rw q (hd-cons x y))
+contract-ruled (op1 (head {l = sc}) v) h = on-list (Ruled (hd v)) _ _ _ h (hd-no-list h) (λ t q. rw q hd-nil) (λ a b x y q. rw q (hd-cons x y))
+contract-ruled (op1 (tail {l = ml}) v) h = on-list (Ruled (tl v)) _ _ _ h (λ n c. tt) (λ t q. rw q tl-nil) (λ a b x y q. rw q (tl-cons x y))
+contract-ruled (op1 (tail {l = sc}) v) h = on-list (Ruled (tl v)) _ _ _ h (tl-no-list h) (λ t q. rw q tl-nil) (λ a b x y q. rw q (tl-cons x y))
+contract-ruled (op1 fixpoint v) h = on-lambda (Ruled (fix v)) _ _ h (λ n. tt) (λ t b q. rw q fix-lambda)
+contract-ruled (op1 empty v) h = on-list (Ruled (null? v)) _ _ _ h (λ n c. tt) (λ t q. rw q null-nil) (λ a b x y q. rw q (null-cons x y))
+contract-ruled (op1 (testing k) v) h = answered k h .0
+contract-ruled (op2 {l = ml} apply v w) h = on-lambda (Ruled (app v w)) _ _ (h .1) (λ n. tt) (λ t b q. rw q (app-lambda (h .2)))
+contract-ruled (op2 {l = sc} apply v w) h = on-lambda (Ruled (app v w)) _ _ (h .1) (app-no-lambda (h .1) (h .2)) (λ t b q. rw q (app-lambda (h .2)))
+contract-ruled (op2 {l = ml} plus v w) h = on-numbers (Ruled (add v w)) _ (h .1) (h .2) (λ n. tt) (λ n m q p. rw (q, p) (sum-ruled n m _ refl))
+contract-ruled (op2 {l = sc} plus v w) h =
+    on-numbers (Ruled (add v w)) _ (h .1) (h .2) (add-no-number (h .1) (h .2)) (λ n m q p. rw (q, p) (sum-ruled n m _ refl))
+contract-ruled (op2 {l = ml} minus v w) h = on-numbers (Ruled (sub v w)) _ (h .1) (h .2) (λ n. tt) (λ n m q p. rw (q, p) sub-numbers)
+contract-ruled (op2 {l = sc} minus v w) h =
+    on-numbers (Ruled (sub v w)) _ (h .1) (h .2) (sub-no-number (h .1) (h .2)) (λ n m q p. rw (q, p) sub-numbers)
+contract-ruled (op2 pair v w) h = tt
+contract-ruled (if0 {l = ml} v b c) h = on-number (Ruled (if0 v b c)) _ _ h (λ n. tt) (λ n q. rw q (zero-ruled n b c _ refl))
+contract-ruled (if0 {l = sc} v b c) h = on-number (Ruled (if0 v b c)) _ _ h (if0-no-number h) (λ n q. rw q (zero-ruled n b c _ refl))
+contract-ruled (nil t) h = tt
+contract-ruled (wrong c t) h = (t, refl)
+contract-ruled (ms N v) h = on-number (Ruled (ms N v)) _ _ (h .1) (ms-no-number (h .1)) (λ n q. rw q ms-number)
+contract-ruled (ms L v) h = tt
+contract-ruled (ms (list t) v) h =
+    on-list (Ruled (ms (list t) v)) _ _ _ (h .1) (ms-no-list (h .1)) (λ u q. rw q ms-nil) (λ a b x y q. rw q (ms-cons x y))
+contract-ruled (ms (t to u) v) h = on-lambda (Ruled (ms (t to u) v)) _ _ (h .1) (ms-no-lambda (h .1)) (λ s b q. rw q ms-lambda)
+contract-ruled (sm N v) h = on-number (Ruled (sm N v)) _ _ h (λ n. tt) (λ n q. rw q sm-number)
+contract-ruled (sm L v) lamV = tt
+contract-ruled (sm L v) numV = tt
+contract-ruled (sm L v) nilV = tt
+contract-ruled (sm L v) (consV a b) = tt
+contract-ruled (sm L v) (lumpV a) = sm-lump a
+contract-ruled (sm (list t) v) h = on-list (Ruled (sm (list t) v)) _ _ _ h (λ n c. tt) (λ u q. rw q sm-nil) (λ a b x y q. rw q (sm-cons x y))
+contract-ruled (sm (t to u) v) h = on-lambda (Ruled (sm (t to u) v)) _ _ h (λ n. tt) (λ s b q. rw q sm-lambda)
+
+rule-made : {l : Lang} {e r : Term l} → l ⊢ e ⇒ r → Ready e × (contract e ≡ becomes r)
+unfolding contract contract1 contract2 toML toScheme onNumbers onNumber onLambda onList onLump form amiss third answer
+rule-made (app-lambda u) = ((refl, lamV, u), refl)
+rule-made (app-no-lambda f u ne) = ((refl, f, u), no-lambda f _ _ ne)
+rule-made fix-lambda = (lamV, refl)
+rule-made (add-numbers {n = n} {m = m} h) = ((refl, numV, numV), rw (le-leb (n + m) largest h))
+rule-made (add-over {n = n} {m = m} h) = ((refl, numV, numV), rw (lt-leb (n + m) largest h))
+rule-made (add-no-number v w ne) = ((refl, v, w), no-numbers _ v w ne)
+rule-made sub-numbers = ((refl, numV, numV), refl)
+rule-made (sub-no-number v w ne) = ((refl, v, w), no-numbers _ v w ne)
+rule-made if0-zero = (numV, refl)
+rule-made (if0-other {n = n} h) = (numV, rw (ne-eqb n 0 h))
+rule-made (if0-no-number v ne) = (v, no-number v _ _ ne)
+rule-made (hd-cons v w) = (consV v w, refl)
+rule-made hd-nil = (nilV, refl)
+rule-made (hd-no-list v nn nc) = (v, no-list v _ _ _ nn nc)
+rule-made (tl-cons v w) = (consV v w, refl)
+rule-made tl-nil = (nilV, refl)
+rule-made (tl-no-list v nn nc) = (v, no-list v _ _ _ nn nc)
+rule-made null-nil = (nilV, refl)
+rule-made (null-cons v w) = (consV v w, refl)
+rule-made fun?-lambda = (lamV, refl)
+rule-made (fun?-other v ne) = (v, rw (answered isFun v .1 ne))
+rule-made list?-nil = (nilV, refl)
+rule-made (list?-cons v w) = (consV v w, refl)
+rule-made (list?-other v nn nc) = (v, rw (answered isList v .1 (nn, nc)))
+rule-made null?-nil = (nilV, refl)
+rule-made (null?-other v ne) = (v, rw (answered isNull v .1 ne))
+rule-made num?-number = (numV, refl)
+rule-made (num?-other v ne) = (v, rw (answered isNum v .1 ne))
+rule-made ms-number = ((refl, numV), refl)
+rule-made (ms-no-number v ne) = ((refl, v), no-number v _ _ ne)
+rule-made ms-nil = ((refl, nilV), refl)
+rule-made (ms-cons v w) = ((refl, consV v w), refl)
+rule-made (ms-no-list v nn nc) = ((refl, v), no-list v _ _ _ nn nc)
+rule-made ms-lambda = ((refl, lamV), refl)
+rule-made (ms-no-lambda v ne) = ((refl, v), no-lambda v _ _ ne)
+rule-made sm-number = (numV, refl)
+rule-made (sm-lump v) = (lumpV v, refl)
+rule-made sm-nil = (nilV, refl)
+rule-made (sm-cons v w) = (consV v w, refl)
+rule-made sm-lambda = (lamV, refl)
+
+-- A rule applies exactly to a node that is ready, and makes what is computed.
+pub rule-iff : {l : Lang} (e r : Term l) → (Ready e × (contract e ≡ becomes r)) ↔ (l ⊢ e ⇒ r)
+rule-iff e r = (λ h. subst (Ruled e) (h .1) (contract-ruled e (h .0)), rule-made)
