@@ -9,6 +9,7 @@ pub mod Nodes
 pub mod Scopes
 pub mod Recipes
 pub mod Inference
+pub mod Faults
 pub mod Typing
 pub mod Forms
 pub mod Soundness

@@ -1,9 +1,10 @@
 -- The words of a tree and then k are its own words, as many as its size, and then k. Assumes nothing.
 use Prim.Native.Nat.{ℕ, _+_}
 use mathlib.Core.List.{List, [], _∷_, _++_}
-use mathlib.Core.Path.{_≡_, refl, ap, _∙_}
+use mathlib.Core.Path.{_≡_, refl, sym, ap, _∙_}
 use lib.ListN.{length, take, drop}
-use lib.Seq.{take-at, drop-at}
+use lib.Seq.{take-at, drop-at, drop-drop}
+use native.Mathlib.Nat.{add-zero}
 use native.Mathlib.Omega.{arith}
 use Rattle.calculus.specs.Trees.{Ty, N, L, list, _to_, Lang, ml, sc, Static, Term, var, num, lam, op1, op2, if0, nil, wrong, ms, sm}
 use Rattle.calculus.specs.Words.{put, putTy, putStatic, size, sizeTy, sizeStatic}
@@ -88,3 +89,14 @@ take-tree s t k =
 pub drop-tree : (s : Sort) (t : Tree s) (k : List ℕ) → drop (sizeTree s t) (putTree s t k) ≡ k
 drop-tree s t k =
     ap (drop (sizeTree s t)) (tree-append s t [] k) ∙ drop-at (putTree s t []) k (sizeTree s t) (omega (arith, tree-length s t []))
+
+-- Past a word, and past a tree, that stands at a place.
+pub past-word : (p w : ℕ) (ws k : List ℕ) → drop p ws ≡ w ∷ k → drop (p + 1) ws ≡ k
+past-word p w ws k q = sym (drop-drop 1 p ws) ∙ ap (drop 1) q
+
+pub past-tree : (s : Sort) (t : Tree s) (p : ℕ) (ws k : List ℕ) → drop p ws ≡ putTree s t k → drop (p + sizeTree s t) ws ≡ k
+past-tree s t p ws k q = sym (drop-drop (sizeTree s t) p ws) ∙ ap (drop (sizeTree s t)) q ∙ drop-tree s t k
+
+pub past-static : (l : Lang) (t : Static l) (p : ℕ) (ws k : List ℕ) → drop p ws ≡ putStatic l t k → drop (p + sizeStatic l t) ws ≡ k
+past-static ml t p ws k q = past-tree type t p ws k q
+past-static sc t p ws k q = rw add-zero q

@@ -7,6 +7,7 @@ pub mod Reading
 pub mod Scope
 pub mod Typing
 pub mod Inference
+pub mod Faults
 pub mod Reduction
 pub mod Rules
 pub mod Substitution
