@@ -45,7 +45,8 @@ decided-iff : {A : Type 0} (d : Dec A) → (decided d ≡ true) ↔ A
 decided-iff (yes p) = (λ q. p, λ a. refl)
 decided-iff (no p) = (λ q. absurd (false≢true q), λ a. absurd (p a))
 
-same-iff : (l : Lang) (t u : Static l) → (sameType l t u ≡ true) ↔ (t ≡ u)
+-- Types are the same exactly if the comparison says so.
+pub same-iff : (l : Lang) (t u : Static l) → (sameType l t u ≡ true) ↔ (t ≡ u)
 same-iff ml t u = decided-iff (Ty-discrete t u)
 same-iff sc t u = (λ q. refl, λ q. refl)
 

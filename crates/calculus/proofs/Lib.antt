@@ -10,6 +10,8 @@ pub mod Scopes
 pub mod Recipes
 pub mod Inference
 pub mod Faults
+pub mod Files
+pub mod Checks
 pub mod Typing
 pub mod Forms
 pub mod Soundness

@@ -13,4 +13,5 @@ pub mod Rules
 pub mod Substitution
 pub mod Run
 pub mod File
+pub mod Accepted
 pub mod Recipes
