@@ -27,3 +27,4 @@ pub mod Turns
 pub mod Agreement
 pub mod Substitution
 pub mod Derivations
+pub mod Demands

@@ -14,4 +14,5 @@ pub mod Substitution
 pub mod Run
 pub mod File
 pub mod Accepted
+pub mod Demands
 pub mod Recipes
