@@ -1,5 +1,5 @@
--- The fault of a term that has no type: "the lowest-numbered node that has no type, or is not well formed, while all its own parts are in
--- order".
+-- The fault of a term that has no type, of document 02, "Point at the mismatch": "the lowest-numbered node that has no type, or is not well
+-- formed, while all its own parts are in order". proofs/Faults.antt says that `fault` is its place.
 use Prim.Native.Nat.{ℕ, _+_, _≤_}
 use mathlib.Core.List.{List, [], _∷_}
 use mathlib.Core.Path.{_≡_}

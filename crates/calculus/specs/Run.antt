@@ -10,7 +10,7 @@ use Rattle.calculus.specs.Reduction.{Outcome, value, raised, next, stuck
 pub data End : Type 0 where
   valued spent error full : End
 
--- The ends that no limit and no capacity bring about.
+-- "ends as a value or an error": the ends that no limit and no capacity bring about.
 abbrev pub Final : End → Type 0
 Final valued = Unit {0}
 Final spent = ⊥
