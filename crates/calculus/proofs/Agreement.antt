@@ -1,5 +1,5 @@
 -- The reduction computed is the reduction published, of every term, typed or not. Assumes nothing.
-use Prim.Native.Nat.{ℕ, suc}
+use Prim.Native.Nat.{ℕ}
 use mathlib.Core.Logic.{_↔_}
 use mathlib.Core.Path.{_≡_, refl, ap, subst, _∙_}
 use native.Mathlib.Omega.{arith}
@@ -90,8 +90,3 @@ stuck-iff e = (
   ),
   λ h. none-stuck e (step e) h (step-published e),
 )
-
--- n steps from one term to another.
-pub data Steps {l : Lang} : ℕ → Term l → Term l → Type 0 where
-  stay : {e : Term l} → Steps 0 e e
-  then : {n : ℕ} {e f r : Term l} → e ⟶ f → Steps n f r → Steps (suc n) e r

@@ -1,15 +1,16 @@
 -- A run that was spent or full, gone on with from its last term, is the run under the summed limit; and a run's count of steps is the
 -- reduction's own. Assumes nothing.
-use Prim.Native.Nat.{ℕ, zero, suc, _+_, _≤_}
+use Prim.Native.Nat.{ℕ, suc, _+_, _≤_}
 use mathlib.Core.List.{List, []}
-use mathlib.Core.Option.{Option, none, some}
 use mathlib.Core.Path.{_≡_, refl, sym, _∙_}
 use native.Mathlib.Nat.{suc-add, zero-add, add-zero, add-suc}
 use native.Mathlib.Omega.{arith}
-use Rattle.calculus.specs.Trees.{Lang, ml, Term}
+use Rattle.calculus.specs.Trees.{ml, Term}
 use Rattle.calculus.specs.Words.{words, size}
-use Rattle.calculus.specs.Reduction.{Outcome, value, raised, next, stuck, step}
+use Rattle.calculus.specs.Reduction.{next, step}
+use Rattle.calculus.specs.Rules.{Steps, stay, then}
 use Rattle.calculus.specs.Run.{End, valued, spent, error, full, Counts, uncounted, Result, ended, run}
+use Rattle.calculus.proofs.Agreement.{next-iff}
 use Rattle.calculus.proofs.Runs.{lastTerm, Ran, at-value, at-limit, at-error, at-full, at-stuck, by-step, run-ran, run-value, run-next, run-full}
 
 -- The words left, by the end: those of the last term, but none after an error.
@@ -93,17 +94,6 @@ pub run-keeps : (k cap : ℕ) (e : Term ml) (P : Term ml → Type 0) → ((e r :
     → P e → P (lastTerm k cap e)
 run-keeps k cap e P s h = ran-keeps P s (run-ran k cap uncounted e) h
 
--- The term after n steps of the reduction, if there are so many.
-abbrev follow : {l : Lang} → Outcome l → (Term l → Option (Term l)) → Option (Term l)
-follow value go = none
-follow (raised c) go = none
-follow (next r) go = go r
-follow stuck go = none
-
-unfoldable pub after : {l : Lang} → ℕ → Term l → Option (Term l)
-after zero e = some e
-after (suc n) e = follow (step e) (λ r. after n r)
-
 -- An error has a step of its own.
 abbrev pub ownStep : End → ℕ
 ownStep valued = 0
@@ -111,20 +101,21 @@ ownStep spent = 0
 ownStep error = 1
 ownStep full = 0
 
--- The run of e came to t in the steps that it counted, but for an error's own.
+-- The run of e came to t in as many steps of the published reduction as it counted, but for an error's own.
 pub record StepCount (made : Counts) (e t : Term ml) (x : Result) : Type 0 where
   pub count : ℕ
-  pub reached : after count e ≡ some t
+  pub reached : Steps count e t
   pub adds : x .made .steps ≡ made .steps + count + ownStep (x .end)
 
 ran-counted : {cap k : ℕ} {made : Counts} {e t : Term ml} {x : Result} → Ran cap k made e x t → StepCount made e t x
-unfolding after
-ran-counted (at-value q) = record { count = 0; reached = refl; adds = omega arith }
-ran-counted (at-limit q) = record { count = 0; reached = refl; adds = omega arith }
-ran-counted (at-error q) = record { count = 0; reached = refl; adds = omega arith }
-ran-counted (at-full q c) = record { count = 0; reached = refl; adds = omega arith }
-ran-counted (at-stuck q) = record { count = 0; reached = refl; adds = omega arith }
-ran-counted (by-step q c p) = let h = ran-counted p in record { count = suc (h .count); reached = rw q (h .reached); adds = omega (arith, h .adds) }
+ran-counted (at-value q) = record { count = 0; reached = stay; adds = omega arith }
+ran-counted (at-limit q) = record { count = 0; reached = stay; adds = omega arith }
+ran-counted (at-error q) = record { count = 0; reached = stay; adds = omega arith }
+ran-counted (at-full q c) = record { count = 0; reached = stay; adds = omega arith }
+ran-counted (at-stuck q) = record { count = 0; reached = stay; adds = omega arith }
+ran-counted (by-step {e = e} {r} q c p) =
+    let h = ran-counted p in
+    record { count = suc (h .count); reached = then (next-iff e r .0 q) (h .reached); adds = omega (arith, h .adds) }
 
 -- A run's count of steps is the reduction's own.
 pub run-counted : (k cap : ℕ) (made : Counts) (e : Term ml) → StepCount made e (lastTerm k cap e) (run k cap made e)

@@ -3,9 +3,8 @@ use mathlib.Core.Path.{ap}
 use native.Mathlib.Omega.{arith}
 use Rattle.calculus.specs.Trees.{N, L, list, _to_, Lang, ml, apply, plus, pair, Term, var, num, lam, if0, nil, wrong, ms, sm, app, add, cons, fix}
 use Rattle.calculus.specs.Reduction.{substitute, form, first, second, intoML, here, within, fill}
-use Rattle.calculus.specs.Rules.{lamV, numV, nilV, _⊢_⇒_, app-lambda, fix-lambda, if0-no-number, ms-number, ms-cons, ms-no-list, ms-lambda, sm-number, sm-lump, _⟶_, by-rule, Raises, by-wrong}
+use Rattle.calculus.specs.Rules.{lamV, numV, nilV, _⊢_⇒_, app-lambda, fix-lambda, if0-no-number, ms-number, ms-cons, ms-no-list, ms-lambda, sm-number, sm-lump, _⟶_, by-rule, Steps, stay, then, Raises, by-wrong}
 use Rattle.calculus.proofs.Contraction.{mark}
-use Rattle.calculus.proofs.Agreement.{Steps, stay, then}
 
 at-root : {l : Lang} {e r : Term l} → l ⊢ e ⇒ r → e ⟶ r
 unfolding fill

@@ -3,15 +3,8 @@ use Prim.Native.Nat.{ℕ, zero, suc, _≤_}
 use mathlib.Core.Path.{_≡_, _∙_}
 use native.Mathlib.Omega.{arith}
 use Rattle.calculus.specs.Trees.{ml, Term}
-use Rattle.calculus.specs.Run.{End, valued, spent, error, full, Counts, Result, run}
+use Rattle.calculus.specs.Run.{Counts, Result, run, Final}
 use Rattle.calculus.proofs.Runs.{Ran, at-value, at-limit, at-error, at-full, at-stuck, by-step, run-ran, run-value, run-next}
-
--- The ends that no limit and no capacity bring about.
-abbrev pub Final : End → Type 0
-Final valued = Unit {0}
-Final spent = ⊥
-Final error = Unit {0}
-Final full = ⊥
 
 ran-more : {cap k : ℕ} {made : Counts} {e t : Term ml} {x : Result} → Ran cap k made e x t → (k′ cap′ : ℕ) → k ≤ k′ → cap ≤ cap′ → Final (x .end)
     → run k′ cap′ made e ≡ x

@@ -1,45 +1,32 @@
 -- Inference agrees with the typing exactly, so that a term has at most one type. Assumes nothing.
 use Prim.Native.Nat.{ℕ, zero, suc}
-use mathlib.Core.Bool.{Bool, true, false, cond}
+use mathlib.Core.Bool.{Bool, true, false, cond, false≢true}
 use mathlib.Core.List.{[], _∷_}
 use mathlib.Core.Logic.{_↔_}
-use mathlib.Core.Option.{Option, none, some}
+use mathlib.Core.Option.{Option, none, some, Option·some-injective, Option·none-ne-some}
 use mathlib.Core.Path.{_≡_, refl, sym, ap, _∙_}
-use native.Mathlib.Omega.{arith}
 use Rattle.calculus.specs.Trees.{N, L, list, _to_, Ty-discrete, Lang, ml, sc, Static, numbers, lists, functions, Op1, head, tail, fixpoint, empty, testing, Op2, apply, plus, minus, pair, Term, var, num, lam, op1, op2, if0, nil, wrong, ms, sm}
 use Rattle.calculus.specs.Verdicts.{found}
 use Rattle.calculus.specs.Typing.{Entry, of, Lambdas, At, Rule1, Rule2, Typed}
 use Rattle.calculus.specs.Inference.{decided, sameType, entryType, typeAt, element, sides, result1, sumType, result2, infer}
+use Rattle.calculus.proofs.Verdicts.{found-some}
 
 -- The answer o is the one thing that P holds of, or there is none.
 record Exactly {A : Type 0} (P : A → Type 0) (o : Option A) : Type 0 where
   right : (a : A) → o ≡ some a → P a
   whole : (a : A) → P a → o ≡ some a
 
-none-some : {A : Type 0} {a : A} → _≡_ {A = Option A} none (some a) → ⊥
-none-some q = let z : _≡_ {A = ℕ} 0 1 = cc in omega arith
-
-false-true : false ≡ true → ⊥
-false-true q = let z : _≡_ {A = ℕ} 0 1 = cc in omega arith
-
-some-inj : {A : Type 0} {a b : A} → some a ≡ some b → b ≡ a
-some-inj q = cc
-
 module _ {A : Type 0} where
   some-exactly : {a : A} → Exactly (λ b. b ≡ a) (some a)
-  some-exactly = record { right = λ b q. some-inj q; whole = λ b q. ap some (sym q) }
+  some-exactly = record { right = λ b q. sym (Option·some-injective _ b q); whole = λ b q. ap some (sym q) }
 
   none-exactly : {P : A → Type 0} → ((a : A) → P a → none ≡ some a) → Exactly P none
-  none-exactly h = record { right = λ a q. absurd (none-some q); whole = h }
+  none-exactly h = record { right = λ a q. absurd (Option·none-ne-some a q); whole = h }
 
   iff-exactly : {P Q : A → Type 0} {o : Option A} → Exactly P o → ((a : A) → P a ↔ Q a) → Exactly Q o
   iff-exactly h k = record { right = λ a q. k a .0 (h .right a q); whole = λ a q. h .whole a (k a .1 q) }
 
   -- The whole's answer goes by that of a part.
-  found-some : {B : Type 0} (o : Option A) (f : A → Option B) (b : B) → found o none f ≡ some b → (a : A) × (o ≡ some a) × (f a ≡ some b)
-  found-some none f b q = absurd (none-some q)
-  found-some (some a) f b q = (a, refl, q)
-
   found-exactly : {B : Type 0} {P : A → Type 0} {Q : A → B → Type 0} {o : Option A} {f : A → Option B}
       → Exactly P o → ((a : A) → Exactly (Q a) (f a)) → Exactly (λ b. (a : A) × P a × Q a b) (found o none f)
   found-exactly {o = o} {f} h k =
@@ -52,13 +39,14 @@ module _ {A : Type 0} where
   cond-exactly : {C : Type 0} {P : A → Type 0} (b : Bool) {o : Option A} → (b ≡ true) ↔ C → Exactly P o
       → Exactly (λ a. C × P a) (cond b o none)
   cond-exactly true c h = record { right = λ a q. (c .0 refl, h .right a q); whole = λ a p. h .whole a (p .1) }
-  cond-exactly false c h = record { right = λ a q. absurd (none-some q); whole = λ a p. absurd (false-true (c .1 (p .0))) }
+  cond-exactly false c h = record { right = λ a q. absurd (Option·none-ne-some a q); whole = λ a p. absurd (false≢true (c .1 (p .0))) }
 
 decided-iff : {A : Type 0} (d : Dec A) → (decided d ≡ true) ↔ A
 decided-iff (yes p) = (λ q. p, λ a. refl)
-decided-iff (no p) = (λ q. absurd (false-true q), λ a. absurd (p a))
+decided-iff (no p) = (λ q. absurd (false≢true q), λ a. absurd (p a))
 
-same-iff : (l : Lang) (t u : Static l) → (sameType l t u ≡ true) ↔ (t ≡ u)
+-- Types are the same exactly if the comparison says so.
+pub same-iff : (l : Lang) (t u : Static l) → (sameType l t u ≡ true) ↔ (t ≡ u)
 same-iff ml t u = decided-iff (Ty-discrete t u)
 same-iff sc t u = (λ q. refl, λ q. refl)
 
@@ -73,8 +61,8 @@ entry-own sc τ = refl
 
 entry-some : (l : Lang) (x : Entry) (τ : Static l) → entryType l x ≡ some τ → x ≡ of l τ
 entry-some ml (of ml t) τ q = cc
-entry-some ml (of sc t) τ q = absurd (none-some q)
-entry-some sc (of ml t) τ q = absurd (none-some q)
+entry-some ml (of sc t) τ q = absurd (Option·none-ne-some τ q)
+entry-some sc (of ml t) τ q = absurd (Option·none-ne-some τ q)
 entry-some sc (of sc t) τ q = refl
 
 at-exactly : (l : Lang) (Γ : Lambdas) (i : ℕ) → Exactly (λ τ. At Γ i l τ) (typeAt l Γ i)
@@ -150,4 +138,4 @@ infer-iff Γ e τ = (infer-exactly Γ e .right τ, infer-exactly Γ e .whole τ)
 
 -- "Each ML term has at most one type".
 pub one-type : {l : Lang} (Γ : Lambdas) (e : Term l) (τ σ : Static l) → Typed Γ e τ → Typed Γ e σ → τ ≡ σ
-one-type Γ e τ σ h k = some-inj (sym (infer-iff Γ e σ .1 k) ∙ infer-iff Γ e τ .1 h)
+one-type Γ e τ σ h k = Option·some-injective τ σ (sym (infer-iff Γ e τ .1 h) ∙ infer-iff Γ e σ .1 k)

@@ -1,3 +1,4 @@
+-- words and trees
 pub mod Verdicts
 pub mod Sizes
 pub mod Walks
@@ -7,20 +8,27 @@ pub mod Reading
 pub mod Nesting
 pub mod Nodes
 pub mod Scopes
-pub mod Recipes
+-- typing
 pub mod Inference
 pub mod Typing
-pub mod Forms
-pub mod Soundness
-pub mod Places
-pub mod Ranges
-pub mod Runs
-pub mod Growth
-pub mod Continuing
-pub mod Splices
+pub mod Faults
+-- reduction
 pub mod Values
+pub mod Forms
 pub mod Contraction
 pub mod Turns
+pub mod Places
 pub mod Agreement
 pub mod Substitution
 pub mod Derivations
+pub mod Soundness
+pub mod Ranges
+pub mod Splices
+-- runs and files
+pub mod Runs
+pub mod Growth
+pub mod Continuing
+pub mod Files
+pub mod Checks
+pub mod Demands
+pub mod Recipes

@@ -1,12 +1,13 @@
 -- The words of a tree and then k are its own words, as many as its size, and then k. Assumes nothing.
-use Prim.Native.Nat.{ℕ, suc, _+_}
+use Prim.Native.Nat.{ℕ, _+_}
 use mathlib.Core.List.{List, [], _∷_, _++_}
-use mathlib.Core.Path.{_≡_, refl, ap, _∙_}
+use mathlib.Core.Path.{_≡_, refl, sym, ap, _∙_}
 use lib.ListN.{length, take, drop}
-use lib.Seq.{take-at, drop-at}
+use lib.Seq.{take-at, drop-at, drop-drop}
+use native.Mathlib.Nat.{add-zero}
 use native.Mathlib.Omega.{arith}
 use Rattle.calculus.specs.Trees.{Ty, N, L, list, _to_, Lang, ml, sc, Static, Term, var, num, lam, op1, op2, if0, nil, wrong, ms, sm}
-use Rattle.calculus.specs.Words.{put, putTy, putStatic, size, sizeTy, sizeStatic, word, by, word1, word2}
+use Rattle.calculus.specs.Words.{put, putTy, putStatic, size, sizeTy, sizeStatic}
 use Rattle.calculus.specs.Kinds.{Sort, type, term, Tree, Trees, putTree, putTrees}
 
 -- What follows a tree's words may be cut anywhere.
@@ -14,8 +15,8 @@ pub putTy-append : (t : Ty) (j k : List ℕ) → putTy t (j ++ k) ≡ putTy t j 
 unfolding putTy
 putTy-append N j k = refl
 putTy-append L j k = refl
-putTy-append (list t) j k = ap (λ (l : List ℕ). 3 ∷ l) (putTy-append t j k)
-putTy-append (t to u) j k = ap (λ (l : List ℕ). 4 ∷ l) (ap (putTy t) (putTy-append u j k) ∙ putTy-append t (putTy u j) k)
+putTy-append (list t) j k = rw (putTy-append t j k)
+putTy-append (t to u) j k = rw (putTy-append u j k, putTy-append t (putTy u j) k)
 
 static-append : (l : Lang) (t : Static l) (j k : List ℕ) → putStatic l t (j ++ k) ≡ putStatic l t j ++ k
 static-append ml t j k = putTy-append t j k
@@ -25,16 +26,14 @@ pub put-append : {l : Lang} (e : Term l) (j k : List ℕ) → put e (j ++ k) ≡
 unfolding put
 put-append (var i) j k = refl
 put-append (num n) j k = refl
-put-append (lam {l} t b) j k = ap (λ (x : List ℕ). by l 18 34 ∷ x) (ap (putStatic l t) (put-append b j k) ∙ static-append l t (put b j) k)
-put-append (op1 o a) j k = ap (λ (x : List ℕ). word1 o ∷ x) (put-append a j k)
-put-append (op2 {l} o a b) j k = ap (λ (x : List ℕ). word2 l o ∷ x) (ap (put a) (put-append b j k) ∙ put-append a (put b j) k)
-put-append (if0 {l} a b c) j k =
-    ap (λ (x : List ℕ). by l 23 38 ∷ x)
-    (ap (λ (x : List ℕ). put a (put b x)) (put-append c j k) ∙ ap (put a) (put-append b (put c j) k) ∙ put-append a (put b (put c j)) k)
-put-append (nil {l} t) j k = ap (λ (x : List ℕ). by l 24 39 ∷ x) (static-append l t j k)
-put-append (wrong {l} c t) j k = ap (λ (x : List ℕ). word (by l 29 44) c ∷ x) (static-append l t j k)
-put-append (ms t a) j k = ap (λ (x : List ℕ). 30 ∷ x) (ap (putTy t) (put-append a j k) ∙ putTy-append t (put a j) k)
-put-append (sm t a) j k = ap (λ (x : List ℕ). 45 ∷ x) (ap (putTy t) (put-append a j k) ∙ putTy-append t (put a j) k)
+put-append (lam {l} t b) j k = rw (put-append b j k, static-append l t (put b j) k)
+put-append (op1 o a) j k = rw (put-append a j k)
+put-append (op2 o a b) j k = rw (put-append b j k, put-append a (put b j) k)
+put-append (if0 a b c) j k = rw (put-append c j k, put-append b (put c j) k, put-append a (put b (put c j)) k)
+put-append (nil {l} t) j k = rw (static-append l t j k)
+put-append (wrong {l} c t) j k = rw (static-append l t j k)
+put-append (ms t a) j k = rw (put-append a j k, putTy-append t (put a j) k)
+put-append (sm t a) j k = rw (put-append a j k, putTy-append t (put a j) k)
 
 -- The size is the number of words.
 length-putTy : (t : Ty) (k : List ℕ) → length (putTy t k) ≡ sizeTy t + length k
@@ -90,3 +89,14 @@ take-tree s t k =
 pub drop-tree : (s : Sort) (t : Tree s) (k : List ℕ) → drop (sizeTree s t) (putTree s t k) ≡ k
 drop-tree s t k =
     ap (drop (sizeTree s t)) (tree-append s t [] k) ∙ drop-at (putTree s t []) k (sizeTree s t) (omega (arith, tree-length s t []))
+
+-- Past a word, and past a tree, that stands at a place.
+pub past-word : (p w : ℕ) (ws k : List ℕ) → drop p ws ≡ w ∷ k → drop (p + 1) ws ≡ k
+past-word p w ws k q = sym (drop-drop 1 p ws) ∙ ap (drop 1) q
+
+pub past-tree : (s : Sort) (t : Tree s) (p : ℕ) (ws k : List ℕ) → drop p ws ≡ putTree s t k → drop (p + sizeTree s t) ws ≡ k
+past-tree s t p ws k q = sym (drop-drop (sizeTree s t) p ws) ∙ ap (drop (sizeTree s t)) q ∙ drop-tree s t k
+
+pub past-static : (l : Lang) (t : Static l) (p : ℕ) (ws k : List ℕ) → drop p ws ≡ putStatic l t k → drop (p + sizeStatic l t) ws ≡ k
+past-static ml t p ws k q = past-tree type t p ws k q
+past-static sc t p ws k q = rw add-zero q

@@ -2,34 +2,11 @@
 use Prim.Native.Nat.{ℕ}
 use mathlib.Core.List.{List, [], _∷_, _++_, append-assoc, append-nil}
 use mathlib.Core.Path.{_≡_, refl, sym, ap, _∙_, subst}
-use Rattle.calculus.specs.Trees.{Ty, N, L, list, _to_, Lang, ml, sc, Static, Term, var, num, lam, op1, op2, if0, nil, wrong, ms, sm}
-use Rattle.calculus.specs.Words.{by, word1, word2, putTy, putStatic, put, wordsTy, words}
+use Rattle.calculus.specs.Trees.{_to_, Lang, Term}
+use Rattle.calculus.specs.Words.{by, word1, word2, put, wordsTy, words}
 use Rattle.calculus.specs.Reduction.{Became, becomes, raises, nothing, contract, Frame, under, first, second, tested, intoML, intoScheme, plug, Context, here, within, fill, at, turn, Outcome, value, raised, next, stuck, outcome, step}
+use Rattle.calculus.proofs.Sizes.{putTy-append, put-append}
 use Rattle.calculus.proofs.Places.{step-by}
-
-putTy-append : (t : Ty) (j k : List ℕ) → putTy t (j ++ k) ≡ putTy t j ++ k
-unfolding putTy
-putTy-append N j k = refl
-putTy-append L j k = refl
-putTy-append (list t) j k = rw (putTy-append t j k)
-putTy-append (t to u) j k = rw (putTy-append u j k, putTy-append t (putTy u j) k)
-
-putStatic-append : (l : Lang) (t : Static l) (j k : List ℕ) → putStatic l t (j ++ k) ≡ putStatic l t j ++ k
-putStatic-append ml t j k = putTy-append t j k
-putStatic-append sc t j k = refl
-
-put-append : {l : Lang} (e : Term l) (j k : List ℕ) → put e (j ++ k) ≡ put e j ++ k
-unfolding put
-put-append (var i) j k = refl
-put-append (num n) j k = refl
-put-append (lam {l} t b) j k = rw (put-append b j k, putStatic-append l t (put b j) k)
-put-append (op1 o a) j k = rw (put-append a j k)
-put-append (op2 o a b) j k = rw (put-append b j k, put-append a (put b j) k)
-put-append (if0 a b c) j k = rw (put-append c j k, put-append b (put c j) k, put-append a (put b (put c j)) k)
-put-append (nil {l} t) j k = rw (putStatic-append l t j k)
-put-append (wrong {l} c t) j k = rw (putStatic-append l t j k)
-put-append (ms t a) j k = rw (put-append a j k, putTy-append t (put a j) k)
-put-append (sm t a) j k = rw (put-append a j k, putTy-append t (put a j) k)
 
 -- The words of a node before and after its open part, and those of a term before and after a place.
 abbrev before : {m l : Lang} → Frame m l → List ℕ

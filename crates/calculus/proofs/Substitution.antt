@@ -1,13 +1,15 @@
--- `substitute`, which moves no variable, is the ordinary substitution wherever the reduction of a closed term uses it. Assumes nothing.
+-- `substitute`, which moves no variable, is the ordinary substitution wherever the reduction of a closed term uses it, and it goes by the
+-- variable's word. Assumes nothing.
 use Prim.Native.Nat.{ℕ, zero, suc, _-_, _≤_, _<_}
 use mathlib.Core.Bool.{Bool, true, false, cond}
 use mathlib.Core.List.{List, [], _∷_}
 use mathlib.Core.Path.{_≡_, refl, ap}
 use lib.Dec.{T, eqb, leb}
 use lib.ListN.{length}
-use borrow.Author.Tests.{le-leb, lt-leb}
+use borrow.Author.Tests.{eqb-true, eqb-false, le-leb, lt-leb, eq-eqb, ne-eqb}
 use native.Mathlib.Omega.{arith}
-use Rattle.calculus.specs.Trees.{Ty, Lang, ml, Static, Term, var, num, lam, op1, op2, if0, nil, wrong, ms, sm, app, fix}
+use Rattle.calculus.specs.Trees.{Ty, Lang, ml, sc, Static, Term, var, num, lam, op1, op2, if0, nil, wrong, ms, sm, app, fix}
+use Rattle.calculus.specs.Words.{word, by, put}
 use Rattle.calculus.specs.Scope.{lambdaAt, Scoped}
 use Rattle.calculus.specs.Reduction.{replaced, substitute, Frame, under, first, second, tested, intoML, intoScheme, plug, Context, here, within, fill}
 use Rattle.calculus.specs.Substitution.{shift, ordinary}
@@ -82,3 +84,27 @@ app-ordinary F t b u h = let c = fill-closed F (app (lam t b) u) h in substitute
 pub fix-ordinary : {l : Lang} (F : Context ml l) (t : Ty) (b : Term ml) → Scoped [] (fill F (fix (lam t b)))
     → substitute (fix (lam t b)) 0 b ≡ ordinary (fix (lam t b)) 0 b
 fix-ordinary F t b h = let c = fill-closed F (fix (lam t b)) h in substitute-ordinary (fix (lam t b)) b c c
+
+-- A variable is replaced exactly if its word is that of the variable replaced: of the same language, and with as many lambdas between.
+word-eqb : (n i k : ℕ) (b : Bool) → eqb i k ≡ b → eqb (word n i) (word n k) ≡ b
+word-eqb n i k true q = eq-eqb (word n i) (word n k) (ap (word n) (eqb-true i k q))
+word-eqb n i k false q = ne-eqb (word n i) (word n k) (λ e. eqb-false i k q (omega (arith, e)))
+
+own-word : (l : Lang) (u : Term l) (k i : ℕ) (b : Bool) (ws : List ℕ) → eqb i k ≡ b
+    → put (cond b u (var i)) ws ≡ cond (eqb (word (by l 16 32) i) (word (by l 16 32) k)) (put u ws) (word (by l 16 32) i ∷ ws)
+unfolding put
+own-word l u k i true ws q = rw (word-eqb (by l 16 32) i k true q)
+own-word l u k i false ws q = rw (word-eqb (by l 16 32) i k false q)
+
+other-word : (l : Lang) (i : ℕ) (b : Bool) (ws : List ℕ) → put {l = l} (cond b (var i) (var i)) ws ≡ word (by l 16 32) i ∷ ws
+unfolding put
+other-word l i true ws = refl
+other-word l i false ws = refl
+
+pub substitute-word : (m l : Lang) (u : Term m) (k i : ℕ) (ws : List ℕ)
+    → put (substitute u k (var {l = l} i)) ws ≡ cond (eqb (word (by l 16 32) i) (word (by m 16 32) k)) (put u ws) (word (by l 16 32) i ∷ ws)
+unfolding substitute
+substitute-word ml ml u k i ws = own-word ml u k i (eqb i k) ws refl
+substitute-word ml sc u k i ws = rw (ne-eqb (word 32 i) (word 16 k) (λ e. omega (arith, e))) (other-word sc i (eqb i k) ws)
+substitute-word sc ml u k i ws = rw (ne-eqb (word 16 i) (word 32 k) (λ e. omega (arith, e))) (other-word ml i (eqb i k) ws)
+substitute-word sc sc u k i ws = own-word sc u k i (eqb i k) ws refl

@@ -7,9 +7,12 @@ pub mod Reading
 pub mod Scope
 pub mod Typing
 pub mod Inference
+pub mod Faults
 pub mod Reduction
 pub mod Rules
 pub mod Substitution
 pub mod Run
 pub mod File
+pub mod Accepted
+pub mod Demands
 pub mod Recipes

@@ -104,6 +104,11 @@ infix 4 _⟶_
 pub data _⟶_ {l : Lang} : Term l → Term l → Type 0 where
   by-rule : {m : Lang} {e r : Term m} (F : Context m l) → Evaluated F → m ⊢ e ⇒ r → fill F e ⟶ fill F r
 
+-- n steps from one term to another.
+pub data Steps {l : Lang} : ℕ → Term l → Term l → Type 0 where
+  stay : {e : Term l} → Steps 0 e e
+  then : {n : ℕ} {e f r : Term l} → e ⟶ f → Steps n f r → Steps (suc n) e r
+
 -- A raised error: a wrong in an evaluation context.
 pub data Raises {l : Lang} : ℕ → Term l → Type 0 where
   by-wrong : {m : Lang} {c : ℕ} (F : Context m l) → Evaluated F → (t : Static m) → Raises c (fill F (wrong c t))

@@ -10,6 +10,13 @@ use Rattle.calculus.specs.Reduction.{Outcome, value, raised, next, stuck
 pub data End : Type 0 where
   valued spent error full : End
 
+-- "ends as a value or an error": the ends that no limit and no capacity bring about.
+abbrev pub Final : End → Type 0
+Final valued = Unit {0}
+Final spent = ⊥
+Final error = Unit {0}
+Final full = ⊥
+
 -- What a run counts: the steps that it makes.
 pub record Counts : Type 0 where
   pub steps : ℕ

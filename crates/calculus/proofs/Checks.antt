@@ -1,0 +1,136 @@
+-- The check of a file is exact, and so is the acceptance of a run. Assumes nothing.
+use Prim.Native.Nat.{ℕ, _+_, _≤_}
+use mathlib.Core.List.{List, [], _∷_}
+use mathlib.Core.Logic.{_↔_}
+use mathlib.Core.Option.{some}
+use mathlib.Core.Path.{_≡_, refl, sym, ap, _∙_, subst}
+use lib.Dec.{leb}
+use lib.ListN.{length}
+use borrow.Author.Tests.{leb-true, le-leb}
+use Rattle.calculus.specs.Trees.{Ty, ml, Term}
+use Rattle.calculus.specs.Words.{words, size}
+use Rattle.calculus.specs.Kinds.{Sort, type, term, Tree}
+use Rattle.calculus.specs.Limits.{InRange, nestingTy, nesting}
+use Rattle.calculus.specs.Verdicts.{Verdict, passed, orRefuse}
+use Rattle.calculus.specs.Reading.{later, walk, inOrder, readTree}
+use Rattle.calculus.specs.Scope.{Scoped, scopeDue}
+use Rattle.calculus.specs.Typing.{Typed}
+use Rattle.calculus.specs.Inference.{sameType, infer}
+use Rattle.calculus.specs.Run.{Result, run, uncounted, capacity}
+use Rattle.calculus.specs.File.{wordsOf, isSize, isHeader, typeCount, typeWords, termWords, ordered, scoped, Recipe, typed, withTree, checkWords, check, runIn, operate}
+use Rattle.calculus.specs.Accepted.{Accepted}
+use Rattle.calculus.proofs.Verdicts.{passed-injective, then-passed, unless-iff, refuse-iff}
+use Rattle.calculus.proofs.Walks.{later-passed}
+use Rattle.calculus.proofs.Reading.{whole-tree}
+use Rattle.calculus.proofs.Nesting.{Ordered, ordered-passes, passes-ordered}
+use Rattle.calculus.proofs.Scopes.{scoped-passes, passes-scoped}
+use Rattle.calculus.proofs.Inference.{same-iff, infer-iff}
+use Rattle.calculus.proofs.Files.{size-iff, Contains, contains-iff}
+
+-- Each test of the check.
+ordered-iff : {A : Type 0} (s : Sort) (ws : List ℕ) (p : ℕ) (v : Verdict A) (a : A) → (ordered s ws p v ≡ passed a) ↔ (Ordered s ws × (v ≡ passed a))
+ordered-iff s ws p v a = (
+  λ q.
+      let i = then-passed (later p (inOrder s ws)) (λ n. v) a q in
+      let j = later-passed p (inOrder s ws) (i .0) (i .1) in
+      (passes-ordered s ws (j .0) (j .1), i .2),
+  λ h. rw (ordered-passes s ws (h .0)) (h .1),
+)
+
+scoped-iff : {A : Type 0} (e : Term ml) (ws : List ℕ) (p : ℕ) (v : Verdict A) (a : A) → ws ≡ words e
+    → (scoped ws p v ≡ passed a) ↔ (Scoped [] e × (v ≡ passed a))
+scoped-iff e ws p v a spelt = (
+  λ q.
+      let i = then-passed (later p (walk scopeDue ws ([] ∷ []))) (λ n. v) a q in
+      let j = later-passed p (walk scopeDue ws ([] ∷ [])) (i .0) (i .1) in
+      (passes-scoped [] e (j .0) (ap (λ (l : List ℕ). walk scopeDue l ([] ∷ [])) (sym spelt) ∙ j .1), i .2),
+  λ h. rw (spelt, scoped-passes [] e (h .0)) (h .1),
+)
+
+typed-iff : (τ : Ty) (e : Term ml) (x : Recipe) → (typed τ e ≡ passed x) ↔ (Typed [] e τ × (x ≡ (τ, e)))
+unfolding typed
+typed-iff τ e x = (
+  λ q.
+      let i = then-passed (orRefuse (infer [] e) 6 0) _ x q in
+      let j = unless-iff (sameType ml (i .0) τ) 7 0 (passed (τ, e)) x .0 (i .2) in
+      let t = same-iff ml (i .0) τ .0 (j .0) in
+      (infer-iff [] e τ .0 (refuse-iff (infer [] e) 6 0 (i .0) .0 (i .1) ∙ ap some t), sym (passed-injective _ x (j .1))),
+  λ h. rw (infer-iff [] e τ .1 (h .0), same-iff ml τ τ .1 refl, h .1),
+)
+
+tree-read : {A : Type 0} (s : Sort) (ws : List ℕ) (p : ℕ) (k : Tree s → Verdict A) (o : Ordered s ws) → withTree s ws p k ≡ k (o .tree)
+tree-read s ws p k o = rw (ap (readTree s) (o .spelt) ∙ whole-tree s (o .tree) (o .ranged))
+
+-- Refusals 5, 6 and 7, of words in order.
+module _ (ws : List ℕ) (x : Recipe) (t : Ordered type (typeWords ws)) (e : Ordered (term ml) (termWords ws)) where
+  judged-iff : (scoped (termWords ws) (4 + typeCount ws)
+      (withTree type (typeWords ws) 4 (λ τ. withTree (term ml) (termWords ws) (4 + typeCount ws) (λ e. typed τ e))) ≡ passed x)
+      ↔ (Scoped [] (e .tree) × (Typed [] (e .tree) (t .tree) × (x ≡ (t .tree, e .tree))))
+  judged-iff =
+      let i = scoped-iff (e .tree) (termWords ws) (4 + typeCount ws) _ x (e .spelt) in
+      let j = typed-iff (t .tree) (e .tree) x in
+      let k = tree-read type (typeWords ws) 4 (λ τ. withTree (term ml) (termWords ws) (4 + typeCount ws) (λ e. typed τ e)) t
+      ∙ tree-read (term ml) (termWords ws) (4 + typeCount ws) (λ e. typed (t .tree) e) e in
+      (λ q. let h = i .0 q in (h .0, j .0 (sym k ∙ h .1)), λ h. i .1 (h .0, k ∙ j .1 (h .1)))
+
+-- Refusals 2 to 7.
+abbrev InOrder : List ℕ → Recipe → Type 0
+InOrder ws x = Contains ws (x .0) (x .1) × (nestingTy (x .0) ≤ 256) × (nesting (x .1) ≤ 256) × InRange (x .1) × Scoped [] (x .1) × Typed [] (x .1) (x .0)
+
+passes-in-order : (ws : List ℕ) (x : Recipe) → checkWords ws ≡ passed x → InOrder ws x
+unfolding checkWords
+passes-in-order ws x q =
+    let h = unless-iff (isHeader ws) 2 0 _ x .0 q in
+    let t = ordered-iff type (typeWords ws) 4 _ x .0 (h .1) in
+    let e = ordered-iff (term ml) (termWords ws) (4 + typeCount ws) _ x .0 (t .1) in
+    let j = judged-iff ws x (t .0) (e .0) .0 (e .1) in
+    subst (InOrder ws) (sym (j .1 .1)) ((h .0, t .0 .spelt, e .0 .spelt), t .0 .nests, e .0 .nests, e .0 .ranged, j .0, j .1 .0)
+
+in-order-passes : (ws : List ℕ) (x : Recipe) → InOrder ws x → checkWords ws ≡ passed x
+unfolding checkWords
+in-order-passes ws x h =
+    let t : Ordered type (typeWords ws) = record { tree = x .0; spelt = h .0 .1; ranged = tt; nests = h .1 } in
+    let e : Ordered (term ml) (termWords ws) = record { tree = x .1; spelt = h .0 .2; ranged = h .3; nests = h .2 } in
+    unless-iff (isHeader ws) 2 0 _ x .1 (
+      h .0 .0,
+      ordered-iff type (typeWords ws) 4 _ x .1 (t, ordered-iff (term ml) (termWords ws) (4 + typeCount ws) _ x .1 (e, judged-iff ws x t e .1 (h .4, (h .5, refl)))),
+    )
+
+-- "the check accepts exactly those to which the published typing .. gives the declared type".
+pub check-iff : (bytes : List ℕ) (τ : Ty) (e : Term ml) → (check bytes ≡ passed (τ, e)) ↔ Accepted bytes τ e
+unfolding check
+check-iff bytes τ e = (
+  λ q.
+      let i = unless-iff (isSize (length bytes)) 1 0 (checkWords (wordsOf bytes)) (τ, e) .0 q in
+      let n = size-iff (length bytes) .0 (i .0) in
+      let h = passes-in-order (wordsOf bytes) (τ, e) (i .1) in
+      record {
+        least = n .0 .0;
+        most = n .0 .1;
+        whole = n .1;
+        spelt = contains-iff (wordsOf bytes) τ e .0 (h .0);
+        nestsTy = h .1;
+        nests = h .2;
+        ranged = h .3;
+        closed = h .4;
+        typed = h .5;
+      },
+  λ a.
+      unless-iff (isSize (length bytes)) 1 0 (checkWords (wordsOf bytes)) (τ, e) .1 (
+        size-iff (length bytes) .1 ((a .least, a .most), a .whole),
+        in-order-passes (wordsOf bytes) (τ, e) (contains-iff (wordsOf bytes) τ e .1 (a .spelt), a .nestsTy, a .nests, a .ranged, a .closed, a .typed),
+      ),
+)
+
+-- A run is made of an accepted file whose term's words fit the capacity, and it is that term's.
+pub operate-iff : (bytes : List ℕ) (limit first second : ℕ) (r : Result) → (operate bytes limit first second ≡ passed r)
+    ↔ ((τ : Ty) × (e : Term ml) × Accepted bytes τ e × (size e ≤ capacity first second) × (r ≡ run limit (capacity first second) uncounted e))
+unfolding operate runIn
+operate-iff bytes limit first second r =
+    let cap = capacity first second in (
+      λ q.
+          let i = then-passed (check bytes) _ r q in
+          let j = unless-iff (leb (size (i .0 .1)) cap) 8 0 (passed (run limit cap uncounted (i .0 .1))) r .0 (i .2) in
+          (i .0 .0, i .0 .1, check-iff bytes (i .0 .0) (i .0 .1) .0 (i .1), leb-true (size (i .0 .1)) cap (j .0), sym (passed-injective _ r (j .1))),
+      λ h. rw (check-iff bytes (h .0) (h .1) .1 (h .2), le-leb (size (h .1)) cap (h .3), h .4),
+    )

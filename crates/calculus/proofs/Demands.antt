@@ -1,0 +1,55 @@
+-- Demand 3 of every file, and its first half of every term that has a type. Assumes nothing.
+use Prim.Native.Nat.{ℕ, _≤_}
+use mathlib.Core.List.{List, []}
+use mathlib.Core.Path.{_≡_, refl, sym, _∙_, subst}
+use native.Mathlib.Omega.{arith}
+use Rattle.calculus.specs.Trees.{Lang, Static, Term}
+use Rattle.calculus.specs.Typing.{Typed}
+use Rattle.calculus.specs.Reduction.{Outcome, value, raised, next, stuck, step}
+use Rattle.calculus.specs.Rules.{Value, Steps, stay, then}
+use Rattle.calculus.specs.Verdicts.{passed}
+use Rattle.calculus.specs.Run.{uncounted, Final, Result, capacity}
+use Rattle.calculus.specs.File.{operate}
+use Rattle.calculus.specs.Demands.{ExactlyOne, the-first, the-second, the-third, RaisedError, Reducible, Sound, Safe, Demand3}
+use Rattle.calculus.proofs.Typing.{typed-scoped}
+use Rattle.calculus.proofs.Soundness.{Kept, sound}
+use Rattle.calculus.proofs.Agreement.{next-iff, raised-iff, value-step-iff, value-no-step, value-no-error, error-no-step}
+use Rattle.calculus.proofs.Growth.{run-more}
+use Rattle.calculus.proofs.Checks.{check-iff, operate-iff}
+
+exactly-one : {l : Lang} (r : Term l) (τ : Static l) (o : Outcome l) → step r ≡ o → Kept τ o → ExactlyOne (Value l r) (RaisedError r) (Reducible r)
+exactly-one r τ value q k = let v = value-step-iff r .0 q in the-first v (λ x. value-no-error v (x .1)) (λ x. value-no-step v (x .1))
+exactly-one r τ (raised c) q k = let a = raised-iff r c .0 q in the-second (λ v. value-no-error v a) (c, a) (λ x. error-no-step a (x .1))
+exactly-one r τ (next s) q k = let a = next-iff r s .0 q in the-third (λ v. value-no-step v a) (λ x. error-no-step (x .1) a) (s, a)
+exactly-one r τ stuck q k = absurd k
+
+typed-sound : {l : Lang} (r : Term l) (τ : Static l) → Typed [] r τ → Sound τ r
+typed-sound r τ h = record { typed = h; scoped = typed-scoped [] r τ h; one = exactly-one r τ (step r) refl (sound r τ h) }
+
+steps-typed : {l : Lang} {n : ℕ} {e r : Term l} (τ : Static l) → Steps n e r → Typed [] e τ → Typed [] r τ
+steps-typed τ stay h = h
+steps-typed τ (then {e = e} {f} a p) h = steps-typed τ p (subst (Kept τ) (next-iff e f .1 a) (sound e τ h))
+
+-- The first half holds "from every well-typed term whose variables have their lambdas, with that term's type as the declared one". A term
+-- that has a type in no lambdas has its variables' lambdas in itself.
+pub typed-safe : {l : Lang} (e : Term l) (τ : Static l) → Typed [] e τ → Safe τ e
+typed-safe e τ h = record { reached = λ n r p. typed-sound r τ (steps-typed τ p h) }
+
+-- The second half.
+operate-more : (bytes : List ℕ) (limit first second limit′ first′ second′ : ℕ) (r : Result) → limit ≤ limit′
+    → capacity first second ≤ capacity first′ second′ → operate bytes limit first second ≡ passed r → Final (r .end)
+    → operate bytes limit′ first′ second′ ≡ passed r
+operate-more bytes limit first second limit′ first′ second′ r hl hc q f =
+    let cap = capacity first second in
+    let cap′ = capacity first′ second′ in
+    let x = operate-iff bytes limit first second r .0 q in
+    let same = run-more limit limit′ cap cap′ uncounted (x .1) hl hc (subst (λ (y : Result). Final (y .end)) (x .4) f) in
+    operate-iff bytes limit′ first′ second′ r .1 (x .0, x .1, x .2, omega (arith, x .3, hc), x .4 ∙ sym same)
+
+-- Demand 3.
+pub demand-3 : (bytes : List ℕ) → Demand3 bytes
+demand-3 bytes =
+    record {
+      accepted = λ τ e q. typed-safe e τ (check-iff bytes τ e .0 q .typed);
+      runs = operate-more bytes;
+    }

@@ -1,0 +1,30 @@
+-- Document 01: the files that the check accepts, said of trees. proofs/Checks.antt says that `check` accepts exactly these.
+use Prim.Native.Nat.{ℕ, _+_, _%_, _≤_}
+use mathlib.Core.List.{List, [], _∷_}
+use mathlib.Core.Path.{_≡_}
+use lib.ListN.{length}
+use Rattle.calculus.specs.Trees.{Ty, ml, Term}
+use Rattle.calculus.specs.Words.{putTy, words, size, sizeTy}
+use Rattle.calculus.specs.Limits.{InRange, nestingTy, nesting}
+use Rattle.calculus.specs.Scope.{Scoped}
+use Rattle.calculus.specs.Typing.{Typed}
+use Rattle.calculus.specs.File.{wordsOf}
+
+-- "type count, type offset (4), term count, term offset (4 + type count), the declared type, an ML term. Offsets and counts are in words;
+-- both counts are at least 1; the file ends with the term."
+abbrev pub fileWords : Ty → Term ml → List ℕ
+fileWords τ e = sizeTy τ ∷ 4 ∷ size e ∷ (4 + sizeTy τ) ∷ putTy τ (words e)
+
+-- The bytes are a file of the declared type τ and the term e, which keep the rules for words, and e is closed and has the type τ.
+pub record Accepted (bytes : List ℕ) (τ : Ty) (e : Term ml) : Type 0 where
+  -- "A file has 24 to 16,384 bytes", a multiple of 4
+  pub least : 24 ≤ length bytes
+  pub most : length bytes ≤ 16384
+  pub whole : length bytes % 4 ≡ 0
+  pub spelt : wordsOf bytes ≡ fileWords τ e
+  -- "Nesting is at most 256"
+  pub nestsTy : nestingTy τ ≤ 256
+  pub nests : nesting e ≤ 256
+  pub ranged : InRange e
+  pub closed : Scoped [] e
+  pub typed : Typed [] e τ
