@@ -17,9 +17,6 @@ module _ (bs : List ℕ) (s : isSize (length bs) ≡ true) where
   pub words-bounds : (6 ≤ length (wordsOf bs)) × (length (wordsOf bs) ≤ 4096)
   words-bounds = omega (arith, size-fits (length bs) s, words-length bs)
 
-  pub array-length : length (padded 4096 (wordsOf bs)) ≡ 4096
-  array-length = padded-length 4096 (wordsOf bs) (words-bounds .1)
-
   pub front-is : take (length bs / 4) (padded 4096 (wordsOf bs)) ≡ wordsOf bs
   front-is = padded-take 4096 (length bs / 4) (wordsOf bs) (words-bounds .1) (sym (words-length bs))
 
@@ -63,7 +60,7 @@ opens bs all {types} {n} e a = sized (isSize (length bs)) refl (isHeader (wordsO
           fits = header-fits (wordsOf bs) q;
           check-is = rw (check-opens bs, ← e);
           few = omega (arith, words-bounds bs p);
-          array-is = rw k (array-length bs p);
+          array-is = rw k (padded-length 4096 (wordsOf bs));
         }
     sized true p false q = let z : _≡_ {A = ℕ} 0 1 = cc in absurd (omega arith)
     sized false p h q = let z : _≡_ {A = ℕ} 0 1 = cc in absurd (omega arith)

@@ -1,7 +1,6 @@
 // What comes in: a file's bytes as words, its size and its header. Refusals 1 and 2.
 ghost use mathlib.Core.Path.{_≡_};
-ghost use Prim.Native.Nat.{_≤_};
-ghost use lib.ListN.{length};
+ghost use Prim.Native.Nat.{min};
 ghost use Rattle.calculus.specs.File.{wordOf, wordsOf, isSize, padded};
 ghost use Rattle.file.specs.Opening.{opened, headed, opening, kept};
 
@@ -30,13 +29,22 @@ fn word(a: u8, b: u8, c: u8, d: u8) -> u32
     a as u32 + 256 * (b as u32) + 65536 * (c as u32) + 16777216 * (d as u32)
 }
 
-// The file's words, and zeros after them.
+// The smaller of two numbers.
+fn fewer(a: usize, b: usize) -> usize
+    ensures { λ r. ⌜ r ≡ min a b ⌝ }
+{
+    if a < b {
+        return a;
+    }
+    b
+}
+
+// The file's words, as many as the array takes, and zeros after them.
 pub fn words(file: &[u8]) -> [u32; 4096]
-    requires { ⌜ length (now file) ≤ 16384 ⌝ }
     ensures { λ r. ⌜ r ≡ padded 4096 (wordsOf (now (file .entry))) ⌝ }
 {
     let mut out = [0u32; 4096];
-    let n = file.len() / 4;
+    let n = fewer(file.len() / 4, 4096);
     let mut i = 0;
     while i < n {
         let k = 4 * i;
@@ -59,6 +67,7 @@ pub fn is_size(n: usize) -> bool
     n % 4 == 0
 }
 
+// A word as a number of 64 bits.
 fn wide(x: u32) -> usize
     ensures { λ r. ⌜ r ≡ x ⌝ }
 {

@@ -6,9 +6,6 @@ use borrow.Author.Needs.{needs}
 use Rattle.file.proofs.Tests.{header-refused, header-passed}
 use Rattle.file.proofs.header.Statement.{statement}
 use Rattle.file.proofs.header.Tie as tie
-use Rattle.file.proofs.header.Reads as reads
-use Rattle.file.proofs.header.Lts as lts
-use Rattle.file.proofs.wide.Reads as wide-reads
 
 -- The words, at the places after the header's are read.
 abbrev ws : tie.After-wide3 → List ℕ

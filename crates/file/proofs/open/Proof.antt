@@ -9,16 +9,11 @@ use borrow.Author.Tests.{not-true, not-false}
 use Rattle.calculus.specs.File.{isSize, wordsOf}
 use Rattle.file.specs.Opening.{headed}
 use Rattle.file.proofs.Bytes.{words-length}
-use Rattle.file.proofs.Padding.{padded-none}
+use Rattle.file.proofs.Padding.{padded-none, padded-length}
 use Rattle.file.proofs.Tests.{size-fits}
-use Rattle.file.proofs.Opening.{front-is, array-length}
+use Rattle.file.proofs.Opening.{front-is}
 use Rattle.file.proofs.open.Statement.{statement}
 use Rattle.file.proofs.open.Tie as tie
-use Rattle.file.proofs.open.Reads as reads
-use Rattle.file.proofs.open.Lts as lts
-use Rattle.file.proofs.header.Reads as header-reads
-use Rattle.file.proofs.is_size.Reads as is-size-reads
-use Rattle.file.proofs.words.Reads as words-reads
 
 -- What the first test says of the file's size.
 passed : (c : tie.Else1) → isSize (length (c .before .before .before .args .file .now)) ≡ true
@@ -31,17 +26,17 @@ returns : tie.Need-returns
 returns c =
     let t = c .before in
     let s : isSize (length (t .before .before .before .args .file .now)) ≡ false =
-      sym (t .before .is-size .ensures) ∙ not-true _ (t .if1 .taken)
+    sym (t .before .is-size .ensures) ∙ not-true _ (t .if1 .taken)
     in
     (rw s, rw s (padded-none 4096))
 
 words-requires : tie.Need-words-requires
-words-requires c κs = size-fits _ (passed c) .most
+words-requires c κs = search needs
 
 array-share-prefix-found : tie.Need-array-share-prefix-found
 array-share-prefix-found c =
     let f = c .before .before .before .before .args .file .now in
-    omega (arith, ap length (c .words .ensures) ∙ array-length f (passed (c .before)), size-fits (length f) (passed (c .before)))
+    omega (arith, ap length (c .words .ensures) ∙ padded-length 4096 (wordsOf f), size-fits (length f) (passed (c .before)))
 
 slice-aggregate-header : tie.Need-slice-aggregate-header
 slice-aggregate-header c =
@@ -57,7 +52,7 @@ returns-2 c =
     let w = c .before .before in
     let f = w .before .before .before .before .args .file .now in
     let h : headed (take (length f / 4) (w .words .result)) ≡ headed (wordsOf f) =
-      ap headed (ap (take (length f / 4)) (w .words .ensures) ∙ front-is f (passed (w .before)))
+    ap headed (ap (take (length f / 4)) (w .words .ensures) ∙ front-is f (passed (w .before)))
     in
     rw (passed (w .before)) (c .header .ensures ∙ h, w .words .ensures)
 

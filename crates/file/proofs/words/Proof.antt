@@ -1,26 +1,32 @@
--- `file::words` meets its contract. The invariant: the first i words stand, with zeros after them. Assumes nothing.
-use mathlib.Core.Path.{_≡_, sym, ap, _∙_}
-use mathlib.Core.List.{_++_}
-use mathlib.Core.Logic.{⊎-elim}
-use Prim.Native.Nat.{ℕ, _≤_, _<_, _-_, _/_, _+_, _*_}
+-- `file::words` meets its contract: before each turn the first i words stand, with zeros after them. Assumes nothing.
+use mathlib.Core.Path.{_≡_, _∙_}
+use mathlib.Core.List.{List}
+use Prim.Native.Nat.{ℕ, _≤_, _<_, _-_, _/_, _+_, _*_, min}
 use borrow.Author.Needs.{needs}
 use native.Mathlib.Omega.{arith}
-use lib.ListN.{length, take, replicate, getD, set}
-use lib.Seq.{take-all}
+use lib.ListN.{length, take}
 use Rattle.calculus.specs.File.{wordsOf, padded}
 use Rattle.file.proofs.Bytes.{words-length, word-at}
-use Rattle.file.proofs.Padding.{padded-none, padded-more}
+use Rattle.file.proofs.Padding.{padded-none, padded-more, padded-cut}
 use Rattle.file.proofs.words.Statement.{statement}
 use Rattle.file.proofs.words.Tie as tie
 
+record Filled (file : List ℕ) (n : ℕ) (out : List ℕ) (i : ℕ) : Type 0 where
+  reached : i ≤ n
+  due : n ≡ min (length file / 4) 4096
+  stands : out ≡ padded 4096 (take i (wordsOf file))
+
 abbrev Inv-loop : tie.InvT-loop
-Inv-loop file out₀ n i₀ out i = (i ≤ n) × ((n ≡ length file / 4) × (out ≡ padded 4096 (take i (wordsOf file))))
+Inv-loop file out₀ n i₀ out i = Filled file n out i
 
 abbrev μ-loop : tie.MeasureT-loop
 μ-loop file out₀ n i₀ out i = n - i
 
+fewer-requires : tie.Need-fewer-requires Inv-loop μ-loop
+fewer-requires c κs = search needs
+
 loop-holds : tie.Need-loop-holds Inv-loop μ-loop
-loop-holds c = (omega arith, (omega arith, padded-none 4096))
+loop-holds c = record { reached = omega arith; due = c .fewer .ensures; stands = padded-none 4096 }
 
 mul-k : tie.Need-mul-k Inv-loop μ-loop
 mul-k c = search needs
@@ -64,16 +70,21 @@ loop-less c = search needs
 loop-again : tie.Need-loop-again Inv-loop μ-loop
 loop-again c =
     let l = c .before .before .before .before .before .before in
-    let f = l .before .before .args .file .now in
+    let f = l .before .before .before .args .file .now in
     let h : 4 * l .loop .i + 3 < length f = omega arith in
-    (search needs,
-     (omega arith,
-      rw (c .word .ensures, ← word-at f (l .loop .i) h) (cc (padded-more 4096 (l .loop .i) (wordsOf f) (omega (arith, words-length f)) (omega arith)))))
+    record {
+      reached = search needs;
+      due = l .loop .inv .due;
+      stands =
+          rw (c .word .ensures, ← word-at f (l .loop .i) h)
+          (cc (padded-more 4096 (l .loop .i) (wordsOf f) (omega (arith, words-length f)) (omega arith)));
+    }
 
 returns : tie.Need-returns Inv-loop μ-loop
 returns c =
-    let f = c .before .before .before .args .file .now in
-    c .before .loop .inv .1 .1 ∙ ap (padded 4096) (take-all (c .before .loop .i) (wordsOf f) (omega (arith, words-length f)))
+    let l = c .before .loop in
+    let f = c .before .before .before .before .args .file .now in
+    l .inv .stands ∙ padded-cut 4096 (l .i) (wordsOf f) (omega (arith, words-length f))
 
 pub words-spec : {M : Type 1} → statement M
 words-spec =
@@ -81,6 +92,7 @@ words-spec =
     (tie.spec
     Inv-loop
     μ-loop
+    fewer-requires
     loop-holds
     mul-k
     shared-slice-read-word
