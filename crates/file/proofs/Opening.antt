@@ -5,23 +5,24 @@ use mathlib.Core.List.{List}
 use Prim.Native.Nat.{ℕ, _/_, _≤_}
 use native.Mathlib.Omega.{arith}
 use lib.ListN.{length, take}
-use Rattle.calculus.specs.Verdicts.{Verdict, refused, passed, andThen, unless}
+use Rattle.calculus.specs.Verdicts.{refused, passed, andThen}
 use Rattle.calculus.specs.File.{wordsOf, isSize, isHeader, typeCount, checkWords, check, padded}
-use Rattle.file.specs.Opening.{headed, opening, kept}
+use Rattle.file.specs.Opening.{opening, kept}
 use Rattle.file.proofs.Bytes.{words-length}
 use Rattle.file.proofs.Padding.{padded-take, padded-length}
 use Rattle.file.proofs.Tests.{Fits, header-fits, size-fits}
 
--- A file of a fit size has 6 to 4,096 words, which stand first in the array.
 module _ (bs : List ℕ) (s : isSize (length bs) ≡ true) where
+  -- A file of a fit size has 6 to 4,096 words.
   pub words-bounds : (6 ≤ length (wordsOf bs)) × (length (wordsOf bs) ≤ 4096)
   words-bounds = omega (arith, size-fits (length bs) s, words-length bs)
 
+  -- They stand first in the array.
   pub front-is : take (length bs / 4) (padded 4096 (wordsOf bs)) ≡ wordsOf bs
   front-is = padded-take 4096 (length bs / 4) (wordsOf bs) (words-bounds .1) (sym (words-length bs))
 
 -- The check of a file begins with opening it.
-pub check-opens : (bs : List ℕ) → check bs ≡ andThen (opening bs) (λ x. checkWords (wordsOf bs))
+check-opens : (bs : List ℕ) → check bs ≡ andThen (opening bs) (λ x. checkWords (wordsOf bs))
 unfolding check checkWords
 check-opens bs = tested (isSize (length bs)) refl (isHeader (wordsOf bs)) refl
   where
@@ -45,6 +46,7 @@ pub record Opens (bs all : List ℕ) (types n : ℕ) : Type 0 where
   pub few : n ≤ 4096
   pub array-is : length all ≡ 4096
 
+-- It follows from both equations of the contract of `open`.
 pub opens : (bs all : List ℕ) {types n : ℕ} → passed (types, n) ≡ opening bs → all ≡ padded 4096 (kept bs) → Opens bs all types n
 opens bs all {types} {n} e a = sized (isSize (length bs)) refl (isHeader (wordsOf bs)) refl
   where

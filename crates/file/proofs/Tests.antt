@@ -30,6 +30,7 @@ pub record Sized (n : ℕ) : Type 0 where
   pub most : n ≤ 16384
   pub whole : n % 4 ≡ 0
 
+-- They follow from the test.
 pub size-fits : (n : ℕ) → isSize n ≡ true → Sized n
 size-fits n e =
     let p = split _ _ e in
@@ -44,6 +45,7 @@ pub record Fits (ws : List ℕ) : Type 0 where
   pub terms-from : getD ws 3 0 ≡ 4 + typeCount ws
   pub ends : getD ws 3 0 + getD ws 2 0 ≡ length ws
 
+-- They follow from the test.
 pub header-fits : (ws : List ℕ) → isHeader ws ≡ true → Fits ws
 header-fits ws e =
     let p = split _ _ e in
@@ -58,7 +60,7 @@ header-fits ws e =
       ends = eqb-true _ _ (p .1);
     }
 
-pub header-is : (ws : List ℕ) → Fits ws → isHeader ws ≡ true
+header-is : (ws : List ℕ) → Fits ws → isHeader ws ≡ true
 header-is ws f =
     joined _ _ (joined _ _ (joined _ _ (joined _ _ (le-leb _ _ (f .types)) (eq-eqb _ _ (f .types-from))) (le-leb _ _ (f .terms)))
     (eq-eqb _ _ (f .terms-from))) (eq-eqb _ _ (f .ends))

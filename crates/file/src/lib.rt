@@ -54,7 +54,7 @@ pub fn words(file: &[u8]) -> [u32; 4096]
     out
 }
 
-// A file can have this many bytes.
+// Whether a file can have n bytes.
 pub fn is_size(n: usize) -> bool
     ensures { λ r. ⌜ r ≡ isSize n ⌝ }
 {
@@ -74,7 +74,7 @@ fn wide(x: u32) -> usize
     x as usize
 }
 
-// The words of a file begin with a header that fits how many they are. The sums are of 64 bits, so that none of two words wraps.
+// Whether words begin with a header that fits how many they are. Sums are in 64 bits, where no sum of two words wraps.
 pub fn header(words: &[u32]) -> Opened
     ensures { λ r. ⌜ opened r ≡ headed (now (words .entry)) ⌝ }
 {

@@ -1,7 +1,8 @@
 -- `file::header` meets its contract: each early return refutes the header's numbers. Assumes nothing.
 use mathlib.Core.List.{List}
-use Prim.Native.Nat.{ℕ}
+use Prim.Native.Nat.{ℕ, _<_, _^_}
 use native.Mathlib.Omega.{arith}
+use lib.ListN.{getD}
 use borrow.Author.Needs.{needs}
 use Rattle.file.proofs.Tests.{header-refused, header-passed}
 use Rattle.file.proofs.header.Statement.{statement}
@@ -10,6 +11,10 @@ use Rattle.file.proofs.header.Tie as tie
 -- The words, at the places after the header's are read.
 abbrev ws : tie.After-wide3 → List ℕ
 ws c = c .before .before .before .before .before .before .before .before .args .words .now
+
+-- A word has 32 bits.
+small : (c : tie.After-wide3) (i : ℕ) → getD (ws c) i 0 < 2 ^ 32
+small c i = omega (arith, c .before .before .before .before .before .shared-slice-known2 .given i)
 
 returns : tie.Need-returns
 returns c = header-refused (c .before .before .args .words .now) (λ f. omega arith)
@@ -45,13 +50,15 @@ returns-4 : tie.Need-returns-4
 returns-4 c = header-refused (ws (c .before .before .before .before)) (λ f. omega arith)
 
 add-if5 : tie.Need-add-if5
-add-if5 c = omega (arith, c .before .before .before .before .before .before .before .before .before .shared-slice-known2 .given 0)
+add-if5 c = omega (arith, small (c .before .before .before .before) 0)
 
 returns-5 : tie.Need-returns-5
 returns-5 c = header-refused (ws (c .before .before .before .before .before)) (λ f. omega arith)
 
 add-if6 : tie.Need-add-if6
-add-if6 c = omega (arith, c .before .before .before .before .before .before .before .before .before .before .shared-slice-known2 .given 2, c .before .before .before .before .before .before .before .before .before .before .shared-slice-known2 .given 3)
+add-if6 c =
+    let w = c .before .before .before .before .before in
+    omega (arith, small w 2, small w 3)
 
 returns-6 : tie.Need-returns-6
 returns-6 c = header-refused (ws (c .before .before .before .before .before .before)) (λ f. omega arith)

@@ -1,4 +1,4 @@
--- `file::open` meets its contract. Assumes nothing.
+-- `file::open` meets its contract: the two tests in their order, and the array after each. Assumes nothing.
 use mathlib.Core.Path.{_≡_, sym, ap, _∙_}
 use mathlib.Core.Bool.{true, false}
 use Prim.Native.Nat.{_/_}
@@ -16,19 +16,23 @@ use Rattle.file.proofs.open.Statement.{statement}
 use Rattle.file.proofs.open.Tie as tie
 
 -- What the first test says of the file's size.
-passed : (c : tie.Else1) → isSize (length (c .before .before .before .args .file .now)) ≡ true
-passed c = sym (c .before .is-size .ensures) ∙ not-false _ (c .if1 .left)
+fit : (c : tie.Else1) → isSize (length (c .before .before .before .args .file .now)) ≡ true
+fit c = sym (c .before .is-size .ensures) ∙ not-false _ (c .if1 .left)
+
+unfit : (c : tie.Then1) → isSize (length (c .before .before .before .args .file .now)) ≡ false
+unfit c = sym (c .before .is-size .ensures) ∙ not-true _ (c .if1 .taken)
+
+-- The words lent to `header` are the file's.
+front : (c : tie.After-words)
+    → take (length (c .before .before .before .before .args .file .now) / 4) (c .words .result)
+    ≡ wordsOf (c .before .before .before .before .args .file .now)
+front c = rw (c .words .ensures) (front-is _ (fit (c .before)))
 
 is-size-requires : tie.Need-is-size-requires
 is-size-requires c κs = search needs
 
 returns : tie.Need-returns
-returns c =
-    let t = c .before in
-    let s : isSize (length (t .before .before .before .args .file .now)) ≡ false =
-    sym (t .before .is-size .ensures) ∙ not-true _ (t .if1 .taken)
-    in
-    (rw s, rw s (padded-none 4096))
+returns c = (rw (unfit (c .before)), rw (unfit (c .before)) (padded-none 4096))
 
 words-requires : tie.Need-words-requires
 words-requires c κs = search needs
@@ -36,13 +40,10 @@ words-requires c κs = search needs
 array-share-prefix-found : tie.Need-array-share-prefix-found
 array-share-prefix-found c =
     let f = c .before .before .before .before .args .file .now in
-    omega (arith, ap length (c .words .ensures) ∙ padded-length 4096 (wordsOf f), size-fits (length f) (passed (c .before)))
+    omega (arith, ap length (c .words .ensures) ∙ padded-length 4096 (wordsOf f), size-fits (length f) (fit (c .before)))
 
 slice-aggregate-header : tie.Need-slice-aggregate-header
-slice-aggregate-header c =
-    let w = c .before in
-    let f = w .before .before .before .before .args .file .now in
-    rw (w .words .ensures, front-is f (passed (w .before))) (sym (words-length f))
+slice-aggregate-header c = rw (front (c .before)) (sym (words-length _))
 
 header-requires : tie.Need-header-requires
 header-requires c κs = search needs
@@ -50,11 +51,7 @@ header-requires c κs = search needs
 returns-2 : tie.Need-returns-2
 returns-2 c =
     let w = c .before .before in
-    let f = w .before .before .before .before .args .file .now in
-    let h : headed (take (length f / 4) (w .words .result)) ≡ headed (wordsOf f) =
-    ap headed (ap (take (length f / 4)) (w .words .ensures) ∙ front-is f (passed (w .before)))
-    in
-    rw (passed (w .before)) (c .header .ensures ∙ h, w .words .ensures)
+    rw (fit (w .before)) (c .header .ensures ∙ ap headed (front w), w .words .ensures)
 
 pub open-spec : {M : Type 1} → statement M
 open-spec =

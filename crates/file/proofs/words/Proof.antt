@@ -1,16 +1,17 @@
 -- `file::words` meets its contract: before each turn the first i words stand, with zeros after them. Assumes nothing.
-use mathlib.Core.Path.{_≡_, _∙_}
+use mathlib.Core.Path.{_≡_, sym, _∙_}
 use mathlib.Core.List.{List}
-use Prim.Native.Nat.{ℕ, _≤_, _<_, _-_, _/_, _+_, _*_, min}
+use Prim.Native.Nat.{ℕ, _≤_, _-_, _/_, min}
 use borrow.Author.Needs.{needs}
 use native.Mathlib.Omega.{arith}
-use lib.ListN.{length, take}
+use lib.ListN.{length, take, getD}
 use Rattle.calculus.specs.File.{wordsOf, padded}
 use Rattle.file.proofs.Bytes.{words-length, word-at}
 use Rattle.file.proofs.Padding.{padded-none, padded-more, padded-cut}
 use Rattle.file.proofs.words.Statement.{statement}
 use Rattle.file.proofs.words.Tie as tie
 
+-- The loop's invariant.
 record Filled (file : List ℕ) (n : ℕ) (out : List ℕ) (i : ℕ) : Type 0 where
   reached : i ≤ n
   due : n ≡ min (length file / 4) 4096
@@ -71,13 +72,12 @@ loop-again : tie.Need-loop-again Inv-loop μ-loop
 loop-again c =
     let l = c .before .before .before .before .before .before in
     let f = l .before .before .before .args .file .now in
-    let h : 4 * l .loop .i + 3 < length f = omega arith in
+    let i = l .loop .i in
+    let e : c .word .result ≡ getD (wordsOf f) i 0 = c .word .ensures ∙ sym (word-at f i (omega arith)) in
     record {
       reached = search needs;
       due = l .loop .inv .due;
-      stands =
-          rw (c .word .ensures, ← word-at f (l .loop .i) h)
-          (cc (padded-more 4096 (l .loop .i) (wordsOf f) (omega (arith, words-length f)) (omega arith)));
+      stands = rw e (cc (padded-more 4096 i (wordsOf f) (omega (arith, words-length f)) (omega arith)));
     }
 
 returns : tie.Need-returns Inv-loop μ-loop
