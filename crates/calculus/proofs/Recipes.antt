@@ -43,4 +43,5 @@ refused =
       mistyped = refl;
       no-room = refl;
       other-language = refl;
+      kind-first = refl;
     }

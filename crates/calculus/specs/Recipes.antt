@@ -68,7 +68,7 @@ pub record Starred : Type 0 where
   pub third : Ends (fileOf (1 ∷ []) (30 ∷ 1 ∷ 38 ∷ 39 ∷ 289 ∷ 545 ∷ [])) plenty valued 0 2 (529 ∷ []) 0
   pub own-code : Ends (fileOf (1 ∷ []) (30 ∷ 1 ∷ 36 ∷ 34 ∷ 32 ∷ 76844 ∷ [])) plenty error 300 1 [] 0
 
--- The small inputs of the table of refusals, and fn N (ms N v0) with Scheme v0.
+-- The small inputs of the table of refusals, fn N (ms N v0) with Scheme v0, and "3 before 4 at a word".
 pub record Refused : Type 0 where
   pub empty-file : Refuses [] plenty 1 0
   pub header : Refuses (1 ∷ 4 ∷ 1 ∷ 6 ∷ 1 ∷ 17 ∷ []) plenty 2 0
@@ -79,3 +79,4 @@ pub record Refused : Type 0 where
   pub mistyped : Refuses (1 ∷ 4 ∷ 1 ∷ 5 ∷ 2 ∷ 17 ∷ []) plenty 7 0
   pub no-room : Refuses (1 ∷ 4 ∷ 1 ∷ 5 ∷ 1 ∷ 17 ∷ []) (lent 1000000 0) 8 0
   pub other-language : Refuses (fileOf (4 ∷ 1 ∷ 1 ∷ []) (18 ∷ 1 ∷ 30 ∷ 1 ∷ 32 ∷ [])) plenty 5 11
+  pub kind-first : Refuses (fileOf (1 ∷ []) (replicate 256 20 ++ 99 ∷ [])) plenty 3 261
