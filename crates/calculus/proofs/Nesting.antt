@@ -1,23 +1,22 @@
 -- Refusals 3 and 4: the walk with levels takes exactly the words of a tree in range that is nested within the levels, and the walk of the
 -- reader of nodes is the same walk with as many levels as there are words. Assumes nothing.
-use Prim.Native.Nat.{ℕ, zero, suc, _+_, _-_, _/_, _≤_, max}
+use Prim.Native.Nat.{ℕ, zero, suc, _+_, _-_, _/_, _≤_}
 use mathlib.Core.Bool.{Bool, true, false, cond}
 use mathlib.Core.List.{List, [], _∷_, _++_}
 use mathlib.Core.Option.{Option, none, some}
-use mathlib.Core.Path.{_≡_, refl, sym, ap, _∙_, subst}
+use mathlib.Core.Path.{_≡_, refl, sym, ap, _∙_}
 use lib.Dec.{eqb}
 use lib.ListN.{length}
 use borrow.Author.Tests.{eqb-true, eq-eqb, ne-eqb}
 use native.Mathlib.Omega.{arith}
-use native.Mathlib.Nat.{zero-add, add-zero}
 use Rattle.calculus.specs.Verdicts.{found, Verdict, refused, passed}
 use Rattle.calculus.specs.Words.{word}
-use Rattle.calculus.specs.Kinds.{Sort, type, term, Tree, Trees, putTree, putTrees, Row, rowFor, sortOf}
-use Rattle.calculus.specs.Reading.{Act, opens, refuses, later, acted, walk, kindDue, levels, levelled, nestedDue, front, back, noneLeft, inOrder, taken, nodeSize}
+use Rattle.calculus.specs.Kinds.{Sort, Tree, Trees, putTree, putTrees, Row, rowFor}
+use Rattle.calculus.specs.Reading.{opens, refuses, later, acted, walk, levels, levelled, nestedDue, noneLeft, inOrder}
 use Rattle.calculus.proofs.Verdicts.{not-both, passed-injective}
 use Rattle.calculus.proofs.Walks.{later-zero, later-later, later-passed, walk-done}
-use Rattle.calculus.proofs.Sizes.{sizeTree, sizeTrees, tree-length, trees-length}
-use Rattle.calculus.proofs.Rows.{TreeInRange, TreesInRange, nestingTree, deepest, Made, word-due, due-word, due-made, law-at}
+use Rattle.calculus.proofs.Sizes.{sizeTree, sizeTrees, tree-length}
+use Rattle.calculus.proofs.Rows.{TreeInRange, TreesInRange, nestingTree, deepest, word-due, due-word, due-made, law-at}
 use Rattle.calculus.proofs.Views.{View, view, Holds, OfParts, induction, sized}
 
 -- The first part of what nests within a number of levels, and the others.

@@ -1,6 +1,6 @@
 -- The reader of nodes: its walk knows no nesting, and is the walk with as many levels as there are words. It gives the words of the tree
 -- that stands at a place, and nothing where none stands. Assumes nothing.
-use Prim.Native.Nat.{ℕ, zero, suc, _+_, _-_, _≤_}
+use Prim.Native.Nat.{ℕ, suc, _+_, _-_, _≤_}
 use mathlib.Core.Bool.{cond}
 use mathlib.Core.List.{List, [], _∷_, _++_}
 use mathlib.Core.Option.{Option, none, some}
@@ -11,7 +11,7 @@ use borrow.Author.Tests.{ne-eqb}
 use native.Mathlib.Omega.{arith}
 use Rattle.calculus.specs.Verdicts.{found, Verdict, refused, passed}
 use Rattle.calculus.specs.Kinds.{Sort, Tree, putTree, Row, rowFor, sortOf}
-use Rattle.calculus.specs.Reading.{Act, opens, refuses, later, acted, walk, kindDue, levelled, nestedDue, taken, nodeSize, nodeAt}
+use Rattle.calculus.specs.Reading.{opens, refuses, later, acted, walk, kindDue, levelled, nestedDue, taken, nodeSize, nodeAt}
 use Rattle.calculus.proofs.Walks.{walk-done}
 use Rattle.calculus.proofs.Sizes.{sizeTree, take-tree}
 use Rattle.calculus.proofs.Rows.{TreeInRange, nestingTree}

@@ -1,6 +1,6 @@
 -- Reading words as trees inverts writing them: a tree's words and anything after them read back as that tree, and what reads is the words
 -- of exactly one tree, in range. Assumes nothing.
-use Prim.Native.Nat.{ℕ, _/_, _%_}
+use Prim.Native.Nat.{ℕ, _/_}
 use mathlib.Core.List.{List, [], _∷_, _++_}
 use mathlib.Core.Logic.{_↔_}
 use mathlib.Core.Option.{Option, none, some, Option·some-injective, Option·none-ne-some}
@@ -8,7 +8,7 @@ use mathlib.Core.Path.{_≡_, refl, sym, ap, _∙_, subst}
 use Rattle.calculus.specs.Verdicts.{found}
 use Rattle.calculus.specs.Trees.{Ty}
 use Rattle.calculus.specs.Words.{word, wordsTy}
-use Rattle.calculus.specs.Kinds.{Sort, type, term, Tree, Trees, putTree, putTrees, Row, rowFor}
+use Rattle.calculus.specs.Kinds.{Sort, type, Tree, Trees, putTree, putTrees, Row, rowFor}
 use Rattle.calculus.specs.Reading.{front, back, read, readTree}
 use Rattle.calculus.proofs.Verdicts.{found-some}
 use Rattle.calculus.proofs.Rows.{TreeInRange, TreesInRange, word-due, due-word, due-made}

@@ -1,15 +1,15 @@
 -- The table of kinds and the words of trees: what a row makes has the row's word and then its parts' words, is in range, and nests one
 -- deeper than its parts. One law for each row, found by the kind. Assumes nothing.
-use Prim.Native.Nat.{ℕ, zero, suc, _+_, _*_, _/_, _%_, _≤_, _<_, max}
+use Prim.Native.Nat.{ℕ, zero, suc, _/_, _%_, _≤_, _<_, max}
 use mathlib.Core.Bool.{Bool, true, false, cond, _&&_}
 use mathlib.Core.List.{List, [], _∷_}
-use mathlib.Core.Option.{Option, none, some, Option·some-injective, Option·none-ne-some}
+use mathlib.Core.Option.{none, some, Option·some-injective, Option·none-ne-some}
 use mathlib.Core.Path.{_≡_, refl, sym, ap, _∙_, subst}
 use lib.Dec.{eqb, leb}
 use borrow.Author.Tests.{eqb-true, leb-true, le-leb}
 use native.Mathlib.Omega.{arith}
 use native.Mathlib.Nat.{zero-max}
-use Rattle.calculus.specs.Trees.{Lang, ml, sc}
+use Rattle.calculus.specs.Trees.{ml, sc}
 use Rattle.calculus.specs.Words.{word, testNumber, put, putTy}
 use Rattle.calculus.specs.Limits.{InRange, nestingTy, nesting}
 use Rattle.calculus.proofs.Verdicts.{found-some}

@@ -1,17 +1,17 @@
 -- Refusal 5: the scope walk takes exactly the words of a closed term. Assumes nothing.
-use Prim.Native.Nat.{ℕ, suc, _+_, _/_, _%_}
+use Prim.Native.Nat.{ℕ, _+_, _%_}
 use mathlib.Core.Bool.{Bool, true, false, cond, not}
 use mathlib.Core.List.{List, [], _∷_, _++_}
 use mathlib.Core.Logic.{_↔_}
-use mathlib.Core.Path.{_≡_, refl, sym, ap, _∙_, subst}
+use mathlib.Core.Path.{_≡_, refl, sym, ap, _∙_}
 use lib.Dec.{T, eqb}
 use lib.ListN.{length, replicate}
 use native.Mathlib.Omega.{arith}
-use Rattle.calculus.specs.Verdicts.{found, Verdict, refused, passed}
-use Rattle.calculus.specs.Trees.{Ty, N, L, list, _to_, Lang, ml, sc, Test, isFun, isList, isNull, isNum, Op1, head, tail, fixpoint, empty, testing, Op2, apply, plus, minus, pair, Term, var, num, lam, op1, op2, if0, nil, wrong, ms, sm}
+use Rattle.calculus.specs.Verdicts.{found, passed}
+use Rattle.calculus.specs.Trees.{Ty, N, L, list, _to_, Lang, ml, sc, isFun, isList, isNull, isNum, head, tail, fixpoint, empty, testing, apply, plus, minus, pair, Term, var, num, lam, op1, op2, if0, nil, wrong, ms, sm}
 use Rattle.calculus.specs.Words.{word, put, size}
-use Rattle.calculus.specs.Kinds.{Sort, type, term, Tree, Trees, putTree, putTrees, Row, table, rowIn, sortOf}
-use Rattle.calculus.specs.Reading.{Act, opens, refuses, later, acted, walk}
+use Rattle.calculus.specs.Kinds.{Sort, type, term, Tree, Trees, putTree, putTrees, table, rowIn}
+use Rattle.calculus.specs.Reading.{opens, refuses, later, acted, walk}
 use Rattle.calculus.specs.Scope.{lambdaAt, Scoped, isFree, inside, partCount, scopeDue}
 use Rattle.calculus.proofs.Verdicts.{not-both}
 use Rattle.calculus.proofs.Walks.{later-zero, later-later, later-passed}

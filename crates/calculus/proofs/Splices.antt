@@ -2,7 +2,7 @@
 use Prim.Native.Nat.{ℕ}
 use mathlib.Core.List.{List, [], _∷_, _++_, append-assoc, append-nil}
 use mathlib.Core.Path.{_≡_, refl, sym, ap, _∙_, subst}
-use Rattle.calculus.specs.Trees.{_to_, Lang, Term}
+use Rattle.calculus.specs.Trees.{Lang, Term}
 use Rattle.calculus.specs.Words.{by, word1, word2, put, wordsTy, words}
 use Rattle.calculus.specs.Reduction.{Became, becomes, raises, nothing, contract, Frame, under, first, second, tested, intoML, intoScheme, plug, Context, here, within, fill, at, turn, Outcome, value, raised, next, stuck, outcome, step}
 use Rattle.calculus.proofs.Sizes.{putTy-append, put-append}

@@ -1,13 +1,13 @@
 -- Every tree is what a row of the table makes: its row, its operand and its parts, with its words by them. It is the inversion by the kind
 -- of the first word, for every kind at once, and gives induction over trees with one case. Assumes nothing.
-use Prim.Native.Nat.{ℕ, zero, suc, _+_, _/_, _%_, _≤_, _<_}
+use Prim.Native.Nat.{ℕ, zero, suc, _/_, _%_, _≤_, _<_}
 use mathlib.Core.List.{List, [], _∷_}
-use mathlib.Core.Option.{Option, some}
-use mathlib.Core.Path.{_≡_, refl, sym, ap, _∙_, subst}
+use mathlib.Core.Option.{some}
+use mathlib.Core.Path.{_≡_, refl, sym, ap, _∙_}
 use lib.Dec.{T, ltb, ltb→lt}
 use lib.ListN.{length}
 use native.Mathlib.Omega.{arith}
-use Rattle.calculus.specs.Trees.{Ty, N, L, list, _to_, Lang, ml, sc, Test, isFun, isList, isNull, isNum, Op1, head, tail, fixpoint, empty, testing, Op2, apply, plus, minus, pair, Term, var, num, lam, op1, op2, if0, nil, wrong, ms, sm}
+use Rattle.calculus.specs.Trees.{Ty, N, L, list, _to_, ml, sc, isFun, isList, isNull, isNum, head, tail, fixpoint, empty, testing, apply, plus, minus, pair, Term, var, num, lam, op1, op2, if0, nil, wrong, ms, sm}
 use Rattle.calculus.specs.Words.{word, put, putTy}
 use Rattle.calculus.specs.Limits.{InRange}
 use Rattle.calculus.specs.Kinds.{Sort, type, term, Tree, Trees, putTree, putTrees, Row, table, rowIn, sortOfKind, sortOf}

@@ -1,10 +1,10 @@
 -- Document 01, "A file is little-endian words" and the table of refusals: the check of a file, and its run.
 use Prim.Native.Nat.{ℕ, _+_, _*_, _-_, _%_}
-use mathlib.Core.Bool.{Bool, true, false, _&&_}
+use mathlib.Core.Bool.{Bool, _&&_}
 use mathlib.Core.List.{List, [], _∷_, _++_}
 use lib.Dec.{eqb, leb}
 use lib.ListN.{length, getD, take, drop, replicate}
-use Rattle.calculus.specs.Trees.{Ty, Lang, ml, Term}
+use Rattle.calculus.specs.Trees.{Ty, ml, Term}
 use Rattle.calculus.specs.Words.{size}
 use Rattle.calculus.specs.Kinds.{Sort, type, term, Tree}
 use Rattle.calculus.specs.Verdicts.{Verdict, refused, passed, andThen, unless, orRefuse}

@@ -1,9 +1,9 @@
 -- Document 01, "Each ML term has at most one type": typing as a function, the one type that a term has, if it has any.
 use Prim.Native.Nat.{ℕ, zero, suc}
 use mathlib.Core.Bool.{Bool, true, false, cond}
-use mathlib.Core.List.{List, [], _∷_}
+use mathlib.Core.List.{[], _∷_}
 use mathlib.Core.Option.{Option, none, some}
-use Rattle.calculus.specs.Trees.{Ty, N, L, list, _to_, Ty-discrete, Lang, ml, sc, Static, numbers, lists, functions, Op1, head, tail, fixpoint, empty, testing, Op2, apply, plus, minus, pair, Term, var, num, lam, op1, op2, if0, nil, wrong, ms, sm}
+use Rattle.calculus.specs.Trees.{N, L, list, _to_, Ty-discrete, Lang, ml, sc, Static, numbers, lists, functions, Op1, head, tail, fixpoint, empty, testing, Op2, apply, plus, minus, pair, Term, var, num, lam, op1, op2, if0, nil, wrong, ms, sm}
 use Rattle.calculus.specs.Verdicts.{found}
 use Rattle.calculus.specs.Typing.{Entry, of, Lambdas}
 

@@ -1,11 +1,11 @@
 -- Document 01, "Words and file": walking over words in prefix order, the node at a place, and the tree that words are.
 use Prim.Native.Nat.{ℕ, _+_, _-_, _/_}
-use mathlib.Core.Bool.{Bool, true, false, cond}
+use mathlib.Core.Bool.{cond}
 use mathlib.Core.List.{List, [], _∷_, _++_}
 use mathlib.Core.Option.{Option, none, some}
 use lib.Dec.{eqb}
 use lib.ListN.{length, getD, take, drop}
-use Rattle.calculus.specs.Kinds.{Sort, type, term, Tree, Trees, Row, rowFor, sortOf}
+use Rattle.calculus.specs.Kinds.{Sort, Tree, Trees, rowFor, sortOf}
 use Rattle.calculus.specs.Verdicts.{found, Verdict, refused, passed}
 
 -- What a word means where something is due: the parts that are due next, in order, or the number of a refusal.

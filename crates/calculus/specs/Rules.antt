@@ -4,10 +4,10 @@
 -- Codes: 1 not a number, 2 not a function, 3 not a list, 4 empty list, 5 over the limit.
 -- Where document 01 departs from the figures: fix-lambda is of documents 000 and 003; add-over is its own; if0-no-number takes the third
 -- part, where figure 2.18 has wrong 1; sm-lambda asks for a lambda, where figure 2.20 takes any value.
-use Prim.Native.Nat.{ℕ, zero, suc, _+_, _-_, _≤_, _<_}
+use Prim.Native.Nat.{ℕ, suc, _+_, _-_, _≤_, _<_}
 use mathlib.Core.Path.{_≡_}
 use mathlib.Core.Logic.{_⊎_}
-use Rattle.calculus.specs.Trees.{Ty, N, L, list, _to_, Lang, ml, sc, Static, numbers, lists, Test, isFun, isList, isNull, isNum, Term, var, num, lam, if0, nil, wrong, ms, sm, app, add, sub, cons, hd, tl, fix, null?, test}
+use Rattle.calculus.specs.Trees.{Ty, N, L, list, _to_, Lang, ml, sc, Static, numbers, lists, isFun, isList, isNull, isNum, Term, var, num, lam, if0, nil, wrong, ms, sm, app, add, sub, cons, hd, tl, fix, null?, test}
 use Rattle.calculus.specs.Words.{largest}
 use Rattle.calculus.specs.Reduction.{substitute, Frame, under, first, second, tested, intoML, intoScheme, Context, here, within, fill}
 

@@ -6,7 +6,7 @@ use mathlib.Core.List.{List, [], _∷_}
 use lib.Dec.{T, eqb}
 use lib.ListN.{length, replicate}
 use Rattle.calculus.specs.Trees.{Lang, ml, sc, Term, var, num, lam, op1, op2, if0, nil, wrong, ms, sm}
-use Rattle.calculus.specs.Kinds.{Row, rowIn, table, sortOf}
+use Rattle.calculus.specs.Kinds.{rowIn, table, sortOf}
 use Rattle.calculus.specs.Verdicts.{found}
 use Rattle.calculus.specs.Reading.{Act, opens, refuses}
 

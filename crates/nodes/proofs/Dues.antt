@@ -1,6 +1,6 @@
 -- What is due at a word, by the table in code: where the calculus looks for a row of a sort, the code looks up one row by the kind. Assumes
 -- nothing.
-use Prim.Native.Nat.{ℕ, zero, suc, _+_, _/_, _%_, _≤_, _<_}
+use Prim.Native.Nat.{ℕ, zero, suc, _/_, _%_, _≤_, _<_}
 use mathlib.Core.Bool.{Bool, true, false, cond, _&&_}
 use mathlib.Core.List.{List, [], _∷_}
 use mathlib.Core.Option.{Option, none, some}
@@ -9,10 +9,10 @@ use lib.Dec.{eqb, leb, ltb}
 use borrow.Author.Tests.{ltb-true, ltb-false}
 use native.Mathlib.Omega.{arith}
 use Rattle.calculus.specs.Verdicts.{found}
-use Rattle.calculus.specs.Trees.{Lang, ml, sc}
+use Rattle.calculus.specs.Trees.{ml, sc}
 use Rattle.calculus.specs.Kinds.{Sort, type, term, Row, table, rowIn, rowFor}
 use Rattle.nodes.specs.declared.kinds.Row as code
-use Rattle.nodes.specs.Table.{sortNumber, noEntry, rowOf, listed}
+use Rattle.nodes.specs.Table.{sortNumber, rowOf}
 use Rattle.nodes.specs.Walks.{sortThen, sortsOf, isDue}
 use Rattle.nodes.proofs.Table.{same-list, not-in, past}
 

@@ -2,7 +2,7 @@
 -- nothing.
 use Prim.Native.Nat.{ℕ, zero, suc, _+_, _-_, _/_, _%_, _≤_, _<_}
 use mathlib.Core.Bool.{Bool, true, false, cond, not}
-use mathlib.Core.List.{List, [], _∷_}
+use mathlib.Core.List.{List, _∷_}
 use mathlib.Core.Path.{_≡_, refl, sym, ap, _∙_}
 use lib.Dec.{eqb, ltb}
 use lib.ListN.{length, getD, set}
@@ -12,7 +12,7 @@ use native.Mathlib.Numerals.{add-one}
 use native.Mathlib.Omega.{arith}
 use Rattle.calculus.specs.Verdicts.{found}
 use Rattle.calculus.specs.Trees.{Lang, ml, sc}
-use Rattle.calculus.specs.Kinds.{Sort, type, term, Row, table, rowIn, sortOfKind}
+use Rattle.calculus.specs.Kinds.{type, term, Row, table, rowIn, sortOfKind}
 use Rattle.calculus.specs.Scope.{sameLang, lambdaAt, isFree, inside, partCount}
 use Rattle.nodes.specs.declared.kinds.Row as code
 use Rattle.nodes.specs.Table.{rowOf, listed}

@@ -1,14 +1,14 @@
 -- The ways out of the walk with levels: `ws` are the words left, `at` are gone by, `due` and `room` say what is due. Assumes nothing.
 use Prim.Native.Nat.{ℕ, _+_, _-_, _/_, _%_, _≤_, _<_}
 use mathlib.Core.Bool.{true, false, cond}
-use mathlib.Core.List.{List, [], _∷_}
+use mathlib.Core.List.{List, _∷_}
 use mathlib.Core.Path.{_≡_, sym, ap, _∙_}
 use lib.Dec.{eqb}
 use lib.ListN.{length, getD, take, drop}
 use borrow.Author.Tests.{eq-eqb, ne-eqb}
 use Rattle.calculus.specs.Verdicts.{Verdict, refused, passed}
 use Rattle.calculus.specs.Kinds.{Sort}
-use Rattle.calculus.specs.Reading.{Act, opens, refuses, later, walk, levelled, nestedDue}
+use Rattle.calculus.specs.Reading.{opens, refuses, later, walk, levelled, nestedDue}
 use Rattle.nodes.specs.declared.kinds.Row as code
 use Rattle.nodes.specs.declared.refusals.Refusal.{Refusal}
 use Rattle.nodes.specs.declared.walks.Walked.{Walked}

@@ -1,23 +1,23 @@
 -- The ways out of the walk over variables: `ws` are the words left, `at` are gone by, `due` says what is due, Γ are the lambdas around. Assumes
 -- nothing.
 use Prim.Native.Nat.{ℕ, _+_, _-_, _/_, _%_, _≤_, _<_}
-use mathlib.Core.Bool.{true, false, cond}
-use mathlib.Core.List.{List, [], _∷_}
+use mathlib.Core.Bool.{true, false}
+use mathlib.Core.List.{List, _∷_}
 use mathlib.Core.Path.{_≡_, sym, ap, _∙_}
 use lib.ListN.{length, getD, take, drop, replicate}
 use Rattle.calculus.specs.Verdicts.{Verdict, refused, passed}
 use Rattle.calculus.specs.Trees.{Lang}
 use Rattle.calculus.specs.Kinds.{Sort}
-use Rattle.calculus.specs.Reading.{Act, opens, refuses, later, walk}
+use Rattle.calculus.specs.Reading.{opens, later, walk}
 use Rattle.calculus.specs.Scope.{isFree, inside, scopeDue}
 use Rattle.nodes.specs.declared.kinds.Row as code
 use Rattle.nodes.specs.declared.refusals.Refusal.{Refusal}
 use Rattle.nodes.specs.declared.walks.Walked.{Walked}
 use Rattle.nodes.specs.declared.walks.Walked.the-variants.{Took, Refused}
 use Rattle.nodes.specs.Table.{rowOf}
-use Rattle.nodes.specs.Walks.{walked, sortsOf}
+use Rattle.nodes.specs.Walks.{walked}
 use Rattle.nodes.specs.Around.{each}
-use Rattle.nodes.proofs.Dues.{none-due, FirstDue, first-due}
+use Rattle.nodes.proofs.Dues.{none-due, first-due}
 use Rattle.nodes.proofs.Lambdas.{part-count}
 use Rattle.nodes.proofs.Ways as ways
 

@@ -4,12 +4,12 @@ use mathlib.Core.Bool.{Bool, true, false}
 use mathlib.Core.List.{List, [], _∷_}
 use mathlib.Core.Option.{none}
 use mathlib.Core.Path.{_≡_, refl, sym, _∙_, ap}
-use lib.Dec.{ltb, eqb, when}
+use lib.Dec.{ltb, when}
 use lib.ListN.{getD}
 use borrow.Author.Tests.{ne-eqb, ltb-true}
 use native.Mathlib.Nat.{add-zero, zero-add, add-suc, suc-add, le-of-suc-le-suc, not-suc-le-zero}
 use native.Mathlib.Omega.{arith}
-use Rattle.calculus.specs.Kinds.{Sort, type, term, Row, table, rowIn, sortOfKind}
+use Rattle.calculus.specs.Kinds.{Sort, type, term, Row, table, rowIn}
 use Rattle.calculus.specs.Trees.{ml, sc}
 use Rattle.nodes.specs.declared.kinds.Row as code
 use Rattle.nodes.specs.Table.{noEntry, rowOf, packed, listed, kinds}

@@ -7,7 +7,7 @@ use lib.ListN.{length, getD, take, drop, length-drop}
 use borrow.Rule.Slice.PartAt.{part-to-end}
 use native.Mathlib.Nat.{add-zero}
 use native.Mathlib.Omega.{arith}
-use Rattle.calculus.specs.Verdicts.{Verdict, refused, passed}
+use Rattle.calculus.specs.Verdicts.{refused, passed}
 use Rattle.calculus.specs.Reading.{Act, opens, refuses, later, walk}
 use Rattle.calculus.proofs.Walks.{walk-done, walk-end, stops, parts-stop, parts-pass, reach, reach-from}
 use Rattle.nodes.specs.declared.refusals.Refusal.{Refusal}

@@ -1,9 +1,8 @@
 -- The table of kinds as code has it, computed from the table of the calculus.
 use Prim.Native.Nat.{ℕ, zero, suc, _+_, _*_}
 use mathlib.Core.List.{List, [], _∷_}
-use mathlib.Core.Option.{Option, none, some}
 use Rattle.calculus.specs.Verdicts.{found}
-use Rattle.calculus.specs.Trees.{Ty, N, L, list, _to_, Lang, ml, sc, Term, var, num, lam, op1, op2, if0, nil, wrong, ms, sm}
+use Rattle.calculus.specs.Trees.{N, L, list, _to_, ml, sc, var, num, lam, op1, op2, if0, nil, wrong, ms, sm}
 use Rattle.calculus.specs.Kinds.{Sort, type, term, Tree, Trees, Row, table, rowIn, sortOfKind}
 use Rattle.nodes.specs.declared.kinds.Row as code
 

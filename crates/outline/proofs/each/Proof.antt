@@ -4,9 +4,6 @@ use lib.ListN.{length}
 use borrow.Author.Needs.{needs}
 use Rattle.outline.proofs.each.Statement.{statement}
 use Rattle.outline.proofs.each.Tie as tie
-use Rattle.outline.proofs.each.Reads as reads
-use Rattle.outline.proofs.each.Lts as lts
-use Rattle.outline.proofs.ask.Reads as ask-reads
 
 abbrev Inv-loop : tie.InvT-loop
 Inv-loop words at₀ at = at ≤ length words

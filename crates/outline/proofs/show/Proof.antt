@@ -4,10 +4,6 @@ use lib.ListN.{length}
 use borrow.Author.Needs.{needs}
 use Rattle.outline.proofs.show.Statement.{statement}
 use Rattle.outline.proofs.show.Tie as tie
-use Rattle.outline.proofs.show.Reads as reads
-use Rattle.outline.proofs.show.Lts as lts
-use Rattle.io.proofs.write_all.Reads as write-all-reads
-use Rattle.outline.proofs.number.Reads as number-reads
 
 abbrev Inv-loop : tie.InvT-loop
 Inv-loop words i₀ t3 i = i ≤ length words

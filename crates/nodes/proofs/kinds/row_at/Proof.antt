@@ -7,8 +7,6 @@ use Rattle.nodes.proofs.Table.{unpacked, unpacked-at, past}
 use borrow.Author.Needs.{needs}
 use Rattle.nodes.proofs.kinds.row_at.Statement.{statement}
 use Rattle.nodes.proofs.kinds.row_at.Tie as tie
-use Rattle.nodes.proofs.kinds.row_at.Reads as reads
-use Rattle.nodes.proofs.kinds.row_at.Lts as lts
 
 -- src/kinds.rt:125:13
 cast-k : tie.Need-cast-k

@@ -3,8 +3,6 @@ use Rattle.nodes.proofs.Lambdas.{no-lambda, ml-lambda, scheme-lambda}
 use borrow.Author.Needs.{needs}
 use Rattle.nodes.proofs.scopes.enter.Statement.{statement}
 use Rattle.nodes.proofs.scopes.enter.Tie as tie
-use Rattle.nodes.proofs.scopes.enter.Reads as reads
-use Rattle.nodes.proofs.scopes.enter.Lts as lts
 
 returns : tie.Need-returns
 returns c = let s = c .before .before in no-lambda (s .args .scope .now) (s .args .depth) (s .args .w) (s .args .row) (s .pre .0) (c .if1 .taken)

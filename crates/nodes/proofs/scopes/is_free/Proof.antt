@@ -1,11 +1,8 @@
 -- `nodes::scopes::is_free` meets its contract. Assumes nothing.
-use native.Mathlib.Omega.{arith}
 use Rattle.nodes.proofs.Lambdas.{no-variable, too-far, ml-variable, scheme-variable}
 use borrow.Author.Needs.{needs}
 use Rattle.nodes.proofs.scopes.is_free.Statement.{statement}
 use Rattle.nodes.proofs.scopes.is_free.Tie as tie
-use Rattle.nodes.proofs.scopes.is_free.Reads as reads
-use Rattle.nodes.proofs.scopes.is_free.Lts as lts
 
 returns : tie.Need-returns
 returns c = let s = c .before .before in no-variable (s .args .scope .now) (s .args .depth) (s .args .w) (s .args .row) (s .pre .0) (c .if1 .taken)

@@ -6,9 +6,6 @@ use Rattle.nodes.specs.Walks.{sortsOf}
 use borrow.Author.Needs.{needs}
 use Rattle.nodes.proofs.scopes.scoped.Statement.{statement}
 use Rattle.nodes.proofs.scopes.scoped.Tie as tie
-use Rattle.nodes.proofs.scopes.scoped.Reads as reads
-use Rattle.nodes.proofs.scopes.scoped.Lts as lts
-use Rattle.nodes.proofs.scopes.variables.Reads as variables-reads
 
 slice-aggregate-variables : tie.Need-slice-aggregate-variables
 slice-aggregate-variables c = search needs

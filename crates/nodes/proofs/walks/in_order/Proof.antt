@@ -1,12 +1,8 @@
 -- `nodes::walks::in_order` meets its contract. Assumes nothing.
-use native.Mathlib.Omega.{arith}
 use Rattle.nodes.proofs.Readers.{not-before, order-refused, order-took, order-more}
 use borrow.Author.Needs.{needs}
 use Rattle.nodes.proofs.walks.in_order.Statement.{statement}
 use Rattle.nodes.proofs.walks.in_order.Tie as tie
-use Rattle.nodes.proofs.walks.in_order.Reads as reads
-use Rattle.nodes.proofs.walks.in_order.Lts as lts
-use Rattle.nodes.proofs.walks.walk.Reads as walk-reads
 
 walk-requires : tie.Need-walk-requires
 walk-requires c κs = search needs

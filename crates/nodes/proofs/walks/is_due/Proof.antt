@@ -3,8 +3,6 @@ use borrow.Author.Tests.{ne-eqb, eq-eqb, lt-leb, le-leb}
 use borrow.Author.Needs.{needs}
 use Rattle.nodes.proofs.walks.is_due.Statement.{statement}
 use Rattle.nodes.proofs.walks.is_due.Tie as tie
-use Rattle.nodes.proofs.walks.is_due.Reads as reads
-use Rattle.nodes.proofs.walks.is_due.Lts as lts
 
 returns : tie.Need-returns
 returns c = let a = c .before .before .args in rw (ne-eqb (a .row .sort) (a .sort) (c .if1 .taken))

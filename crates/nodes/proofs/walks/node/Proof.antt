@@ -4,9 +4,6 @@ use Rattle.nodes.proofs.Readers.{node-fits, past-end, node-part}
 use borrow.Author.Needs.{needs}
 use Rattle.nodes.proofs.walks.node.Statement.{statement}
 use Rattle.nodes.proofs.walks.node.Tie as tie
-use Rattle.nodes.proofs.walks.node.Reads as reads
-use Rattle.nodes.proofs.walks.node.Lts as lts
-use Rattle.nodes.proofs.walks.node_size.Reads as node-size-reads
 
 slice-aggregate-result : tie.Need-slice-aggregate-result
 slice-aggregate-result c = search needs

@@ -10,10 +10,6 @@ use Rattle.nodes.proofs.Readers.{no-node, node-is, sort-small}
 use borrow.Author.Needs.{needs}
 use Rattle.nodes.proofs.walks.node_size.Statement.{statement}
 use Rattle.nodes.proofs.walks.node_size.Tie as tie
-use Rattle.nodes.proofs.walks.node_size.Reads as reads
-use Rattle.nodes.proofs.walks.node_size.Lts as lts
-use Rattle.nodes.proofs.kinds.row_at.Reads as row-at-reads
-use Rattle.nodes.proofs.walks.walk.Reads as walk-reads
 
 returns : tie.Need-returns
 returns c = no-node (c .before .before .args .words .now) (c .if1 .taken)

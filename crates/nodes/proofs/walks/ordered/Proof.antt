@@ -6,9 +6,6 @@ use Rattle.nodes.proofs.Readers.{types-refused, types-end, terms-follow
 use borrow.Author.Needs.{needs}
 use Rattle.nodes.proofs.walks.ordered.Statement.{statement}
 use Rattle.nodes.proofs.walks.ordered.Tie as tie
-use Rattle.nodes.proofs.walks.ordered.Reads as reads
-use Rattle.nodes.proofs.walks.ordered.Lts as lts
-use Rattle.nodes.proofs.walks.in_order.Reads as in-order-reads
 
 in-order-requires : tie.Need-in-order-requires
 unfolding kinds rowOf
