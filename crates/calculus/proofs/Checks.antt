@@ -58,7 +58,7 @@ typed-iff τ e x = (
   λ h. rw (infer-iff [] e τ .1 (h .0), same-iff ml τ τ .1 refl, h .1),
 )
 
-tree-read : {A : Type 0} (s : Sort) (ws : List ℕ) (p : ℕ) (k : Tree s → Verdict A) (o : Ordered s ws) → withTree s ws p k ≡ k (o .tree)
+pub tree-read : {A : Type 0} (s : Sort) (ws : List ℕ) (p : ℕ) (k : Tree s → Verdict A) (o : Ordered s ws) → withTree s ws p k ≡ k (o .tree)
 tree-read s ws p k o = rw (ap (readTree s) (o .spelt) ∙ whole-tree s (o .tree) (o .ranged))
 
 -- Refusals 5, 6 and 7, of words in order.
@@ -74,10 +74,10 @@ module _ (ws : List ℕ) (x : Recipe) (t : Ordered type (typeWords ws)) (e : Ord
       (λ q. let h = i .0 q in (h .0, j .0 (sym k ∙ h .1)), λ h. i .1 (h .0, k ∙ j .1 (h .1)))
 
 -- Refusals 2 to 7.
-abbrev InOrder : List ℕ → Recipe → Type 0
+abbrev pub InOrder : List ℕ → Recipe → Type 0
 InOrder ws x = Contains ws (x .0) (x .1) × (nestingTy (x .0) ≤ 256) × (nesting (x .1) ≤ 256) × InRange (x .1) × Scoped [] (x .1) × Typed [] (x .1) (x .0)
 
-passes-in-order : (ws : List ℕ) (x : Recipe) → checkWords ws ≡ passed x → InOrder ws x
+pub passes-in-order : (ws : List ℕ) (x : Recipe) → checkWords ws ≡ passed x → InOrder ws x
 unfolding checkWords
 passes-in-order ws x q =
     let h = unless-iff (isHeader ws) 2 0 _ x .0 q in

@@ -60,7 +60,7 @@ header-fits ws e =
       ends = eqb-true _ _ (p .1);
     }
 
-header-is : (ws : List ℕ) → Fits ws → isHeader ws ≡ true
+pub header-is : (ws : List ℕ) → Fits ws → isHeader ws ≡ true
 header-is ws f =
     joined _ _ (joined _ _ (joined _ _ (joined _ _ (le-leb _ _ (f .types)) (eq-eqb _ _ (f .types-from))) (le-leb _ _ (f .terms)))
     (eq-eqb _ _ (f .terms-from))) (eq-eqb _ _ (f .ends))

@@ -5,3 +5,4 @@ pub mod Nested
 pub mod Readers
 pub mod Lambdas
 pub mod Scoping
+pub mod Shapes

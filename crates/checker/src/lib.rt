@@ -1,0 +1,78 @@
+// The check of a recipe: refusals 1 to 7 in their order, or accepted.
+
+use file::Opened;
+use file::open;
+use inference::infer;
+use nodes::refusals::Refusal;
+use nodes::scopes::scoped;
+use nodes::walks::Walked;
+use nodes::walks::ordered;
+use rules::Inferred;
+use types::same;
+ghost use mathlib.Core.Path.{_≡_};
+ghost use Prim.Native.Nat.{_<_, _≤_};
+ghost use lib.ListN.{length};
+ghost use Rattle.calculus.specs.File.{typeCount, checkWords};
+ghost use Rattle.calculus.specs.File as calculus;
+ghost use Rattle.nodes.specs.Table.{kinds};
+ghost use Rattle.file.proofs.Tests.{Fits};
+ghost use Rattle.checker.specs.Checks.{checked, accepting, Decides};
+
+pub enum Checked {
+    Refused(Refusal),
+    Accepted,
+}
+
+// Refusals 6 and 7 of a file's words, whose declared type stands at 4 and whose term starts at `start`, with a link for each word. Their places
+// are 0.
+fn typed_by(table: &[u64; 48], words: &[u32], start: usize, link: &mut [u16]) -> Checked
+    requires { ⌜ (now table ≡ kinds) × (0 < start) × (start ≤ length (now words)) × (length (now words) ≤ 4096) × (length (now link) ≡ length (now words)) ⌝ }
+    ensures { λ r. ⌜ Decides (now (words .entry)) start r ⌝ }
+{
+    let Inferred::Typed(t, _) = infer(table, words, &words[start..], start, link, 0) else {
+        return Checked::Refused(Refusal::Untyped(0));
+    };
+    if same(table, words, link, t, 4) {
+        return Checked::Accepted;
+    }
+    Checked::Refused(Refusal::Mistyped(0))
+}
+
+// The same, with links of its own.
+fn typed(words: &[u32], start: usize) -> Checked
+    requires { ⌜ (0 < start) × (start ≤ length (now words)) × (length (now words) ≤ 4096) ⌝ }
+    ensures { λ r. ⌜ Decides (now (words .entry)) start r ⌝ }
+{
+    let table = nodes::kinds::KINDS;
+    let mut link = [0u16; 4096];
+    let n = words.len();
+    typed_by(&table, words, start, &mut link[..n])
+}
+
+// Refusals 3 to 7 of a file's words, whose header is in order and says that the declared type has so many words. For the rooms above.
+pub fn judge(words: &[u32], types: usize) -> Checked
+    requires { ⌜ Fits (now words) × (types ≡ typeCount (now words)) × (length (now words) ≤ 4096) ⌝ }
+    ensures { λ r. ⌜ checked r ≡ accepting (checkWords (now (words .entry))) ⌝ }
+{
+    let start = 4 + types;
+    let walked = ordered(&words[4..start], &words[start..]);
+    if let Walked::Refused(r) = walked {
+        return Checked::Refused(r);
+    }
+    let closed = scoped(&words[start..], start);
+    if let Walked::Refused(r) = closed {
+        return Checked::Refused(r);
+    }
+    typed(words, start)
+}
+
+// The check of a file: every file, accepted or refused.
+pub fn check(file: &[u8]) -> Checked
+    ensures { λ r. ⌜ checked r ≡ accepting (calculus.check (now (file .entry))) ⌝ }
+{
+    let mut all = [0u32; 4096];
+    match open(file, &mut all) {
+        Opened::Refused(r) => Checked::Refused(r),
+        Opened::Recipe(types, n) => judge(&all[..n], types),
+    }
+}

@@ -1,0 +1,117 @@
+-- The rules in either language: Scheme asks nothing of its operators. Assumes nothing.
+use Prim.Native.Nat.{ℕ, _+_, _<_, _≤_}
+use mathlib.Core.Bool.{Bool, true, false, cond}
+use mathlib.Core.List.{List}
+use mathlib.Core.Option.{Option, none, some}
+use mathlib.Core.Path.{_≡_, refl, sym, ap, _∙_, subst}
+use borrow.Author.Tests.{eq-eqb, ne-eqb}
+use lib.Dec.{eqb}
+use lib.ListN.{length}
+use native.Mathlib.Omega.{arith}
+use Rattle.calculus.specs.Trees.{Ty, Lang, ml, sc, Static, Op1, head, tail, testing, Op2, apply, plus, minus, pair}
+use Rattle.calculus.specs.Inference.{sameType, result1, result2, result3}
+use Rattle.calculus.specs.Words.{word1, word2}
+use Rattle.calculus.specs.Kinds.{term}
+use Rattle.nodes.specs.Table.{sortNumber}
+use Rattle.types.specs.References.{shapeAt, Written, Means}
+use Rattle.types.proofs.Meanings.{means-in, written-means}
+use Rattle.rules.specs.Answers.{Refers, Passes, Answers, conclusion, Embedded}
+use Rattle.rules.specs.Operators.{Found, Result1, Result2, Result3}
+use Rattle.rules.specs.declared.Inferred.{Inferred}
+use Rattle.rules.specs.declared.Inferred.the-variants.{Typed, Bad}
+use Rattle.inference.specs.Conclusions.{other, crossing, Crossed, Concluded1, Concluded2, Concluded3}
+
+-- A reference that was found, as an answer.
+answered : (w ls : List ℕ) (lo hi at next p : ℕ) (o : Option Ty) → Found w ls lo hi o p → Answers ml w ls lo hi at next o (conclusion at p next)
+unfolding Found Answers
+answered w ls lo hi at next p none f = rw (eq-eqb p 0 f)
+answered w ls lo hi at next p (some t) f = rw (ne-eqb p 0 (λ z. omega (arith, z, means-in w ls lo hi p t f))) (p, refl, f)
+
+concluded-passes : (at p next : ℕ) → Passes next (conclusion at p next)
+concluded-passes at p next = by (eqb p 0)
+  where
+    by : (b : Bool) → Passes next (cond b (Bad at) (Typed p next))
+    by true = tt
+    by false = refl
+
+-- Scheme's results.
+result1-scheme : (o : Op1 sc) → result1 o tt ≡ some tt
+result1-scheme head = refl
+result1-scheme tail = refl
+result1-scheme (testing k) = refl
+
+result2-scheme : (o : Op2) → result2 sc o tt tt ≡ some tt
+result2-scheme apply = refl
+result2-scheme plus = refl
+result2-scheme minus = refl
+result2-scheme pair = refl
+
+formed : (w ls : List ℕ) (lo hi at next : ℕ) (o : Option Unit) → o ≡ some tt → Answers sc w ls lo hi at next o (Typed 0 next)
+unfolding Answers
+formed w ls lo hi at next o e = rw e (0, refl, tt)
+
+module _ (w ls : List ℕ) (sort at t next : ℕ) where
+  pub ms-crossed : at < length w → sort ≡ 2 → Crossed w ls sort at t next (Typed (at + 1) next)
+  unfolding Answers
+  ms-crossed i e = record { passes = refl; is = λ l. by l }
+    where
+      by : (l : Lang) (τ : Ty) (s : Static (other l)) (lo hi : ℕ) → hi ≤ length w → sort ≡ sortNumber (term l) → Written w (at + 1) τ
+          → Refers (other l) w ls lo hi t s → Answers l w ls lo hi at next (crossing l τ s) (Typed (at + 1) next)
+      by ml τ s lo hi h q x m = (at + 1, refl, written-means w ls lo hi (at + 1) τ (omega arith) x)
+      by sc τ s lo hi h q x m = absurd (omega (arith, q, e))
+
+  pub sm-crossed : (r : Inferred) → (sort ≡ 2 → ⊥) → Embedded w ls at t next r → Crossed w ls sort at t next r
+  sm-crossed r n m = record { passes = m .passes; is = λ l. by l }
+    where
+      by : (l : Lang) (τ : Ty) (s : Static (other l)) (lo hi : ℕ) → hi ≤ length w → sort ≡ sortNumber (term l) → Written w (at + 1) τ
+          → Refers (other l) w ls lo hi t s → Answers l w ls lo hi at next (crossing l τ s) r
+      by ml τ s lo hi h q x f = absurd (n q)
+      by sc τ s lo hi h q x f = m .is τ s lo hi h x f
+
+  pub scheme1 : (x : ℕ) → (sort ≡ 2 → ⊥) → Concluded1 w ls sort x at t next (Typed 0 next)
+  scheme1 x n = record { passes = refl; is = λ l. by l }
+    where
+      by : (l : Lang) (o : Op1 l) (s : Static l) (lo hi : ℕ) → hi ≤ length w → sort ≡ sortNumber (term l) → x ≡ word1 o → shapeAt w at ≡ 4
+          → Refers l w ls lo hi t s → Answers l w ls lo hi at next (result1 o s) (Typed 0 next)
+      by ml o s lo hi h q e k f = absurd (n q)
+      by sc o s lo hi h q e k f = formed w ls lo hi at next (result1 o tt) (result1-scheme o)
+
+  pub ml1 : (x p : ℕ) (r : Inferred) → sort ≡ 2 → Result1 w ls x at t p → r ≡ conclusion at p next → Concluded1 w ls sort x at t next r
+  ml1 x p r e f y = subst (λ (i : Inferred). Concluded1 w ls sort x at t next i) (sym y) (record { passes = concluded-passes at p next; is = λ l. by l })
+    where
+      by : (l : Lang) (o : Op1 l) (s : Static l) (lo hi : ℕ) → hi ≤ length w → sort ≡ sortNumber (term l) → x ≡ word1 o → shapeAt w at ≡ 4
+          → Refers l w ls lo hi t s → Answers l w ls lo hi at next (result1 o s) (conclusion at p next)
+      by ml o s lo hi h q y k m = answered w ls lo hi at next p (result1 o s) (f o s lo hi h y k m)
+      by sc o s lo hi h q y k m = absurd (omega (arith, q, e))
+
+  pub scheme2 : (x u : ℕ) → (sort ≡ 2 → ⊥) → Concluded2 w ls sort x at t u next (Typed 0 next)
+  scheme2 x u n = record { passes = refl; is = λ l. by l }
+    where
+      by : (l : Lang) (o : Op2) (s v : Static l) (lo hi : ℕ) → hi ≤ length w → sort ≡ sortNumber (term l) → x ≡ word2 l o
+          → Refers l w ls lo hi t s → Refers l w ls lo hi u v → Answers l w ls lo hi at next (result2 l o s v) (Typed 0 next)
+      by ml o s v lo hi h q e f g = absurd (n q)
+      by sc o s v lo hi h q e f g = formed w ls lo hi at next (result2 sc o tt tt) (result2-scheme o)
+
+  pub ml2 : (x u p : ℕ) (r : Inferred) → sort ≡ 2 → Result2 w ls x t u p → r ≡ conclusion at p next → Concluded2 w ls sort x at t u next r
+  ml2 x u p r e f y = subst (λ (i : Inferred). Concluded2 w ls sort x at t u next i) (sym y) (record { passes = concluded-passes at p next; is = λ l. by l })
+    where
+      by : (l : Lang) (o : Op2) (s v : Static l) (lo hi : ℕ) → hi ≤ length w → sort ≡ sortNumber (term l) → x ≡ word2 l o
+          → Refers l w ls lo hi t s → Refers l w ls lo hi u v → Answers l w ls lo hi at next (result2 l o s v) (conclusion at p next)
+      by ml o s v lo hi h q y m n = answered w ls lo hi at next p (result2 ml o s v) (f o y s v lo hi h m n)
+      by sc o s v lo hi h q y m n = absurd (omega (arith, q, e))
+
+  pub scheme3 : (u v : ℕ) → (sort ≡ 2 → ⊥) → Concluded3 w ls sort at t u v next (Typed 0 next)
+  scheme3 u v n = record { passes = refl; is = λ l. by l }
+    where
+      by : (l : Lang) (a b c : Static l) (lo hi : ℕ) → hi ≤ length w → sort ≡ sortNumber (term l) → Refers l w ls lo hi t a
+          → Refers l w ls lo hi u b → Refers l w ls lo hi v c → Answers l w ls lo hi at next (result3 l a b c) (Typed 0 next)
+      by ml a b c lo hi h q e f g = absurd (n q)
+      by sc a b c lo hi h q e f g = formed w ls lo hi at next (result3 sc tt tt tt) refl
+
+  pub ml3 : (u v p : ℕ) (r : Inferred) → sort ≡ 2 → Result3 w ls t u v p → r ≡ conclusion at p next → Concluded3 w ls sort at t u v next r
+  ml3 u v p r e f y = subst (λ (i : Inferred). Concluded3 w ls sort at t u v next i) (sym y) (record { passes = concluded-passes at p next; is = λ l. by l })
+    where
+      by : (l : Lang) (a b c : Static l) (lo hi : ℕ) → hi ≤ length w → sort ≡ sortNumber (term l) → Refers l w ls lo hi t a
+          → Refers l w ls lo hi u b → Refers l w ls lo hi v c → Answers l w ls lo hi at next (result3 l a b c) (conclusion at p next)
+      by ml a b c lo hi h q x y z = answered w ls lo hi at next p (result3 ml a b c) (f a b c lo hi h x y z)
+      by sc a b c lo hi h q x y z = absurd (omega (arith, q, e))

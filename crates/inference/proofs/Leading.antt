@@ -1,0 +1,127 @@
+-- The type that a node begins with is told by the node's language and shape. Assumes nothing.
+use Prim.Native.Nat.{ℕ, _+_, _<_, _≤_}
+use mathlib.Core.Bool.{Bool, true, false, cond}
+use mathlib.Core.List.{List}
+use mathlib.Core.Option.{Option, none, some, Option·none-ne-some, Option·some-injective}
+use mathlib.Core.Path.{_≡_, refl, sym, ap, _∙_, subst}
+use borrow.Author.Tests.{eq-eqb, ne-eqb}
+use lib.Dec.{T, eqb}
+use lib.ListN.{length, drop}
+use native.Mathlib.Omega.{arith}
+use Rattle.calculus.specs.Trees.{Ty, Lang, ml, sc, Static, Term, var, num, lam, op1, op2, if0, nil, wrong, ms, sm}
+use Rattle.calculus.specs.Verdicts.{found}
+use Rattle.calculus.specs.Words.{word, putTy, put, sizeTy}
+use Rattle.calculus.specs.Kinds.{term}
+use Rattle.calculus.proofs.Sizes.{past-word}
+use Rattle.nodes.specs.Table.{sortNumber, shapeNumber}
+use Rattle.types.specs.References.{Written}
+use Rattle.types.specs.Comparisons.{Ends}
+use Rattle.inference.specs.Parts.{lead, leadSize, PartsStart}
+
+clash : true ≡ false → ⊥
+clash q = subst T q tt
+
+pub leads : ℕ → ℕ → Bool
+leads sort shape = cond (eqb shape 9) true (cond (eqb sort 2) (cond (eqb shape 3) true (cond (eqb shape 7) true (eqb shape 8))) false)
+
+abbrev has : Option Ty → Bool
+has none = false
+has (some t) = true
+
+lead-told : (l : Lang) (e : Term l) → has (lead e) ≡ leads (sortNumber (term l)) (shapeNumber (term l) e)
+unfolding leads
+lead-told ml (var i) = refl
+lead-told ml (num n) = refl
+lead-told ml (lam t b) = refl
+lead-told ml (op1 o a) = refl
+lead-told ml (op2 o a b) = refl
+lead-told ml (if0 a b c) = refl
+lead-told ml (nil t) = refl
+lead-told ml (wrong c t) = refl
+lead-told ml (ms t a) = refl
+lead-told sc (var i) = refl
+lead-told sc (num n) = refl
+lead-told sc (lam t b) = refl
+lead-told sc (op1 o a) = refl
+lead-told sc (op2 o a b) = refl
+lead-told sc (if0 a b c) = refl
+lead-told sc (nil t) = refl
+lead-told sc (wrong c t) = refl
+lead-told sc (sm t a) = refl
+
+-- It is written behind the node's word.
+pub lead-written : (l : Lang) (e : Term l) (w k : List ℕ) (at : ℕ) (t : Ty) → drop at w ≡ put e k → lead e ≡ some t → Written w (at + 1) t
+unfolding put
+lead-written ml (lam u b) w k at t d q = (put b k, past-word at _ w _ d ∙ ap (λ (v : Ty). putTy v (put b k)) (Option·some-injective u t q))
+lead-written ml (nil u) w k at t d q = (k, past-word at _ w _ d ∙ ap (λ (v : Ty). putTy v k) (Option·some-injective u t q))
+lead-written ml (wrong c u) w k at t d q = (k, past-word at _ w _ d ∙ ap (λ (v : Ty). putTy v k) (Option·some-injective u t q))
+lead-written ml (ms u a) w k at t d q = (put a k, past-word at _ w _ d ∙ ap (λ (v : Ty). putTy v (put a k)) (Option·some-injective u t q))
+lead-written sc (sm u a) w k at t d q = (put a k, past-word at _ w _ d ∙ ap (λ (v : Ty). putTy v (put a k)) (Option·some-injective u t q))
+lead-written ml (var i) w k at t d q = absurd (Option·none-ne-some t q)
+lead-written ml (num n) w k at t d q = absurd (Option·none-ne-some t q)
+lead-written ml (op1 o a) w k at t d q = absurd (Option·none-ne-some t q)
+lead-written ml (op2 o a b) w k at t d q = absurd (Option·none-ne-some t q)
+lead-written ml (if0 a b c) w k at t d q = absurd (Option·none-ne-some t q)
+lead-written sc (var i) w k at t d q = absurd (Option·none-ne-some t q)
+lead-written sc (num n) w k at t d q = absurd (Option·none-ne-some t q)
+lead-written sc (lam u b) w k at t d q = absurd (Option·none-ne-some t q)
+lead-written sc (op1 o a) w k at t d q = absurd (Option·none-ne-some t q)
+lead-written sc (op2 o a b) w k at t d q = absurd (Option·none-ne-some t q)
+lead-written sc (if0 a b c) w k at t d q = absurd (Option·none-ne-some t q)
+lead-written sc (nil u) w k at t d q = absurd (Option·none-ne-some t q)
+lead-written sc (wrong c u) w k at t d q = absurd (Option·none-ne-some t q)
+
+module _ (w : List ℕ) (sort shape at : ℕ) where
+  told : (b : Bool) → leads sort shape ≡ b → (l : Lang) (e : Term l) → sort ≡ sortNumber (term l) → shape ≡ shapeNumber (term l) e → has (lead e) ≡ b
+  told b q l e s h = lead-told l e ∙ ap (λ (i : ℕ). leads i (shapeNumber (term l) e)) (sym s) ∙ ap (leads sort) (sym h) ∙ q
+
+  -- The ways out: past the type, or right behind the word.
+  pub past-type : (r : ℕ) → leads sort shape ≡ true → Ends w (at + 1) r → PartsStart w sort shape at r
+  past-type r q n =
+      record {
+        least = n .least;
+        most = n .most;
+        is = λ l e k s h d. by l e k d (lead e) refl (told true q l e s h);
+      }
+    where
+      by : (l : Lang) (e : Term l) (k : List ℕ) → drop at w ≡ put e k → (o : Option Ty) → lead e ≡ o → has o ≡ true
+          → r ≡ at + 1 + found o 0 (λ t. sizeTy t)
+      by l e k d none p h = absurd (clash (sym h))
+      by l e k d (some t) p h = n .is t (lead-written l e w k at t d p)
+
+  pub right-behind : at < length w → leads sort shape ≡ false → PartsStart w sort shape at (at + 1)
+  right-behind i q =
+      record {
+        least = omega arith;
+        most = omega arith;
+        is = λ l e k s h d. by (lead e) (told false q l e s h);
+      }
+    where
+      by : (o : Option Ty) → has o ≡ false → at + 1 ≡ at + 1 + found o 0 (λ t. sizeTy t)
+      by none h = omega arith
+      by (some t) h = absurd (clash h)
+
+  -- What the code asks.
+  pub boundary : shape ≡ 9 → leads sort shape ≡ true
+  unfolding leads
+  boundary e = rw (eq-eqb shape 9 e)
+
+  pub scheme : (shape ≡ 9 → ⊥) → (sort ≡ 2 → ⊥) → leads sort shape ≡ false
+  unfolding leads
+  scheme a b = rw (ne-eqb shape 9 a, ne-eqb sort 2 b)
+
+  pub lambda : sort ≡ 2 → shape ≡ 3 → leads sort shape ≡ true
+  unfolding leads
+  lambda s h = rw (s, h)
+
+  pub empty-list : sort ≡ 2 → shape ≡ 7 → leads sort shape ≡ true
+  unfolding leads
+  empty-list s h = rw (s, h)
+
+  pub wrongs : sort ≡ 2 → shape ≡ 8 → leads sort shape ≡ true
+  unfolding leads
+  wrongs s h = rw (s, h)
+
+  pub untyped : (shape ≡ 9 → ⊥) → sort ≡ 2 → (shape ≡ 3 → ⊥) → (shape ≡ 7 → ⊥) → (shape ≡ 8 → ⊥) → leads sort shape ≡ false
+  unfolding leads
+  untyped a s b c d = rw (s, ne-eqb shape 9 a, ne-eqb shape 3 b, ne-eqb shape 7 c, ne-eqb shape 8 d)

@@ -1,0 +1,4 @@
+pub mod Formers
+pub mod Operations
+pub mod Results
+pub mod Scopes

@@ -1,0 +1,144 @@
+-- The ways out of the rules of the operators, of if0 and of sm. Assumes nothing.
+use Prim.Native.Nat.{ℕ, _+_}
+use mathlib.Core.Bool.{Bool, true, false, cond}
+use mathlib.Core.List.{List}
+use mathlib.Core.Option.{Option, none, some}
+use mathlib.Core.Path.{_≡_, refl, sym, ap, _∙_}
+use borrow.Author.Tests.{eq-eqb, ne-eqb}
+use lib.Dec.{eqb}
+use native.Mathlib.Omega.{arith}
+use Rattle.calculus.specs.Trees.{Ty, list, ml, Op1, head, tail, fixpoint, empty, apply, plus, minus, pair}
+use Rattle.calculus.specs.Inference.{sameType, result1, sumType}
+use Rattle.types.specs.References.{former, formerAt, Written, Means}
+use Rattle.types.specs.Comparisons.{Equality}
+use Rattle.types.proofs.Pairs.{same-sym}
+use Rattle.types.proofs.Meanings.{written-means, means-in}
+use Rattle.rules.specs.Answers.{Answers, Passes, conclusion, Embedded}
+use Rattle.rules.specs.Operators.{Found, elementOf, Fixed, Applied, Paired, Result1, Result2, Result3}
+use Rattle.rules.specs.declared.Inferred.the-variants.{Typed, Bad}
+use Rattle.rules.proofs.Formers.{is-list, no-list, is-number, no-number}
+use Rattle.rules.proofs.Operations.{element-means}
+
+-- The operators of one part.
+module _ (w ls : List ℕ) (x at t : ℕ) where
+  pub one-fix : x ≡ 20 → (r : ℕ) → Fixed w ls t r → Result1 w ls x at t r
+  one-fix e r f fixpoint s lo hi few q h m = f s lo hi few m
+  one-fix e r f empty s lo hi few q h m = absurd (omega arith)
+  one-fix e r f head s lo hi few q h m = absurd (omega arith)
+  one-fix e r f tail s lo hi few q h m = absurd (omega arith)
+
+  module _ (n20 : x ≡ 20 → ⊥) (e : ℕ) (he : e ≡ elementOf w t) where
+    pub one-other : e ≡ 0 → Result1 w ls x at t 0
+    unfolding Found
+    one-other z fixpoint s lo hi few q h m = absurd (n20 q)
+    one-other z empty s lo hi few q h m = rw (no-list w t e he z ls lo hi s m) refl
+    one-other z head s lo hi few q h m = rw (no-list w t e he z ls lo hi s m) refl
+    one-other z tail s lo hi few q h m = rw (no-list w t e he z ls lo hi s m) refl
+
+    module _ (list-type : e ≡ 0 → ⊥) where
+      -- By the element type y.
+      by-element : (o : Op1 ml) (r : ℕ) → ((y : Ty) (lo hi : ℕ) → Means w ls lo hi t (list y) → e ≡ t + 1 → Found w ls lo hi (result1 o (list y)) r)
+          → (s : Ty) (lo hi : ℕ) → Means w ls lo hi t s → Found w ls lo hi (result1 o s) r
+      by-element o r f s lo hi m =
+          let i = is-list w t e he list-type ls lo hi s m in
+          rw (i .1) (f (i .0) lo hi (rw (i .1) at m) (i .2))
+
+      pub one-head : x ≡ 26 → Result1 w ls x at t e
+      unfolding Found
+      one-head n fixpoint s lo hi few q h m = absurd (n20 q)
+      one-head n empty s lo hi few q h m = absurd (omega arith)
+      one-head n head s lo hi few q h m = by-element head e (λ y lo hi my k. rw k (element-means w ls lo hi t y my)) s lo hi m
+      one-head n tail s lo hi few q h m = absurd (omega arith)
+
+      pub one-tail : x ≡ 27 → Result1 w ls x at t t
+      unfolding Found
+      one-tail n fixpoint s lo hi few q h m = absurd (n20 q)
+      one-tail n empty s lo hi few q h m = absurd (omega arith)
+      one-tail n head s lo hi few q h m = absurd (omega arith)
+      one-tail n tail s lo hi few q h m = by-element tail t (λ y lo hi my k. my) s lo hi m
+
+      pub one-null : (x ≡ 26 → ⊥) → (x ≡ 27 → ⊥) → Result1 w ls x at t at
+      unfolding Found Means former
+      one-null n26 n27 fixpoint s lo hi few q h m = absurd (n20 q)
+      one-null n26 n27 empty s lo hi few q h m = by-element empty at (λ y lo hi my k. ap former h) s lo hi m
+      one-null n26 n27 head s lo hi few q h m = absurd (n26 q)
+      one-null n26 n27 tail s lo hi few q h m = absurd (n27 q)
+
+-- The operators of two parts.
+module _ (w ls : List ℕ) (x t u : ℕ) where
+  pub two-apply : x ≡ 19 → (r : ℕ) → Applied w ls t u r → Result2 w ls x t u r
+  two-apply e r f apply q = f
+  two-apply e r f plus q = absurd (omega arith)
+  two-apply e r f minus q = absurd (omega arith)
+  two-apply e r f pair q = absurd (omega arith)
+
+  pub two-pair : x ≡ 25 → (r : ℕ) → Paired w ls t u r → Result2 w ls x t u r
+  two-pair e r f apply q = absurd (omega arith)
+  two-pair e r f plus q = absurd (omega arith)
+  two-pair e r f minus q = absurd (omega arith)
+  two-pair e r f pair q = f
+
+  module _ (n19 : x ≡ 19 → ⊥) (n25 : x ≡ 25 → ⊥) where
+    -- add and subtract have one rule.
+    sum : (r : ℕ) → ((s v : Ty) (lo hi : ℕ) → Means w ls lo hi t s → Means w ls lo hi u v → Found w ls lo hi (sumType ml s v) r)
+        → Result2 w ls x t u r
+    sum r f apply q = absurd (n19 q)
+    sum r f plus q = λ s v lo hi few m mu. f s v lo hi m mu
+    sum r f minus q = λ s v lo hi few m mu. f s v lo hi m mu
+    sum r f pair q = absurd (n25 q)
+
+    module _ (f : ℕ) (ef : f ≡ formerAt w t) where
+      pub two-first : (f ≡ 10 → ⊥) → Result2 w ls x t u 0
+      unfolding Found
+      two-first n = sum 0 (λ s v lo hi m mu. rw (no-number w t f ef ls lo hi n s m) refl)
+
+      module _ (one : f ≡ 10) (g : ℕ) (eg : g ≡ formerAt w u) where
+        pub two-second : (g ≡ 10 → ⊥) → Result2 w ls x t u 0
+        unfolding Found
+        two-second n = sum 0 (λ s v lo hi m mu. rw (is-number w t f ef ls lo hi one s m, no-number w u g eg ls lo hi n v mu) refl)
+
+        pub two-numbers : g ≡ 10 → Result2 w ls x t u t
+        unfolding Found Means
+        two-numbers two =
+            sum t (λ s v lo hi m mu. rw (is-number w t f ef ls lo hi one s m, is-number w u g eg ls lo hi two v mu) (sym ef ∙ one))
+
+-- if0.
+module _ (w ls : List ℕ) (t u v f : ℕ) (ef : f ≡ formerAt w t) where
+  pub three-test : (f ≡ 10 → ⊥) → Result3 w ls t u v 0
+  unfolding Found
+  three-test n a b c lo hi few ma mb mc = rw (no-number w t f ef ls lo hi n a ma) refl
+
+  module _ (one : f ≡ 10) (s : Bool) (same : Equality w ls u v s) where
+    pub three-same : s ≡ true → Result3 w ls t u v u
+    unfolding Found
+    three-same y a b c lo hi few ma mb mc = rw (is-number w t f ef ls lo hi one a ma, sym (same b c lo hi lo hi few mb mc) ∙ y) mb
+
+    pub three-differ : s ≡ false → Result3 w ls t u v 0
+    unfolding Found
+    three-differ y a b c lo hi few ma mb mc = rw (is-number w t f ef ls lo hi one a ma, sym (same b c lo hi lo hi few mb mc) ∙ y) refl
+
+-- sm.
+module _ (w ls : List ℕ) (at t next : ℕ) (s : Bool) (same : Equality w ls (at + 1) t s) where
+  declared : (τ u : Ty) (lo hi : ℕ) → Written w (at + 1) τ → Means w ls lo hi t u → s ≡ sameType ml u τ
+  declared τ u lo hi x m = same τ u 0 0 lo hi (omega arith) (written-means w ls 0 0 (at + 1) τ (omega arith) x) m ∙ same-sym τ u
+
+  pub sm-same : s ≡ true → Embedded w ls at t next (Typed 0 next)
+  unfolding Answers
+  sm-same y = record { passes = refl; is = λ τ u lo hi few x m. rw (sym (declared τ u lo hi x m) ∙ y) (0, refl, tt) }
+
+  pub sm-differ : s ≡ false → Embedded w ls at t next (Bad at)
+  unfolding Answers
+  sm-differ y = record { passes = tt; is = λ τ u lo hi few x m. rw (sym (declared τ u lo hi x m) ∙ y) refl }
+
+-- The answer for a node by the reference to its type.
+pub answered : (w ls : List ℕ) (lo hi at t next : ℕ) (o : Option Ty) → Found w ls lo hi o t → Answers ml w ls lo hi at next o (conclusion at t next)
+unfolding Found Answers
+answered w ls lo hi at t next none f = rw (eq-eqb t 0 f)
+answered w ls lo hi at t next (some s) f = rw (ne-eqb t 0 (λ z. omega (arith, means-in w ls lo hi t s f .0))) (t, refl, f)
+
+pub passed : (at t next : ℕ) → Passes next (conclusion at t next)
+passed at t next = by (eqb t 0)
+  where
+    by : (b : Bool) → Passes next (cond b (Bad at) (Typed t next))
+    by true = tt
+    by false = refl

@@ -1,0 +1,81 @@
+-- The first difference of two types' words. Assumes nothing.
+use Prim.Native.Nat.{ℕ, suc, _+_, _%_, _<_}
+use mathlib.Core.Bool.{Bool, true, false, _&&_, false≢true}
+use mathlib.Core.List.{List, [], _∷_}
+use mathlib.Core.Path.{_≡_, refl, sym, ap, _∙_, subst}
+use borrow.Author.Tests.{eq-eqb, ne-eqb}
+use lib.ListN.{length, getD, drop}
+use native.Mathlib.Omega.{arith}
+use Rattle.calculus.specs.Trees.{Ty, N, L, list, _to_, ml}
+use Rattle.calculus.specs.Words.{putTy, wordsTy, sizeTy}
+use Rattle.calculus.specs.Kinds.{type}
+use Rattle.calculus.specs.Inference.{sameType}
+use Rattle.calculus.proofs.Inference.{same-iff}
+use Rattle.nodes.specs.Table.{rowOf, shapeNumber}
+use Rattle.nodes.proofs.Shapes.{shape-first}
+use Rattle.types.specs.Comparisons.{firstDifference}
+use Rattle.types.proofs.Pairs.{same-lists, same-functions}
+
+-- Lists that differ in their first words, and lists that do not.
+pub at-first : (x y : List ℕ) → (getD x 0 0 ≡ getD y 0 0 → ⊥) → firstDifference x y ≡ 0
+unfolding firstDifference
+at-first [] y d = refl
+at-first (a ∷ x) [] d = refl
+at-first (a ∷ x) (b ∷ y) d = rw (ne-eqb a b d)
+
+pub past-first : (x y : List ℕ) → 0 < length x → 0 < length y → getD x 0 0 ≡ getD y 0 0
+    → firstDifference x y ≡ suc (firstDifference (drop 1 x) (drop 1 y))
+unfolding firstDifference
+past-first [] y h g e = absurd (omega (arith, h))
+past-first (a ∷ x) [] h g e = absurd (omega (arith, g))
+past-first (a ∷ x) (b ∷ y) h g e = rw (eq-eqb a b e)
+
+-- Types of two shapes differ in their first words.
+pub other-firsts : (t u : Ty) (a b : List ℕ) → (shapeNumber type t ≡ shapeNumber type u → ⊥) → firstDifference (putTy t a) (putTy u b) ≡ 0
+other-firsts t u a b d =
+    at-first _ _ (λ e. d (sym (shape-first type t a) ∙ ap (λ (j : ℕ). rowOf (j % 256) .shape) e ∙ shape-first type u b))
+
+-- Past an equal type.
+pub past-type : (t : Ty) (a b : List ℕ) → firstDifference (putTy t a) (putTy t b) ≡ sizeTy t + firstDifference a b
+unfolding firstDifference putTy sizeTy
+past-type N a b = omega arith
+past-type L a b = omega arith
+past-type (list t) a b = let h : firstDifference (putTy t a) (putTy t b) ≡ sizeTy t + firstDifference a b = past-type t a b in omega arith
+past-type (t to u) a b =
+    let h : firstDifference (putTy t (putTy u a)) (putTy t (putTy u b)) ≡ sizeTy t + firstDifference (putTy u a) (putTy u b) =
+    past-type t (putTy u a) (putTy u b) in
+    let g : firstDifference (putTy u a) (putTy u b) ≡ sizeTy u + firstDifference a b = past-type u a b in
+    omega arith
+
+-- Types that are not the same differ within their own words.
+pub within-types : (t u : Ty) (a b c d : List ℕ) → sameType ml t u ≡ false
+    → firstDifference (putTy t a) (putTy u b) ≡ firstDifference (putTy t c) (putTy u d)
+unfolding firstDifference putTy
+within-types N N a b c d q = absurd (false≢true (sym q))
+within-types N L a b c d q = refl
+within-types N (list u) a b c d q = refl
+within-types N (u to v) a b c d q = refl
+within-types L N a b c d q = refl
+within-types L L a b c d q = absurd (false≢true (sym q))
+within-types L (list u) a b c d q = refl
+within-types L (u to v) a b c d q = refl
+within-types (list t) N a b c d q = refl
+within-types (list t) L a b c d q = refl
+within-types (list t) (list u) a b c d q = ap suc (within-types t u a b c d (sym (same-lists t u) ∙ q))
+within-types (list t) (u to v) a b c d q = refl
+within-types (s to t) N a b c d q = refl
+within-types (s to t) L a b c d q = refl
+within-types (s to t) (list u) a b c d q = refl
+within-types (s to t) (u to v) a b c d q =
+    ap suc (by (sameType ml s u) refl (λ h. within-types s u (putTy t a) (putTy v b) (putTy t c) (putTy v d) h) (λ h. within-types t v a b c d h))
+  where
+    by : (e : Bool) → sameType ml s u ≡ e
+        → (sameType ml s u ≡ false
+        → firstDifference (putTy s (putTy t a)) (putTy u (putTy v b)) ≡ firstDifference (putTy s (putTy t c)) (putTy u (putTy v d)))
+        → (sameType ml t v ≡ false → firstDifference (putTy t a) (putTy v b) ≡ firstDifference (putTy t c) (putTy v d))
+        → firstDifference (putTy s (putTy t a)) (putTy u (putTy v b)) ≡ firstDifference (putTy s (putTy t c)) (putTy u (putTy v d))
+    by true p first second =
+        let n : sameType ml t v ≡ false = ap (λ (e : Bool). e && sameType ml t v) (sym p) ∙ sym (same-functions s t u v) ∙ q in
+        rw (← (same-iff ml s u .0 p))
+        (past-type s (putTy t a) (putTy v b) ∙ ap (λ (n : ℕ). sizeTy s + n) (second n) ∙ sym (past-type s (putTy t c) (putTy v d)))
+    by false p first second = first p

@@ -1,0 +1,6 @@
+pub mod Pairs
+pub mod Differences
+pub mod Matching
+pub mod Meanings
+pub mod Frames
+pub mod Comparing

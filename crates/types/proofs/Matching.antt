@@ -1,0 +1,209 @@
+-- The ways out of comparing the types that x and y begin with. Assumes nothing.
+use Prim.Native.Nat.{ℕ, suc, _+_, _-_, _%_, _≤_, _<_}
+use mathlib.Core.Bool.{Bool, true, false, cond, _&&_, false≢true}
+use mathlib.Core.List.{List, [], _∷_}
+use mathlib.Core.Path.{_≡_, refl, sym, ap, _∙_, subst, subst₂}
+use lib.ListN.{length, getD, take, drop, length-drop}
+use borrow.Rule.Slice.PartAt.{part-to-end}
+use native.Mathlib.Nat.{add-zero, pos-of-ne-zero}
+use native.Mathlib.Omega.{arith}
+use Rattle.calculus.specs.Trees.{Ty, N, L, list, _to_, ml}
+use Rattle.calculus.specs.Words.{putTy, sizeTy}
+use Rattle.calculus.specs.Kinds.{type}
+use Rattle.calculus.specs.Inference.{sameType}
+use Rattle.calculus.proofs.Inference.{same-iff}
+use Rattle.calculus.proofs.Sizes.{tree-length, past-tree}
+use Rattle.calculus.proofs.Views.{view, sized}
+use Rattle.nodes.specs.declared.kinds.Row as code
+use Rattle.nodes.specs.Table.{rowOf, shapeNumber}
+use Rattle.nodes.proofs.Shapes.{shape-first}
+use Rattle.types.specs.Comparisons.{firstDifference, Within, Matched, Ends}
+use Rattle.types.specs.declared.Match.{Match}
+use Rattle.types.specs.declared.Match.the-variants.{Same, Differ}
+use Rattle.types.proofs.Pairs.{same-refl, same-lists, same-functions, other-shapes, one-shape}
+use Rattle.types.proofs.Differences.{at-first, past-first, past-type}
+
+-- What an answer for two types says of them.
+abbrev matching : Ty → Ty → ℕ → ℕ → Match
+matching t u at d = cond (sameType ml t u) (Same (at + sizeTy t)) (Differ (at + d))
+
+pub if-differ : (t u : Ty) (at i d : ℕ) (r : Match) → r ≡ Differ i → r ≡ matching t u at d → (sameType ml t u ≡ false) × (i ≡ at + d)
+if-differ t u at i d r h e = by (sameType ml t u) refl
+  where
+    by : (b : Bool) → sameType ml t u ≡ b → (sameType ml t u ≡ false) × (i ≡ at + d)
+    by true q = let y : r ≡ Same (at + sizeTy t) = e ∙ rw q in let z : _≡_ {A = ℕ} 0 1 = cc in absurd (omega arith)
+    by false q = let y : r ≡ Differ (at + d) = e ∙ rw q in let z : i ≡ at + d = cc in (q, z)
+
+pub if-same : (t u : Ty) (at n d : ℕ) (r : Match) → r ≡ Same n → r ≡ matching t u at d → (sameType ml t u ≡ true) × (n ≡ at + sizeTy t) × (t ≡ u)
+if-same t u at n d r h e = by (sameType ml t u) refl
+  where
+    by : (b : Bool) → sameType ml t u ≡ b → (sameType ml t u ≡ true) × (n ≡ at + sizeTy t) × (t ≡ u)
+    by true q = let y : r ≡ Same (at + sizeTy t) = e ∙ rw q in let z : n ≡ at + sizeTy t = cc in (q, z, same-iff ml t u .0 q)
+    by false q = let y : r ≡ Differ (at + d) = e ∙ rw q in let z : _≡_ {A = ℕ} 0 1 = cc in absurd (omega arith)
+
+-- The place past a type that is the same.
+pub same-in : (at a b n : ℕ) (r : Match) → Within at a b r → r ≡ Same n → (at < n) × (n ≤ at + a) × (n ≤ at + b)
+same-in at a b n r h e = subst (Within at a b) e h
+
+differ-in : (at a b i : ℕ) (r : Match) → r ≡ Differ i → Within at a b r
+differ-in at a b i r e = subst (Within at a b) (sym e) tt
+
+type-length : (x : List ℕ) (t : Ty) (k : List ℕ) → x ≡ putTy t k → 0 < length x
+type-length x t k e = omega (arith, ap length e, tree-length type t k, sized (view type t))
+
+-- The table's shape of the first word.
+shape-is : (x : List ℕ) (t : Ty) (k : List ℕ) → x ≡ putTy t k → rowOf (getD x 0 0 % 256) .shape ≡ shapeNumber type t
+shape-is x t k e = ap (λ (l : List ℕ). rowOf (getD l 0 0 % 256) .shape) e ∙ shape-first type t k
+
+one-word : (t : Ty) (k l : List ℕ) → getD (putTy t k) 0 0 ≡ getD (putTy t l) 0 0
+one-word t k l =
+    let v = view type t in
+    ap (λ (z : List ℕ). getD z 0 0) (v .spelt k) ∙ sym (ap (λ (z : List ℕ). getD z 0 0) (v .spelt l))
+
+module _ (x y : List ℕ) (at : ℕ) where
+  pub no-x : length x ≡ 0 → Matched x y at (Differ at)
+  no-x z = record { within = tt; is = λ t u k l p q. absurd (omega (arith, type-length x t k p)) }
+
+  pub no-y : length y ≡ 0 → Matched x y at (Differ at)
+  no-y z = record { within = tt; is = λ t u k l p q. absurd (omega (arith, type-length y u l q)) }
+
+  -- Types that differ in their first words are not the same.
+  pub other-words : (getD x 0 0 ≡ getD y 0 0 → ⊥) → Matched x y at (Differ at)
+  other-words d = record { within = tt; is = λ t u k l p q. rw (at-first x y d, not-same t u k l p q, add-zero at) }
+    where
+      not-same : (t u : Ty) (k l : List ℕ) → x ≡ putTy t k → y ≡ putTy u l → sameType ml t u ≡ false
+      not-same t u k l p q = by (sameType ml t u) refl
+        where
+          by : (b : Bool) → sameType ml t u ≡ b → sameType ml t u ≡ false
+          by true g =
+              let e : x ≡ putTy u k = p ∙ ap (λ (v : Ty). putTy v k) (same-iff ml t u .0 g) in
+              absurd (d (ap (λ (z : List ℕ). getD z 0 0) e ∙ one-word u k l ∙ sym (ap (λ (z : List ℕ). getD z 0 0) q)))
+          by false g = g
+
+  module _ (nx : length x ≡ 0 → ⊥) (ny : length y ≡ 0 → ⊥) (w : getD x 0 0 ≡ getD y 0 0) (row : code.Row)
+      (found : row ≡ rowOf (getD x 0 0 % 256)) where
+    first-same : firstDifference x y ≡ suc (firstDifference (drop 1 x) (drop 1 y))
+    first-same = past-first x y (pos-of-ne-zero nx) (pos-of-ne-zero ny) w
+
+    -- By cases on the shape, which both have.
+    abbrev Answers : Match → Ty → Ty → Type 0
+    Answers r t u = (k l : List ℕ) → x ≡ putTy t k → y ≡ putTy u l → r ≡ matching t u at (firstDifference x y)
+
+    by-shape : (r : Match) → (row .shape ≡ 10 → Answers r N N) → (row .shape ≡ 11 → Answers r L L)
+        → (row .shape ≡ 12 → (t u : Ty) → Answers r (list t) (list u)) → (row .shape ≡ 13 → (s t u v : Ty) → Answers r (s to t) (u to v))
+        → (t u : Ty) → Answers r t u
+    by-shape r a b c d t u k l p q =
+        let e : row .shape ≡ rowOf (getD x 0 0 % 256) .shape = ap (λ (z : code.Row). z .shape) found in
+        one-shape (Answers r) (row .shape) a b c d t u (e ∙ shape-is x t k p) (e ∙ ap (λ (j : ℕ). rowOf (j % 256) .shape) w ∙ shape-is y u l q)
+        k l p q
+
+    -- N and L have no parts.
+    pub no-parts : row .shape < 12 → Matched x y at (Same (at + 1))
+    unfolding sizeTy
+    no-parts small =
+        record {
+          within = (omega arith, omega (arith, pos-of-ne-zero nx), omega (arith, pos-of-ne-zero ny));
+          is = by-shape (Same (at + 1)) (λ e k l p q. refl) (λ e k l p q. refl) (λ e. absurd (omega arith)) (λ e. absurd (omega arith));
+        }
+
+    module _ (big : 12 ≤ row .shape) (r : Match) (m : Matched (take (length x - 1) (drop 1 x)) (take (length y - 1) (drop 1 y)) (at + 1) r) where
+      part : Matched (drop 1 x) (drop 1 y) (at + 1) r
+      part = subst₂ (λ (a b : List ℕ). Matched a b (at + 1) r) (part-to-end x 1) (part-to-end y 1) m
+
+      -- The first parts differ.
+      pub first-differ : (i : ℕ) → r ≡ Differ i → Matched x y at r
+      unfolding putTy
+      first-differ i g =
+          record {
+            within = differ-in _ _ _ i r g;
+            is =
+                by-shape r (λ e. absurd (omega arith)) (λ e. absurd (omega arith))
+                (λ e t u k l p q.
+                let a = if-differ t u _ i _ r g (part .is t u k l (ap (drop 1) p) (ap (drop 1) q)) in
+                rw (same-lists t u, a .0) (g ∙ ap Differ (count (a .1))))
+                (λ e s t u v k l p q.
+                let a = if-differ s u _ i _ r g (part .is s u (putTy t k) (putTy v l) (ap (drop 1) p) (ap (drop 1) q)) in
+                rw (same-functions s t u v, a .0) (g ∙ ap Differ (count (a .1))));
+          }
+        where
+          count : i ≡ at + 1 + firstDifference (drop 1 x) (drop 1 y) → i ≡ at + firstDifference x y
+          count e = omega (arith, e, first-same)
+
+      module _ (n : ℕ) (g : r ≡ Same n) where
+        pub ends : (at + 1 < n) × (n ≤ at + length x) × (n ≤ at + length y)
+        ends =
+            let b = same-in _ _ _ n r (part .within) g in
+            (b .0, omega (arith, b .1, length-drop 1 x, pos-of-ne-zero nx), omega (arith, b .2, length-drop 1 y, pos-of-ne-zero ny))
+
+        -- The element types are the same.
+        pub lists : row .shape ≡ 12 → Matched x y at (Same n)
+        unfolding putTy sizeTy
+        lists twelve =
+            record {
+              within = (omega (arith, ends), ends .1, ends .2);
+              is =
+                  by-shape (Same n) (λ e. absurd (omega arith)) (λ e. absurd (omega arith))
+                  (λ e t u k l p q.
+                  let a = if-same t u _ n _ r g (part .is t u k l (ap (drop 1) p) (ap (drop 1) q)) in
+                  let z : n ≡ at + suc (sizeTy t) = omega (arith, a .1) in
+                  rw (same-lists t u, a .0) (ap Same z))
+                  (λ e. absurd (omega arith));
+            }
+
+        -- The argument types are the same, and the result types stand past them.
+        pub functions : (row .shape ≡ 12 → ⊥) → (r2 : Match)
+            → Matched (take (length x - (n - at)) (drop (n - at) x)) (take (length y - (n - at)) (drop (n - at) y)) n r2
+            → Matched x y at r2
+        unfolding putTy sizeTy
+        functions other r2 m2 =
+            record {
+              within = further r2 (rest .within);
+              is =
+                  by-shape r2 (λ e. absurd (omega arith)) (λ e. absurd (omega arith)) (λ e. absurd (other e))
+                  (λ e s t u v k l p q.
+                  let dx : drop 1 x ≡ putTy s (putTy t k) = ap (drop 1) p in
+                  let dy : drop 1 y ≡ putTy u (putTy v l) = ap (drop 1) q in
+                  let a = if-same s u _ n _ r g (part .is s u (putTy t k) (putTy v l) dx dy) in
+                  let ny : n - at ≡ 1 + sizeTy u = omega (arith, a .1, ap sizeTy (a .2)) in
+                  let nx : n - at ≡ 1 + sizeTy s = omega (arith, a .1) in
+                  let ex : drop (n - at) x ≡ putTy t k = rw nx (past-tree type s 1 x (putTy t k) dx) in
+                  let ey : drop (n - at) y ≡ putTy v l = rw ny (past-tree type u 1 y (putTy v l) dy) in
+                  let dz : drop 1 y ≡ putTy s (putTy v l) = dy ∙ rw (a .2) in
+                  let c : firstDifference (drop 1 x) (drop 1 y) ≡ sizeTy s + firstDifference (drop (n - at) x) (drop (n - at) y) =
+                  rw (dx, dz, ex, ey) (past-type s (putTy t k) (putTy v l)) in
+                  let size : n + sizeTy t ≡ at + suc (sizeTy s + sizeTy t) = omega (arith, a .1) in
+                  let difference : n + firstDifference (drop (n - at) x) (drop (n - at) y) ≡ at + firstDifference x y =
+                  omega (arith, a .1, c, first-same) in
+                  rest .is t v k l ex ey ∙ rw (same-functions s t u v, a .0, size, difference));
+            }
+          where
+            rest : Matched (drop (n - at) x) (drop (n - at) y) n r2
+            rest = subst₂ (λ (a b : List ℕ). Matched a b n r2) (part-to-end x (n - at)) (part-to-end y (n - at)) m2
+
+            further : (z : Match) → Within n (length (drop (n - at) x)) (length (drop (n - at) y)) z → Within at (length x) (length y) z
+            further (Same j) b =
+                (omega (arith, b .0, ends), omega (arith, b .1, length-drop (n - at) x, ends), omega (arith, b .2, length-drop (n - at) y, ends))
+            further (Differ j) b = tt
+
+-- A type is the same as itself, so that comparing it with itself finds its end.
+module _ (w : List ℕ) (at : ℕ) (h : at ≤ length w) (r : Match)
+    (m : Matched (take (length w - at) (drop at w)) (take (length w - at) (drop at w)) at r) where
+  itself : Matched (drop at w) (drop at w) at r
+  itself = subst₂ (λ (a b : List ℕ). Matched a b at r) (part-to-end w at) (part-to-end w at) m
+
+  pub type-ends : (n : ℕ) → r ≡ Same n → Ends w at n
+  type-ends n g =
+      let b = same-in _ _ _ n r (itself .within) g in
+      record {
+        least = omega (arith, b .0);
+        most = omega (arith, b .1, length-drop at w);
+        is = λ t x. if-same t t _ n _ r g (itself .is t t (x .0) (x .0) (x .1) (x .1)) .1;
+      }
+
+  pub no-type : (d : ℕ) → r ≡ Differ d → Ends w at at
+  no-type d g =
+      record {
+        least = omega arith;
+        most = h;
+        is = λ t x. absurd (false≢true (sym (if-differ t t _ d _ r g (itself .is t t (x .0) (x .0) (x .1) (x .1)) .0) ∙ same-refl t));
+      }
