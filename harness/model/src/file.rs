@@ -13,7 +13,7 @@ pub struct Regions<'a> {
 
 /// The file's little-endian words, or refusal 1.
 pub fn words_of(bytes: &[u8]) -> Result<Vec<u32>, Refusal> {
-    if bytes.len() % 4 != 0 || bytes.len() < LEAST_BYTES || bytes.len() > MOST_BYTES {
+    if !bytes.len().is_multiple_of(4) || bytes.len() < LEAST_BYTES || bytes.len() > MOST_BYTES {
         return Err(Refusal::new(1, 0));
     }
     Ok(bytes.chunks_exact(4).map(|b| u32::from_le_bytes([b[0], b[1], b[2], b[3]])).collect())

@@ -3,6 +3,8 @@
 //! `check` answers a file with a recipe or a refusal; `run` reduces it to one of the four ends.
 //! Trees nest as deep as they have words: call both within `on_large_stack`.
 
+#![forbid(unsafe_code)]
+
 pub mod build;
 pub mod check;
 pub mod file;

@@ -1,1 +1,10 @@
-//! Tools.
+//! Generators of files, the engine's C functions, and the comparison of the engine with the model.
+#![deny(unsafe_code)]
+
+pub mod args;
+pub mod compare;
+pub mod engine;
+pub mod make;
+pub mod progress;
+pub mod random;
+pub mod shrink;
