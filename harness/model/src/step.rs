@@ -18,6 +18,17 @@ pub struct Turn {
     pub node: Tree,
 }
 
+impl Turn {
+    /// How many words of the whole term come before the node.
+    pub fn place(&self) -> usize {
+        let before = |frame: &Frame| {
+            let parts = frame.node.node().parts();
+            1 + parts[..frame.part].iter().flatten().map(|part| part.size()).sum::<usize>()
+        };
+        self.context.iter().map(before).sum()
+    }
+}
+
 pub enum Step {
     Value,
     /// It is a wrong's turn; the code.

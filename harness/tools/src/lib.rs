@@ -2,9 +2,11 @@
 #![deny(unsafe_code)]
 
 pub mod args;
+pub mod bench;
 pub mod compare;
 pub mod engine;
 pub mod make;
 pub mod progress;
 pub mod random;
+pub mod recipe;
 pub mod shrink;
