@@ -102,7 +102,7 @@ fn a_run_that_miscounts_wrapped_calls() {
 
 #[test]
 fn deep_ends_are_known_beforehand() {
-    // The model is slow on the deepest terms: one of the five ends is enough here.
+    // The model is slow on the deepest terms: one of the ends is enough here.
     let engine: Run = |file, limit, first, second| match file[24] {
         30 => right_run(file, limit, first, second),
         _ => RecipeRun::default(),

@@ -13,12 +13,20 @@ struct Growing {
     grows: usize,
 }
 
-const GROWING: [Growing; 5] = [
+const GROWING: [Growing; 8] = [
     Growing { name: "tl nested", declared: &[3, 1], term: &[20, 18, 3, 1, 27, 16], grows: 1 },
     Growing { name: "add nested in its first part", declared: &[1], term: &[20, 18, 1, 21, 16, 17], grows: 2 },
     Growing { name: "add nested in its second part", declared: &[1], term: &[20, 18, 1, 21, 17, 16], grows: 2 },
     Growing { name: "cons nested", declared: &[3, 1], term: &[20, 18, 3, 1, 25, 17, 16], grows: 2 },
     Growing { name: "conversions nested", declared: &[1], term: &[20, 18, 1, 30, 1, 45, 1, 16], grows: 4 },
+    Growing { name: "applications nested", declared: &[1], term: &[20, 18, 1, 19, 18, 1, 17, 16], grows: 4 },
+    Growing { name: "if0 nested in its test", declared: &[1], term: &[20, 18, 1, 23, 16, 17, 17], grows: 3 },
+    Growing {
+        name: "Scheme tl nested",
+        declared: &[3, 1],
+        term: &[20, 18, 3, 1, 30, 3, 1, 42, 45, 3, 1, 16],
+        grows: 7,
+    },
 ];
 
 /// Runs each with 16,384 words on a thread with a stack of the given size. A stack that is too small ends the program.

@@ -23,11 +23,11 @@ impl Maker<'_> {
             Form::Let | Form::Countdown | Form::Fix => self.scheme_let(t),
             Form::Application => {
                 let a = self.small_type();
-                sc(Scheme::Application(self.scheme(&to(a.clone(), t.clone())), self.scheme(&a)))
+                sc(Scheme::Application(self.operand(&to(a.clone(), t.clone())), self.scheme(&a)))
             }
             Form::If0 => sc(Scheme::If0(self.scheme_test(), self.scheme(t), self.scheme(t))),
-            Form::Hd => sc(Scheme::Hd(self.scheme(&list(t.clone())))),
-            Form::Tl => sc(Scheme::Tl(self.scheme(t))),
+            Form::Hd => sc(Scheme::Hd(self.operand(&list(t.clone())))),
+            Form::Tl => sc(Scheme::Tl(self.operand(t))),
             Form::Arithmetic => self.scheme_arithmetic(),
             Form::Test => self.tested(),
             Form::Wrong => sc(Scheme::Wrong(self.code())),
@@ -87,13 +87,13 @@ impl Maker<'_> {
     }
 
     fn scheme_arithmetic(&mut self) -> Rc<Scheme> {
-        let (a, b) = (self.scheme(&n()), self.scheme(&n()));
+        let (a, b) = (self.operand(&n()), self.operand(&n()));
         sc(if self.random.chance(55) { Scheme::Add(a, b) } else { Scheme::Subtract(a, b) })
     }
 
     fn tested(&mut self) -> Rc<Scheme> {
         let test = self.random.pick(&[Test::Fun, Test::List, Test::Null, Test::Num]);
-        let t = self.small_type();
+        let t = if self.random.chance(30) { list(n()) } else { self.small_type() };
         sc(Scheme::Test(test, self.scheme(&t)))
     }
 
@@ -104,6 +104,14 @@ impl Maker<'_> {
             term = sc(Scheme::Sm(t.clone(), ml(Ml::Ms(t.clone(), term))));
         }
         term
+    }
+
+    /// What an operation expects, or now and then something else.
+    fn operand(&mut self, t: &Rc<Type>) -> Rc<Scheme> {
+        if self.random.chance(10) {
+            return self.misfit();
+        }
+        self.scheme(t)
     }
 
     fn misfit(&mut self) -> Rc<Scheme> {
