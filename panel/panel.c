@@ -34,7 +34,8 @@ static const char *sentence(uint64_t number)
     case RECIPE_SIZE:
         return "The file's size is wrong: a recipe has 24 to 16,384 bytes, a multiple of 4.";
     case RECIPE_HEADER:
-        return "The header is wrong: a count is 0, an offset is not the one due, or the words do not add up to the file's length.";
+        return "The header is wrong: a count is 0, an offset is not the one due, "
+               "or the words do not add up to the file's length.";
     case RECIPE_NESTING:
         return "This word lies deeper than 256 levels.";
     case RECIPE_SCOPE:
@@ -53,7 +54,8 @@ static const char *word_sentence(uint64_t place, size_t length)
 {
     if (place == length / 4)
         return "The file ends here, before the term is complete.";
-    return "This word has no kind or operand that is due here, or the type or the term is complete before it, or the type ends too early.";
+    return "This word has no kind or operand that is due here, "
+           "or the type or the term is complete before it, or the type ends too early.";
 }
 
 static void explain(const char *name, uint64_t answer, size_t length)

@@ -12,7 +12,7 @@ ${CC:-cc} $flags -o "$out/panel" panel/panel.c "$archive"
 # Prints 32-bit words as little-endian bytes.
 words() {
     for w in "$@"; do
-        printf "\\$(printf %o $((w & 255)))\\$(printf %o $((w >> 8 & 255)))\\$(printf %o $((w >> 16 & 255)))\\$(printf %o $((w >> 24 & 255)))"
+        for shift in 0 8 16 24; do printf "\\$(printf %o $((w >> shift & 255)))"; done
     done
 }
 
@@ -57,12 +57,13 @@ same() {
 cd "$out"
 
 word="This word has no kind or operand that is due here, or the type or the term is complete before it, or the type ends too early."
+header="The header is wrong: a count is 0, an offset is not the one due, or the words do not add up to the file's length."
 size="The file's size is wrong: a recipe has 24 to 16,384 bytes, a multiple of 4."
 same add 0 "add: accepted" ./panel add
 same empty 1 "empty: refused 1. $size" ./panel empty
 same odd 1 "odd: refused 1. $size" ./panel odd
 same long 1 "long: refused 1. $size" ./panel long
-same header 1 "header: refused 2. The header is wrong: a count is 0, an offset is not the one due, or the words do not add up to the file's length." ./panel header
+same header 1 "header: refused 2. $header" ./panel header
 same kind 1 "kind: refused 3 at word 5. $word" ./panel kind
 same type-out 1 "type-out: refused 3 at word 5. $word" ./panel type-out
 same term-out 1 "term-out: refused 3 at word 7. The file ends here, before the term is complete." ./panel term-out
@@ -72,7 +73,7 @@ same scope 1 "scope: refused 5 at word 11. This variable has no lambda of its ow
 same no-type 1 "no-type: refused 6. The term has no type." ./panel no-type
 same other-type 1 "other-type: refused 7. The term's type is not the declared one." ./panel other-type
 same several 1 "add: accepted
-header: refused 2. The header is wrong: a count is 0, an offset is not the one due, or the words do not add up to the file's length.
+header: refused 2. $header
 wrapped: accepted" ./panel add header wrapped
 same unread 2 "panel: cannot read none: No such file or directory" ./panel none
 same worst 2 "panel: cannot read none: No such file or directory

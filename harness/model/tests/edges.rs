@@ -3,7 +3,10 @@
 mod common;
 use common::*;
 use model::file::file;
-use model::End;
+use model::read::read_ml;
+use model::rules::RuleCounts;
+use model::run::reduce;
+use model::{on_large_stack, End};
 
 #[test]
 fn found_types_larger_than_any_file() {
@@ -39,4 +42,15 @@ fn terms_nested_as_deep_as_the_words_allow() {
     let deep = chain(&[27], 1_994, &term);
     assert_eq!(run.result, ended(End::Full, 0, 1_994, 2_000, 2_001));
     assert!(run.first == deep);
+}
+
+#[test]
+fn the_deepest_terms_of_16384_words() {
+    let term = [20, 18, 3, 1, 27, 16];
+    let (result, left) = on_large_stack(|| {
+        let deep = read_ml(&chain(&[27], 16_370, &term), 0, usize::MAX).expect("words in order");
+        reduce(deep, u32::MAX, 16_384, &mut RuleCounts::default())
+    });
+    assert_eq!(Ok(result), ended(End::Full, 0, 8, 16_384, 16_385));
+    assert!(left == chain(&[27], 16_378, &term));
 }
