@@ -30,6 +30,7 @@ fn refusal_2_sums_do_not_wrap() {
     assert_eq!(refused(&[u32::MAX, 4, 1, 3, 1, 17]), (2, 0));
     assert_eq!(refused(&[1, 4, u32::MAX, 5, 1, 17]), (2, 0));
     assert_eq!(refused(&[3, 4, u32::MAX, 7, 1, 17]), (2, 0));
+    assert_eq!(refused(&[u32::MAX - 4, 4, 7, u32::MAX, 1, 17]), (2, 0));
 }
 
 #[test]

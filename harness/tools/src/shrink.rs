@@ -89,12 +89,44 @@ fn replaced(words: &[u32], at: usize, enough: &mut dyn FnMut(Vec<u32>) -> bool) 
     if leaves.iter().any(|&leaf| end > at + 1 && enough(with(words, at, end, &[leaf]))) {
         return true;
     }
+    if opened(words, at).is_some_and(|body| enough(with(words, at, end, &body))) {
+        return true;
+    }
     let same = |inner: &usize| row_of(words[*inner]).is_some_and(|other| other.sort == row.sort);
     let inside: Vec<usize> = (at + 1..end).filter(same).take(INSIDE).collect();
     inside.into_iter().any(|inner| match node_end(words, inner) {
         Some(inner_end) => enough(with(words, at, end, &words[inner..inner_end])),
         None => false,
     })
+}
+
+/// The body of a lambda, or of a lambda that is applied, without that lambda: its variable becomes 0.
+fn opened(words: &[u32], at: usize) -> Option<Vec<u32>> {
+    let lambda = if matches!(words[at] % 256, 19 | 35) { at + 1 } else { at };
+    let body = match words.get(lambda)? % 256 {
+        18 => node_end(words, lambda + 1)?,
+        34 => lambda + 1,
+        _ => return None,
+    };
+    let mut inner: Vec<usize> = Vec::new();
+    let mut found = Vec::new();
+    for place in body..node_end(words, body)? {
+        inner.retain(|&end| end > place);
+        found.push(lowered(words[place], inner.len() as u32));
+        if matches!(words[place] % 256, 18 | 34) {
+            inner.push(node_end(words, place)?);
+        }
+    }
+    Some(found)
+}
+
+/// A word under so many inner lambdas, once the lambda around them is gone.
+fn lowered(word: u32, inner: u32) -> u32 {
+    match (word % 256, word / 256) {
+        (16 | 32, operand) if operand == inner => word % 256 + 1,
+        (16 | 32, operand) if operand > inner => word - 256,
+        _ => word,
+    }
 }
 
 /// One past the last word of the node that starts at a place, if a whole one does.

@@ -29,6 +29,9 @@ struct Seen {
 /// Words on either side of a lent buffer that must stay as they are.
 const AROUND: usize = 4;
 
+/// How many steps less a smaller file may need.
+const STEPS_LESS: u32 = 4;
+
 /// Steps that a run may take while it is shrunk.
 const LONG: u32 = 2_000;
 
@@ -74,11 +77,28 @@ impl Case {
         let mut best = self.clone();
         for _ in 0..2 {
             best.shrink_numbers(engine);
-            let numbers = best.clone();
-            best.file = shrink(best.file, &mut |file| Case { file: file.to_vec(), ..numbers.clone() }.differs(engine));
+            let mut numbers = best.clone();
+            best.file =
+                shrink(best.file, &mut |file| match numbers.near(file).into_iter().find(|case| case.differs(engine)) {
+                    Some(found) => {
+                        numbers = found;
+                        true
+                    }
+                    None => false,
+                });
+            best = numbers;
         }
         best.shrink_numbers(engine);
         best
+    }
+
+    /// The same of a smaller file, which may need a few steps and some words less.
+    fn near(&self, file: &[u8]) -> Vec<Case> {
+        let fewer = self.file.len().saturating_sub(file.len()) / 4;
+        let lengths =
+            [(self.first, self.second), (self.first.saturating_sub(fewer), self.second.saturating_sub(fewer))];
+        let limits = (self.limit.saturating_sub(STEPS_LESS)..=self.limit).rev();
+        limits.flat_map(|limit| lengths.map(|(first, second)| Case::new(file.to_vec(), limit, first, second))).collect()
     }
 
     /// Makes limit and lengths smaller while there is a difference.

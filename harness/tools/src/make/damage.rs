@@ -5,7 +5,8 @@ use model::file::{bytes_of, file, regions, words_of, MOST_BYTES};
 use model::kinds::{Kind, KINDS};
 
 const OPERANDS: [u32; 10] = [0, 0, 0, 1, 2, 3, 4, 65_535, 65_536, 16_777_215];
-const EXTREMES: [u32; 14] = [0, 1, 2, 3, 4, 5, 6, 255, 4_091, 4_096, 0x7fff_ffff, 0x8000_0000, u32::MAX - 3, u32::MAX];
+const EXTREMES: [u32; 16] =
+    [0, 1, 2, 3, 4, 5, 6, 7, 255, 4_091, 4_096, 0x7fff_ffff, 0x8000_0000, u32::MAX - 4, u32::MAX - 3, u32::MAX];
 
 /// A word of some kind, due or not, with a telling operand.
 pub fn telling_word(random: &mut Random) -> u32 {

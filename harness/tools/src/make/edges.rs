@@ -2,6 +2,7 @@
 
 use crate::random::Random;
 use model::file::{bytes_of, file};
+use model::kinds::{Sort, KINDS};
 
 fn chain(words: &[u32], count: usize, rest: &[u32]) -> Vec<u32> {
     [words.repeat(count), rest.to_vec()].concat()
@@ -18,7 +19,7 @@ fn balanced(join: u32, leaf: u32, leaves: usize) -> Vec<u32> {
 
 /// All of the edges that are the same in every comparison.
 pub fn edges() -> Vec<Vec<u8>> {
-    [sizes(), headers(), nestings(), large_types(), found_types()].concat()
+    [sizes(), headers(), nestings(), last_levels(), large_types(), found_types()].concat()
 }
 
 fn sizes() -> Vec<Vec<u8>> {
@@ -34,7 +35,8 @@ fn sizes() -> Vec<Vec<u8>> {
 
 /// Every header of six telling words for a file of six and of seven words.
 fn headers() -> Vec<Vec<u8>> {
-    const TELLING: [u32; 10] = [0, 1, 2, 3, 4, 5, 6, 0x8000_0000, u32::MAX - 3, u32::MAX];
+    // 4 + (2^32 - 5) + 7 is 2^32 + 6: sums that wrap would do for a file of six words.
+    const TELLING: [u32; 13] = [0, 1, 2, 3, 4, 5, 6, 7, 8, 0x8000_0000, u32::MAX - 4, u32::MAX - 3, u32::MAX];
     let mut files = Vec::new();
     for types in TELLING {
         for terms in TELLING {
@@ -74,6 +76,44 @@ fn nestings() -> Vec<Vec<u8>> {
         }
     }
     files
+}
+
+/// Each kind with small parts, and with parts that nest once more, around level 256.
+fn last_levels() -> Vec<Vec<u8>> {
+    let mut files = Vec::new();
+    for row in KINDS.iter().filter(|row| row.sort != Sort::Type) {
+        let leaves: Vec<u32> = row.parts.iter().map(|part| leaf(*part)).collect();
+        let nested: Vec<u32> = row.parts.iter().flat_map(|part| [unary(*part), leaf(*part)]).collect();
+        for parts in [leaves, nested] {
+            let node = [vec![row.number + 256 * row.least], parts].concat();
+            files.extend((253..=256).map(|count| around(row.sort, count, &node)));
+        }
+    }
+    files
+}
+
+/// The file of a node of either language under so many nodes.
+fn around(sort: Sort, count: usize, node: &[u32]) -> Vec<u8> {
+    match sort {
+        Sort::Scheme => file(&[1], &[&[30, 1][..], &chain(&[unary(sort)], count - 1, node)].concat()),
+        _ => file(&[1], &chain(&[unary(sort)], count, node)),
+    }
+}
+
+fn leaf(sort: Sort) -> u32 {
+    match sort {
+        Sort::Type => 1,
+        Sort::Ml => 17,
+        Sort::Scheme => 33,
+    }
+}
+
+fn unary(sort: Sort) -> u32 {
+    match sort {
+        Sort::Type => 3,
+        Sort::Ml => 20,
+        Sort::Scheme => 41,
+    }
 }
 
 /// A random file that nests close to 256.
