@@ -1,0 +1,29 @@
+//! Recipes on trees, written from document 01 alone and apart from the engine.
+//!
+//! `check` answers a file with a recipe or a refusal; `run` reduces it to one of the four ends.
+//! Trees nest as deep as they have words: call both within `on_large_stack`.
+
+#![forbid(unsafe_code)]
+
+pub mod build;
+pub mod check;
+pub mod file;
+pub mod kinds;
+pub mod laws;
+pub mod node;
+pub mod read;
+pub mod rules;
+pub mod run;
+pub mod scope;
+pub mod stack;
+pub mod step;
+pub mod substitute;
+pub mod text;
+pub mod tree;
+pub mod typing;
+pub mod values;
+
+pub use check::{check, Recipe, Refusal};
+pub use run::{run, End, Ended, Run};
+pub use stack::on_large_stack;
+pub use tree::{Ml, Scheme, Test, Type};

@@ -1,0 +1,9 @@
+//! Document 01's reductions: what a node becomes when it is its turn and the parts that evaluation takes are values.
+
+mod ml;
+mod names;
+mod scheme;
+
+pub use ml::ml_rule;
+pub use names::{Rule, RuleCounts};
+pub use scheme::scheme_rule;

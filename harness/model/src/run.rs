@@ -1,0 +1,106 @@
+//! A run and its ends, with every word of the two lent buffers.
+
+use crate::check::{check, Refusal};
+use crate::node::{ml_words, Node};
+use crate::rules::RuleCounts;
+use crate::step::{step, Step};
+use crate::tree::Ml;
+use std::rc::Rc;
+
+/// The largest capacity.
+pub const MOST_WORDS: usize = 16_384;
+
+#[derive(Clone, Copy, Debug, PartialEq, Eq)]
+pub enum End {
+    Value,
+    Spent,
+    Error,
+    Full,
+}
+
+impl End {
+    pub const ALL: [End; 4] = [End::Value, End::Spent, End::Error, End::Full];
+
+    pub fn name(self) -> &'static str {
+        ["value", "spent", "error", "full"][self as usize]
+    }
+}
+
+#[derive(Clone, Copy, Debug, PartialEq, Eq)]
+pub struct Ended {
+    pub end: End,
+    pub code: u32,
+    pub steps: u32,
+    pub left: u32,
+    pub wanted: u32,
+}
+
+/// What a run answers, both buffers after it, and the rules of the steps that it made.
+pub struct Run {
+    pub result: Result<Ended, Refusal>,
+    pub first: Vec<u32>,
+    pub second: Vec<u32>,
+    pub rules: RuleCounts,
+}
+
+/// Checks the file and runs it with the step limit and two buffers of the given lengths.
+pub fn run(bytes: &[u8], limit: u32, first_len: usize, second_len: usize) -> Run {
+    let capacity = first_len.min(second_len).min(MOST_WORDS);
+    let mut rules = RuleCounts::default();
+    let (result, left) = match start(bytes, capacity) {
+        Err(refusal) => (Err(refusal), Vec::new()),
+        Ok(term) => {
+            let (ended, words) = reduce(term, limit, capacity, &mut rules);
+            (Ok(ended), words)
+        }
+    };
+    let mut first = left;
+    first.resize(first_len, 0);
+    Run { result, first, second: vec![0; second_len], rules }
+}
+
+/// The accepted file's term, or a refusal: 8 comes last.
+fn start(bytes: &[u8], capacity: usize) -> Result<Rc<Ml>, Refusal> {
+    let recipe = check(bytes)?;
+    if Node::Ml(&recipe.term).size() > capacity {
+        return Err(Refusal::new(8, 0));
+    }
+    Ok(recipe.term)
+}
+
+/// Reduces a term to one of the four ends; the words that the run leaves come second.
+pub fn reduce(term: Rc<Ml>, limit: u32, capacity: usize, rules: &mut RuleCounts) -> (Ended, Vec<u32>) {
+    let mut term = term;
+    let mut steps = 0;
+    loop {
+        let found = step(&term);
+        if let Step::Value = found {
+            return keep(End::Value, steps, &term, 0);
+        }
+        if steps == limit {
+            return keep(End::Spent, steps, &term, 0);
+        }
+        match found {
+            Step::Raised(code) => {
+                let ended = Ended { end: End::Error, code, steps: steps + 1, left: 0, wanted: 0 };
+                return (ended, Vec::new());
+            }
+            Step::Next(rule, next) => {
+                let wanted = Node::Ml(&next).size();
+                if wanted > capacity {
+                    return keep(End::Full, steps, &term, wanted);
+                }
+                rules.count(rule);
+                term = next;
+                steps += 1;
+            }
+            Step::Value | Step::Stuck => panic!("stuck, against demand 3: {:?}", ml_words(&term)),
+        }
+    }
+}
+
+fn keep(end: End, steps: u32, term: &Rc<Ml>, wanted: usize) -> (Ended, Vec<u32>) {
+    let words = ml_words(term);
+    let ended = Ended { end, code: 0, steps, left: words.len() as u32, wanted: wanted as u32 };
+    (ended, words)
+}

@@ -1,0 +1,70 @@
+//! The names of kinds in text.
+
+use crate::kinds::{kind, Kind, Sort, KINDS};
+
+const TESTS: [&str; 4] = ["fun?", "list?", "null?", "num?"];
+const TEST: u32 = 43;
+
+/// Kinds that are written without parentheses.
+pub enum Atom {
+    Variable,
+    Number,
+    Name,
+}
+
+pub fn atom(row: &Kind) -> Option<Atom> {
+    match row.number {
+        16 | 32 => Some(Atom::Variable),
+        17 | 33 => Some(Atom::Number),
+        1 | 2 | 39 => Some(Atom::Name),
+        _ => None,
+    }
+}
+
+/// Whether the operand is written as a number behind the name.
+pub fn shows_operand(row: &Kind) -> bool {
+    matches!(row.number, 29 | 44)
+}
+
+/// The name of a node that is written in parentheses.
+pub fn head(row: &Kind, operand: u32) -> &'static str {
+    match row.number {
+        18 | 34 => "fn",
+        19 | 35 => "app",
+        TEST => TESTS[(operand % 4) as usize],
+        _ => row.name,
+    }
+}
+
+/// The row of a name in parentheses, and the operand where the name tells it.
+pub fn headed(sort: Sort, name: &str) -> Option<(&'static Kind, Option<u32>)> {
+    let long = match name {
+        "fn" => "lambda",
+        "app" => "application",
+        _ => name,
+    };
+    if let (Sort::Scheme, Some(operand)) = (sort, TESTS.iter().position(|test| *test == name)) {
+        return kind(TEST).map(|row| (row, Some(operand as u32)));
+    }
+    let row = KINDS.iter().find(|row| row.sort == sort && row.name == long && atom(row).is_none())?;
+    (sort != Sort::Type && row.number != TEST).then_some((row, None))
+}
+
+/// What a word says, for a list of words: "ML number 7", or that it has no kind or operand.
+pub fn describe(word: u32) -> String {
+    let operand = word / 256;
+    let Some(row) = kind(word % 256) else { return format!("no kind has the number {}", word % 256) };
+    let language = match row.sort {
+        Sort::Type => "type",
+        Sort::Ml => "ML",
+        Sort::Scheme => "Scheme",
+    };
+    if operand < row.least || operand > row.most {
+        return format!("{language} {} with operand {operand}, outside {} to {}", row.name, row.least, row.most);
+    }
+    match (row.number, row.most) {
+        (TEST, _) => format!("{language} {}", head(row, operand)),
+        (_, 0) => format!("{language} {}", row.name),
+        _ => format!("{language} {} {operand}", row.name),
+    }
+}

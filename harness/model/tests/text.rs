@@ -1,0 +1,91 @@
+//! The text form: printed and read back, and faults with their positions.
+
+mod common;
+use common::*;
+use model::node::Node;
+use model::read::{read_ml, read_type};
+use model::text::{describe, flat, parse_recipe, pretty};
+use std::rc::Rc;
+
+fn term(words: &[u32]) -> Rc<model::Ml> {
+    read_ml(words, 0, usize::MAX).expect("words in order")
+}
+
+#[test]
+fn terms_read_as_in_the_document() {
+    let cases: [(&[u32], &str); 10] = [
+        (&[21, 529, 785], "(add 2 3)"),
+        (&[19, 30, 4, 1, 1, 34, 32, w(17, 7)], "(app (ms (N to N) (fn v0)) 7)"),
+        (&[30, 1, 45, 2, 30, 2, w(33, 4)], "(ms N (sm L (ms L 4)))"),
+        (&[20, 18, 1, 16], "(fix (fn N v0))"),
+        (&[30, 3, 1, 40, w(33, 1), w(33, 2)], "(ms {N} (cons 1 2))"),
+        (&[26, 24, 1], "(hd (nil N))"),
+        (&[30, 1, 38, 39, w(33, 1), w(33, 2)], "(ms N (if0 nil 1 2))"),
+        (&[30, 1, 36, 34, 32, w(44, 300)], "(ms N (add (fn v0) (wrong 300)))"),
+        (&[w(29, 9), 4, 3, 2, 1], "(wrong 9 ({L} to N))"),
+        (&[30, 1, w(43, 3), w(43, 0), w(43, 1), w(43, 2), w(32, 5)], "(ms N (num? (fun? (list? (null? v5)))))"),
+    ];
+    for (words, text) in cases {
+        assert_eq!(flat(Node::Ml(&term(words))), text);
+        let parsed = parse_recipe(&format!("N {text}")).expect(text);
+        assert_eq!(parsed.term, words);
+    }
+}
+
+#[test]
+fn long_names_comments_and_lines() {
+    let text = "(N to N) ; the type\n(lambda N\n  (application (fn N v0) v0)) ; the end";
+    let parsed = parse_recipe(text).expect("a recipe");
+    assert_eq!(parsed.declared, [4, 1, 1]);
+    assert_eq!(parsed.term, [18, 1, 19, 18, 1, 16, 16]);
+    let last = parsed.positions.last().map(|p| (p.line, p.column));
+    assert_eq!(last, Some((3, 26)));
+}
+
+#[test]
+fn faults_have_positions() {
+    let cases = [
+        ("", (1, 1), "the text ends where a type is due"),
+        ("N", (1, 2), "the text ends where an ML term is due"),
+        ("M 1", (1, 1), "M is no type: N, L, {t} or (t to u)"),
+        ("N (add 1)", (1, 9), ") is no ML term"),
+        ("N (add 1 2 3)", (1, 12), ") is due here, not 3"),
+        ("N\n(sum 1 2)", (2, 2), "no ML term is called sum"),
+        ("N 16777216", (1, 3), "16777216 is outside 0 to 16777215"),
+        ("N (wrong 0 N)", (1, 10), "0 is outside 1 to 65535"),
+        ("N (ms N (test 1))", (1, 10), "no Scheme term is called test"),
+        ("N (ms N (nil N))", (1, 10), "no Scheme term is called nil"),
+        ("N +1", (1, 3), "+1 is no ML term"),
+        ("N 1 2", (1, 5), "the term is complete; nothing may follow it"),
+    ];
+    for (text, place, message) in cases {
+        let fault = parse_recipe(text).expect_err(text);
+        assert_eq!(((fault.line, fault.column), fault.message.as_str()), (place, message), "{text}");
+    }
+}
+
+#[test]
+fn long_terms_are_laid_out() {
+    let sum = term(&balanced(21, w(17, 1000), 16));
+    let text = pretty(Node::Ml(&sum), None);
+    assert!(text.lines().count() > 1 && text.lines().all(|line| line.len() <= 100), "{text}");
+    assert_eq!(parse_recipe(&format!("N {text}")).expect("a recipe").term, balanced(21, w(17, 1000), 16));
+}
+
+#[test]
+fn one_node_is_marked() {
+    let t = term(&[19, 30, 4, 1, 1, 34, 32, w(17, 7)]);
+    assert_eq!(pretty(Node::Ml(&t), Some(1)), "(app [[(ms (N to N) (fn v0))]] 7)");
+    assert_eq!(pretty(Node::Ml(&t), Some(7)), "(app (ms (N to N) (fn v0)) [[7]])");
+    let declared = read_type(&[4, 3, 1, 2], 0, usize::MAX).expect("a type");
+    assert_eq!(pretty(Node::Type(&declared), Some(1)), "([[{N}]] to L)");
+}
+
+#[test]
+fn words_are_described() {
+    assert_eq!(describe(99), "no kind has the number 99");
+    assert_eq!(describe(w(17, 7)), "ML number 7");
+    assert_eq!(describe(w(43, 1)), "Scheme list?");
+    assert_eq!(describe(1), "type N");
+    assert_eq!(describe(w(21, 1)), "ML add with operand 1, outside 0 to 0");
+}

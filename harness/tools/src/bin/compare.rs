@@ -1,0 +1,110 @@
+//! Compares the engine with the model: `compare check`, `compare run`, `compare stack`.
+#![forbid(unsafe_code)]
+
+use model::on_large_stack;
+use std::process::ExitCode;
+use tools::args::Args;
+use tools::compare::{compare_check, compare_run, compare_stack, missing, table, Counts, Plan};
+use tools::engine::{linked_check, linked_run};
+
+const HELP: &str = "\
+Compares the engine with a checker and a reducer built apart from it.
+
+usage: compare check [--files N] [--seed S] [--start I] [--all-reached]
+       compare run   [--files N] [--seed S] [--start I] [--all-reached]
+       compare stack [--kib K]
+
+check        every term of up to 3 words, files at the edges, and N random files (200000): number and place
+run          every small recipe, edges, and N random files (100000): result and every word of both buffers
+stack        the deepest runs of 16,384 words on a stack of K KiB (4096)
+--seed S     random files depend on the seed (1) and their index alone
+--start I    begin with random file I; the files that are the same every time are left out unless I is 0
+--all-reached  fail if a rule, an end or a refusal was never reached
+
+Status 0: no difference; 1: a difference, shrunk and shown; 2: not understood, or built without the engine.
+";
+
+fn main() -> ExitCode {
+    let mut args = Args::new(std::env::args().skip(1));
+    if args.flag("--help") {
+        print!("{HELP}");
+        return ExitCode::SUCCESS;
+    }
+    let outcome = match args.word().as_deref() {
+        Some("check") => check(args),
+        Some("run") => run(args),
+        Some("stack") => stack(args),
+        _ => Err(Fault::Usage("check, run or stack is due; see --help".into())),
+    };
+    match outcome {
+        Ok(()) => ExitCode::SUCCESS,
+        Err(Fault::Difference(shown)) => {
+            print!("{shown}");
+            ExitCode::from(1)
+        }
+        Err(Fault::Usage(message)) => {
+            eprintln!("compare: {message}");
+            ExitCode::from(2)
+        }
+    }
+}
+
+enum Fault {
+    Difference(String),
+    Usage(String),
+}
+
+fn check(args: Args) -> Result<(), Fault> {
+    let (plan, all_reached) = plan(args, 200_000)?;
+    let engine = linked_check().ok_or(without("check"))?;
+    let counts = on_large_stack(|| compare_check(engine, plan)).map_err(difference)?;
+    println!("{} files, no difference", counts.files);
+    finish(counts.of_checks(), all_reached)
+}
+
+fn run(args: Args) -> Result<(), Fault> {
+    let (plan, all_reached) = plan(args, 100_000)?;
+    let engine = linked_run().ok_or(without("run"))?;
+    let counts: Counts = on_large_stack(|| compare_run(engine, plan)).map_err(difference)?;
+    println!("{} files, {} runs, no difference; demand 3 tried on {} terms", counts.files, counts.runs, counts.laws);
+    finish(counts.of_runs(), all_reached)
+}
+
+fn stack(mut args: Args) -> Result<(), Fault> {
+    let kib = args.number("--kib", 4_096).map_err(Fault::Usage)?;
+    args.finish().map_err(Fault::Usage)?;
+    let engine = linked_run().ok_or(without("run"))?;
+    for line in compare_stack(engine, kib as usize * 1024).map_err(difference)? {
+        println!("{line}");
+    }
+    println!("a stack of {kib} KiB serves");
+    Ok(())
+}
+
+fn plan(mut args: Args, files: u64) -> Result<(Plan, bool), Fault> {
+    let files = args.number("--files", files).map_err(Fault::Usage)?;
+    let seed = args.number("--seed", 1).map_err(Fault::Usage)?;
+    let start = args.number("--start", 0).map_err(Fault::Usage)?;
+    let all_reached = args.flag("--all-reached");
+    args.finish().map_err(Fault::Usage)?;
+    println!("seed {seed}, random files {start} to {}", start + files);
+    Ok((Plan { files, seed, start }, all_reached))
+}
+
+/// Prints the counts, and fails on a row without any if all must be reached.
+fn finish(rows: Vec<(String, u64)>, all_reached: bool) -> Result<(), Fault> {
+    print!("{}", table(&rows));
+    match missing(&rows)[..] {
+        [] => Ok(()),
+        _ if !all_reached => Ok(()),
+        ref names => Err(Fault::Difference(format!("never reached: {}\n", names.join("; ")))),
+    }
+}
+
+fn difference(shown: String) -> Fault {
+    Fault::Difference(format!("DIFFERENCE\n{shown}"))
+}
+
+fn without(feature: &str) -> Fault {
+    Fault::Usage(format!("built without the engine; build with --features {feature}"))
+}

@@ -1,0 +1,61 @@
+//! What a comparison has reached: the outcomes of the rules, the ends, the refusals.
+
+use model::rules::{Rule, RuleCounts};
+use model::{End, Ended, Refusal};
+use std::fmt::Write;
+
+#[derive(Default)]
+pub struct Counts {
+    pub files: u64,
+    pub runs: u64,
+    pub laws: u64,
+    pub accepted: u64,
+    refusals: [u64; 8],
+    ends: [u64; 4],
+    rules: RuleCounts,
+}
+
+impl Counts {
+    pub fn refused(&mut self, refusal: &Refusal) {
+        self.refusals[refusal.number as usize - 1] += 1;
+    }
+
+    pub fn ended(&mut self, ended: &Ended) {
+        self.ends[ended.end as usize] += 1;
+    }
+
+    pub fn rules(&mut self, rules: &RuleCounts) {
+        self.rules.join(rules);
+    }
+
+    /// The table of a comparison of checks.
+    pub fn of_checks(&self) -> Vec<(String, u64)> {
+        let mut rows = vec![("accepted".to_string(), self.accepted)];
+        rows.extend(self.refusal_rows(7));
+        rows
+    }
+
+    /// The table of a comparison of runs: 48 outcomes of rules, 4 ends, 8 refusals.
+    pub fn of_runs(&self) -> Vec<(String, u64)> {
+        let rules = Rule::ALL.iter().map(|rule| (rule.name().to_string(), self.rules.of(*rule)));
+        let ends = End::ALL.iter().map(|end| (format!("end: {}", end.name()), self.ends[*end as usize]));
+        rules.chain(ends).chain(self.refusal_rows(8)).collect()
+    }
+
+    fn refusal_rows(&self, last: usize) -> Vec<(String, u64)> {
+        (1..=last).map(|number| (format!("refusal {number}"), self.refusals[number - 1])).collect()
+    }
+}
+
+pub fn table(rows: &[(String, u64)]) -> String {
+    let mut text = String::new();
+    for (name, count) in rows {
+        let _ = writeln!(text, "{count:>10}  {name}");
+    }
+    text
+}
+
+/// The names of what was never reached.
+pub fn missing(rows: &[(String, u64)]) -> Vec<&str> {
+    rows.iter().filter(|row| row.1 == 0).map(|row| row.0.as_str()).collect()
+}

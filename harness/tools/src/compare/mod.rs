@@ -1,0 +1,23 @@
+//! The comparison of the engine with the model: the check, the run, and what is printed of them.
+
+mod case;
+mod check;
+mod counts;
+mod plan;
+mod report;
+mod run;
+mod stack;
+
+pub use check::compare_check;
+pub use counts::{missing, table, Counts};
+pub use report::show_file;
+pub use run::compare_run;
+pub use stack::compare_stack;
+
+/// How many random files, which ones, and whether everything must have been reached.
+#[derive(Clone, Copy)]
+pub struct Plan {
+    pub files: u64,
+    pub seed: u64,
+    pub start: u64,
+}

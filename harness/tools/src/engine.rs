@@ -1,0 +1,72 @@
+//! The engine's C functions, as include/recipe.h declares them. The only unsafe code of the harness.
+//!
+//! Without the features `check` and `run` there is no engine, and the archive is not linked.
+
+/// A run's answer as the engine gives it: refusal 0 if it ended; end 0 value, 1 spent, 2 error, 3 full.
+#[repr(C)]
+#[derive(Clone, Copy, Debug, Default, PartialEq, Eq)]
+pub struct RecipeRun {
+    pub refusal: u32,
+    pub place: u32,
+    pub end: u32,
+    pub code: u32,
+    pub steps: u32,
+    pub left: u32,
+    pub wanted: u32,
+}
+
+/// The check of a file: 0 for accepted, else number + 256 x place.
+pub type Check = fn(&[u8]) -> u64;
+
+/// The run of a file under a limit with two lent buffers.
+pub type Run = fn(&[u8], u32, &mut [u32], &mut [u32]) -> RecipeRun;
+
+#[cfg(feature = "check")]
+mod linked {
+    #![allow(unsafe_code)]
+
+    mod c {
+        extern "C" {
+            pub fn recipe_check(file: *const u8, file_len: usize) -> u64;
+            #[cfg(feature = "run")]
+            pub fn recipe_run(
+                file: *const u8,
+                file_len: usize,
+                limit: u32,
+                first: *mut u32,
+                first_len: usize,
+                second: *mut u32,
+                second_len: usize,
+            ) -> super::super::RecipeRun;
+        }
+    }
+
+    pub fn check(file: &[u8]) -> u64 {
+        // Safe: the pointer and the length are a slice's, which is never null.
+        unsafe { c::recipe_check(file.as_ptr(), file.len()) }
+    }
+
+    #[cfg(feature = "run")]
+    pub fn run(file: &[u8], limit: u32, first: &mut [u32], second: &mut [u32]) -> super::RecipeRun {
+        let (first, first_len) = (first.as_mut_ptr(), first.len());
+        let (second, second_len) = (second.as_mut_ptr(), second.len());
+        // Safe: pointers and lengths are those of slices, the two that are written being apart.
+        unsafe { c::recipe_run(file.as_ptr(), file.len(), limit, first, first_len, second, second_len) }
+    }
+}
+
+/// The engine's check, if it is linked.
+pub fn linked_check() -> Option<Check> {
+    #[cfg(feature = "check")]
+    return Some(linked::check);
+    #[cfg(not(feature = "check"))]
+    None
+}
+
+/// The engine's run, if it is linked.
+pub fn linked_run() -> Option<Run> {
+    #[cfg(feature = "run")]
+    return Some(linked::run);
+    #[cfg(not(feature = "run"))]
+    None
+}

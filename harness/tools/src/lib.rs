@@ -1,0 +1,12 @@
+//! Generators of files, the engine's C functions, and the comparison of the engine with the model.
+#![deny(unsafe_code)]
+
+pub mod args;
+pub mod bench;
+pub mod compare;
+pub mod engine;
+pub mod make;
+pub mod progress;
+pub mod random;
+pub mod recipe;
+pub mod shrink;

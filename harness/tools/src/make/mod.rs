@@ -1,0 +1,15 @@
+//! Files to compare on: random well-typed recipes, damaged files, edges, and every small term.
+
+mod damage;
+mod edges;
+mod every;
+mod forms;
+mod ml;
+mod plan;
+mod scheme;
+mod types;
+
+pub use damage::{damage, telling_word};
+pub use edges::{deep_recipes, edges, nested};
+pub use every::{every_small_recipe, every_small_term, every_small_type};
+pub use plan::{damaged_file, well_typed_file};

@@ -1,0 +1,31 @@
+//! `recipe check`: the engine's check, a refusal explained.
+
+use super::explain::explain;
+use super::input::read_input;
+use super::{without, Command, Failure, Outcome};
+use crate::args::Args;
+use crate::engine::linked_check;
+use model::Refusal;
+
+pub const COMMAND: Command = Command { name: "check", help: HELP, work: check };
+
+const HELP: &str = "\
+usage: recipe check [FILE]
+
+Says whether the engine accepts a recipe file or the file of a text. A refusal is explained on standard error in a
+sentence, and where it has a place, that is shown: in double brackets in the term, or in the list of words. Reads
+standard input where no FILE is named. Status 0: accepted; 1: refused.
+";
+
+fn check(mut args: Args) -> Outcome {
+    let engine = linked_check().ok_or(without("check"))?;
+    let input = read_input(&mut args)?;
+    args.finish()?;
+    match engine(&input.bytes) {
+        0 => Ok(b"accepted\n".to_vec()),
+        answer => {
+            let refusal = Refusal::new((answer % 256) as u32, (answer / 256) as usize);
+            Err(Failure::Refused(explain(&input, &refusal)))
+        }
+    }
+}

@@ -1,0 +1,101 @@
+//! `recipe run`: the engine's run, its end and the term that it leaves.
+
+use super::explain::explain;
+use super::input::{read_input, Input};
+use super::{without, Command, Failure, Outcome};
+use crate::args::Args;
+use crate::engine::{linked_run, RecipeRun, Run};
+use model::node::Node;
+use model::read::read_ml;
+use model::text::pretty;
+use model::{Ml, Refusal};
+use std::rc::Rc;
+
+pub const COMMAND: Command = Command { name: "run", help: HELP, work: run };
+
+const HELP: &str = "\
+usage: recipe run [FILE] [--limit STEPS] [--words CAPACITY]
+
+Runs a recipe file or the file of a text, for 1,000,000 steps at most with two buffers of 4,096 words. Prints the end and
+the term left. Reads standard input where no FILE is named. Status 0: ended, whatever the end; 1: refused.
+";
+
+/// What a run is lent.
+pub struct Lent {
+    engine: Run,
+    pub capacity: usize,
+}
+
+impl Lent {
+    pub fn new(args: &mut Args) -> Result<Lent, Failure> {
+        let engine = linked_run().ok_or(without("run"))?;
+        let capacity = args.number("--words", 4_096)? as usize;
+        Ok(Lent { engine, capacity: capacity.min(1 << 20) })
+    }
+
+    /// Runs the file, unless it is refused; the words left come second.
+    pub fn run(&self, input: &Input, limit: u32) -> Result<(RecipeRun, Vec<u32>), Failure> {
+        let (mut first, mut second) = (vec![0; self.capacity], vec![0; self.capacity]);
+        let result = (self.engine)(&input.bytes, limit, &mut first, &mut second);
+        if result.refusal != 0 {
+            let refusal = Refusal::new(result.refusal, result.place as usize);
+            return Err(Failure::Refused(explain(input, &refusal)));
+        }
+        first.truncate(result.left as usize);
+        Ok((result, first))
+    }
+}
+
+fn run(mut args: Args) -> Outcome {
+    let lent = Lent::new(&mut args)?;
+    let limit = args.number("--limit", 1_000_000)?;
+    let input = read_input(&mut args)?;
+    args.finish()?;
+    let (result, words) = lent.run(&input, steps(limit)?)?;
+    Ok(format!("{}\n{}", ended(&result), left(&words)?).into_bytes())
+}
+
+/// A number of steps.
+pub fn steps(number: u64) -> Result<u32, String> {
+    u32::try_from(number).map_err(|_| format!("a run makes at most {} steps, not {number}", u32::MAX))
+}
+
+/// The end in a line.
+pub fn ended(result: &RecipeRun) -> String {
+    let steps = count(result.steps, "step");
+    match result.end {
+        0 => format!("value after {steps}, {}", count(result.left, "word")),
+        1 => format!("spent after {steps}, {}", count(result.left, "word")),
+        2 => format!("error {} after {steps}{}", result.code, meaning(result.code)),
+        3 => format!("full after {steps}: the next term has {}", count(result.wanted, "word")),
+        end => format!("the engine gave an end that has no meaning: {end}"),
+    }
+}
+
+fn meaning(code: u32) -> &'static str {
+    match code {
+        1 => ": no number, or the recipe's own code",
+        2 => ": no function, or the recipe's own code",
+        3 => ": no list, or the recipe's own code",
+        4 => ": an empty list, or the recipe's own code",
+        5 => ": a number over 16,777,215, or the recipe's own code",
+        _ => ": the recipe's own code",
+    }
+}
+
+pub fn count(number: u32, what: &str) -> String {
+    format!("{number} {what}{}", if number == 1 { "" } else { "s" })
+}
+
+/// The term that a run leaves, however deep it nests.
+pub fn term(words: &[u32]) -> Result<Rc<Ml>, String> {
+    let read = read_ml(words, 0, usize::MAX);
+    read.map_err(|refusal| format!("the engine left words that are no term, from word {}", refusal.place))
+}
+
+fn left(words: &[u32]) -> Result<String, String> {
+    if words.is_empty() {
+        return Ok(String::new());
+    }
+    Ok(pretty(Node::Ml(&term(words)?), None) + "\n")
+}

@@ -1,0 +1,67 @@
+//! The makers make what they promise, and reach every rule, end and refusal.
+
+use model::laws::try_reduction;
+use model::rules::{Rule, RuleCounts};
+use model::{check, on_large_stack, run};
+use tools::make::*;
+use tools::random::Random;
+
+const FILES: u64 = 3_000;
+
+#[test]
+fn well_typed_files_are_accepted() {
+    on_large_stack(|| {
+        let refused = |index: &u64| check(&well_typed_file(&mut Random::new(1, *index))).err();
+        let numbers: Vec<u32> = (0..FILES).filter_map(|index| refused(&index)).map(|refusal| refusal.number).collect();
+        assert!(numbers.iter().all(|&number| number == 1), "{numbers:?}");
+        assert!(numbers.len() < 30, "{} are too large", numbers.len());
+    });
+}
+
+#[test]
+fn every_rule_is_reached() {
+    on_large_stack(|| {
+        let mut rules = RuleCounts::default();
+        for index in 0..10 * FILES {
+            let file = well_typed_file(&mut Random::new(1, index));
+            rules.join(&run(&file, 200, 2_000, 2_000).rules);
+        }
+        for rule in Rule::ALL {
+            assert!(rules.of(rule) > 0, "{} was never reached", rule.name());
+        }
+    });
+}
+
+#[test]
+fn reductions_keep_demand_3() {
+    on_large_stack(|| {
+        for index in 0..FILES {
+            if let Ok(recipe) = check(&well_typed_file(&mut Random::new(2, index))) {
+                try_reduction(&recipe, 60, 4_000).expect("the laws hold");
+            }
+        }
+    });
+}
+
+#[test]
+fn damaged_files_meet_every_refusal() {
+    on_large_stack(|| {
+        let mut met = [0; 8];
+        for index in 0..10 * FILES {
+            let number = check(&damaged_file(&mut Random::new(1, index))).err().map_or(0, |refusal| refusal.number);
+            met[number as usize] += 1;
+        }
+        assert!(met.iter().all(|&count| count > 20), "{met:?}");
+    });
+}
+
+#[test]
+fn small_terms_are_all_there() {
+    let (mut terms, mut types, mut recipes) = (0, 0, 0);
+    every_small_term(&mut |_| terms += 1);
+    every_small_type(&mut |_| types += 1);
+    every_small_recipe(&mut |_| recipes += 1);
+    // 10 types of up to 3 words; 16 leaves, 76 terms of 2 words and 1,416 of 3.
+    assert_eq!(recipes, 10 * (16 + 76 + 1_416));
+    assert!(terms > 100_000 && types > 1_000, "{terms} {types}");
+}

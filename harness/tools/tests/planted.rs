@@ -1,0 +1,111 @@
+//! Planted errors are found, shrunk to a small recipe and shown; the model itself shows no difference.
+
+use model::check::{answer, check};
+use model::{on_large_stack, run, End};
+use tools::compare::{compare_check, compare_run, compare_stack, missing, Plan};
+use tools::engine::{Check, RecipeRun, Run};
+
+const PLAN: Plan = Plan { files: 3_000, seed: 1, start: 0 };
+
+fn right_check(file: &[u8]) -> u64 {
+    answer(&check(file))
+}
+
+fn right_run(file: &[u8], limit: u32, first: &mut [u32], second: &mut [u32]) -> RecipeRun {
+    let ran = run(file, limit, first.len(), second.len());
+    first.copy_from_slice(&ran.first);
+    second.copy_from_slice(&ran.second);
+    match ran.result {
+        Err(refusal) => RecipeRun { refusal: refusal.number, place: refusal.place, ..RecipeRun::default() },
+        Ok(e) => RecipeRun {
+            refusal: 0,
+            place: 0,
+            end: e.end as u32,
+            code: e.code,
+            steps: e.steps,
+            left: e.left,
+            wanted: e.wanted,
+        },
+    }
+}
+
+fn check_shown(engine: Check) -> String {
+    on_large_stack(|| compare_check(engine, PLAN)).err().expect("a difference")
+}
+
+fn run_shown(engine: Run) -> String {
+    on_large_stack(|| compare_run(engine, PLAN)).err().expect("a difference")
+}
+
+#[test]
+fn no_difference_from_itself() {
+    let checks = on_large_stack(|| compare_check(right_check, PLAN)).expect("no difference");
+    assert_eq!(missing(&checks.of_checks()), [""; 0]);
+    let runs = on_large_stack(|| compare_run(right_run, PLAN)).expect("no difference");
+    assert_eq!(runs.of_runs().len(), 48 + 4 + 8);
+}
+
+#[test]
+fn a_check_that_accepts_all() {
+    let shown = check_shown(|_| 0);
+    assert!(shown.contains("model:    refused") && shown.contains("engine:   accepted"), "{shown}");
+}
+
+#[test]
+fn a_check_that_compares_first_words_of_types() {
+    let shown = check_shown(|file| match right_check(file) {
+        7 if file[16] == 3 && file[20..24] != [1, 0, 0, 0] => 0,
+        right => right,
+    });
+    assert!(shown.contains("refused 7") && shown.contains("declared: {"), "{shown}");
+}
+
+#[test]
+fn a_run_that_tests_error_before_spent() {
+    let shown = run_shown(|file, limit, first, second| {
+        let more = run(file, limit.saturating_add(1), first.len(), second.len());
+        match more.result {
+            Ok(ended) if ended.end == End::Error => right_run(file, limit.saturating_add(1), first, second),
+            _ => right_run(file, limit, first, second),
+        }
+    });
+    assert!(
+        shown.contains("spent (end 1)") && shown.contains("error (end 2)") && shown.contains("limit 1, buffers of 3"),
+        "{shown}"
+    );
+}
+
+#[test]
+fn a_run_that_leaves_rubbish() {
+    let shown = run_shown(|file, limit, first, second| {
+        let kept = second.last().copied();
+        let result = right_run(file, limit, first, second);
+        if let (Some(last), Some(kept), true) = (second.last_mut(), kept, result.steps == 2) {
+            *last = kept;
+        }
+        result
+    });
+    assert!(shown.contains("second:"), "{shown}");
+}
+
+#[test]
+fn a_run_that_miscounts_wrapped_calls() {
+    let shown = run_shown(|file, limit, first, second| {
+        let mut result = right_run(file, limit, first, second);
+        let wraps = file.chunks(4).any(|word| word == [45, 0, 0, 0]);
+        result.steps += u32::from(wraps && result.refusal == 0 && result.steps > 2);
+        result
+    });
+    let term = shown.lines().find(|line| line.starts_with("term:")).unwrap_or("");
+    assert!(term.len() < 50 && shown.contains("limit 3, "), "{shown}");
+}
+
+#[test]
+fn deep_ends_are_known_beforehand() {
+    // The model is slow on the deepest terms: one of the ends is enough here.
+    let engine: Run = |file, limit, first, second| match file[24] {
+        30 => right_run(file, limit, first, second),
+        _ => RecipeRun::default(),
+    };
+    assert!(compare_stack(engine, 64 << 20).is_err());
+}

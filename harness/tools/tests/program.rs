@@ -1,0 +1,102 @@
+//! The program `recipe` from outside: what it prints, where, and its status.
+
+use std::io::Write;
+use std::process::{Command, Output, Stdio};
+
+fn recipe(args: &[&str], input: &[u8]) -> Output {
+    let mut child = Command::new(env!("CARGO_BIN_EXE_recipe"))
+        .args(args)
+        .stdin(Stdio::piped())
+        .stdout(Stdio::piped())
+        .stderr(Stdio::piped())
+        .spawn()
+        .expect("the program starts");
+    // A program that needs no input may have ended before it is written.
+    let _ = child.stdin.take().expect("its input").write_all(input);
+    child.wait_with_output().expect("the program ends")
+}
+
+fn seen(args: &[&str], input: &[u8]) -> (i32, String, String) {
+    let output = recipe(args, input);
+    let text = |bytes: &[u8]| String::from_utf8_lossy(bytes).into_owned();
+    (output.status.code().unwrap_or(-1), text(&output.stdout), text(&output.stderr))
+}
+
+fn words(words: &[u32]) -> Vec<u8> {
+    model::file::bytes_of(words)
+}
+
+#[test]
+fn make_and_show() {
+    let made = recipe(&["make"], b"N (add 2 3)");
+    assert_eq!(made.stdout, words(&[1, 4, 3, 5, 1, 21, 529, 785]));
+    assert_eq!(seen(&["show"], &made.stdout), (0, "N\n(add 2 3)\n".into(), "".into()));
+    assert_eq!(
+        seen(&["make"], b"N (add 2"),
+        (2, "".into(), "recipe: line 1, column 9: the text ends where an ML term is due\n".into())
+    );
+}
+
+#[test]
+fn show_explains_damage() {
+    let (status, printed, said) = seen(&["show"], &words(&[1, 4, 1, 5, 1, 99]));
+    assert_eq!((status, printed.as_str()), (1, ""));
+    assert!(
+        said.contains("refused 3") && said.contains("word    5:         99  no kind has the number 99  <- here"),
+        "{said}"
+    );
+    assert!(seen(&["show"], &words(&[1, 4, 1, 6, 1, 17])).2.contains("refused 2: the header is wrong"));
+    assert!(seen(&["show"], b"").2.contains("refused 1"));
+}
+
+#[test]
+fn help_and_faults() {
+    for command in ["make", "show", "check", "run", "step"] {
+        let (status, printed, _) = seen(&[command, "--help"], b"");
+        assert!(status == 0 && printed.starts_with(&format!("usage: recipe {command}")), "{printed}");
+    }
+    assert_eq!(seen(&["--help"], b"").0, 0);
+    assert_eq!(seen(&[], b"").0, 2);
+    assert_eq!(seen(&["bake"], b"").0, 2);
+    assert_eq!(seen(&["show", "--loud"], b"").0, 2);
+    assert_eq!(seen(&["show", "no such file"], b"").0, 2);
+}
+
+#[cfg(not(feature = "check"))]
+#[test]
+fn without_the_engine() {
+    for command in ["check", "run", "step"] {
+        let (status, _, said) = seen(&[command], b"N 1");
+        assert!(status == 2 && said.contains("built without the engine"), "{said}");
+    }
+}
+
+#[cfg(feature = "check")]
+#[test]
+fn check_points_at_the_place() {
+    assert_eq!(seen(&["check"], b"N (add 2 3)"), (0, "accepted\n".into(), "".into()));
+    let (status, _, said) = seen(&["check"], b"(N to N)\n(fn N (ms N v0))");
+    assert_eq!(status, 1);
+    assert!(said.contains("line 2, column 13 of the text, word 11") && said.contains("(fn N (ms N [[v0]]))"), "{said}");
+    assert!(seen(&["check"], b"L 3").2.contains("declared: L\n  found:    N"));
+}
+
+#[cfg(feature = "run")]
+#[test]
+fn run_and_step() {
+    let wrapped = b"N (app (ms (N to N) (fn v0)) 7)";
+    assert_eq!(seen(&["run"], wrapped).1, "value after 5 steps, 1 word\n7\n");
+    assert_eq!(
+        seen(&["run", "--words", "11"], wrapped).1.lines().next(),
+        Some("full after 0 steps: the next term has 12 words")
+    );
+    assert_eq!(seen(&["run", "--limit", "4"], wrapped).1, "spent after 4 steps, 3 words\n(ms N 7)\n");
+    let steps = seen(&["step"], wrapped).1;
+    assert_eq!(steps.lines().filter(|line| line.starts_with("  -> ")).count(), 5);
+    assert!(steps.contains("step 1, 12 words\n  [[(app (fn N (ms N (app (fn v0) (sm N v0)))) 7)]]\n"), "{steps}");
+    assert!(seen(&["step", "--to", "2"], b"N (fix (fn N v0))").1.ends_with("stopped at step 2; --to goes further\n"));
+    assert!(seen(&["step"], b"N (hd (nil N))")
+        .1
+        .ends_with("error 4 after 2 steps: an empty list, or the recipe's own code\n"));
+    assert_eq!(seen(&["run"], b"L 3").0, 1);
+}

@@ -1,0 +1,89 @@
+/* The recipe engine, for the controller's engineer: check a recipe file, and run it.
+ *
+ * Both functions take any bytes, any limit and any buffers, down to length 0, and always come back. They keep nothing
+ * between calls, allocate nothing and call nothing of yours, so they may be used from several threads at once.
+ *
+ * Pointers. A pointer must not be null, also where its length is 0: hand over the address of any object then. The file
+ * is only read. The two buffers are written; they must overlap neither each other nor the file.
+ *
+ * Stack. See RECIPE_STACK_BYTES.
+ *
+ * Places are counted in words of 4 bytes from 0, the file's first word being at place 0.
+ */
+#ifndef RECIPE_H
+#define RECIPE_H
+
+#include <stddef.h>
+#include <stdint.h>
+
+#ifdef __cplusplus
+extern "C" {
+#endif
+
+/* Stack that one call takes at most, for files and buffers of up to 16,384 words.
+ * TO BE MEASURED: this figure is an upper bound set beforehand; `compare stack` in harness/ tries it. */
+#define RECIPE_STACK_BYTES (4u * 1024u * 1024u)
+
+/* A file has 24 to 16,384 bytes. Of a buffer, words past the 16,384th are never used, but they are set to 0. */
+#define RECIPE_FILE_BYTES 16384u
+#define RECIPE_BUFFER_WORDS 16384u
+
+/* Why a file is refused. In brackets: what the place points at; it is 0 where nothing is said.
+ *
+ *   1  the size: not a multiple of 4 bytes, under 24 bytes or over 16,384
+ *   2  the header: a count is 0, an offset is not the one due, or the words do not add up to the file's length
+ *   3  a word has no kind or operand that is due there [that word]; the words of the declared type or of the term run
+ *      out [one past them]; or some remain [the first that remains]
+ *   4  nesting over 256 levels [the first word that is too deep]
+ *   5  a variable without a lambda of its own language [that variable's word]
+ *   6  the term has no type
+ *   7  the term's type is not the declared one
+ *   8  the term has more words than the capacity (recipe_run alone)
+ *
+ * The lowest that fits is given, 3 and 4 by whichever word comes first. */
+enum {
+    RECIPE_SIZE = 1,
+    RECIPE_HEADER = 2,
+    RECIPE_WORD = 3,
+    RECIPE_NESTING = 4,
+    RECIPE_SCOPE = 5,
+    RECIPE_NO_TYPE = 6,
+    RECIPE_OTHER_TYPE = 7,
+    RECIPE_CAPACITY = 8
+};
+
+/* Checks a file. 0: accepted; else the refusal's number + 256 * its place. */
+uint64_t recipe_check(const uint8_t *file, size_t file_len);
+
+/* How a run ends, tested in this order at each term:
+ *
+ *   value  the term is a value: the result
+ *   spent  the steps made equal the limit
+ *   error  a wrong ends the run; `code` says which: 1 no number, 2 no function, 3 no list, 4 empty list, 5 number over
+ *          16,777,215, or the recipe's own, which may be any from 1 to 65,535
+ *   full   the next term has more words than the capacity */
+enum { RECIPE_VALUE = 0, RECIPE_SPENT = 1, RECIPE_ERROR = 2, RECIPE_FULL = 3 };
+
+typedef struct {
+    uint32_t refusal; /* 0: the run ended as the fields below say; else the refusal's number, and they are 0 */
+    uint32_t place;   /* of the refusal */
+    uint32_t end;     /* RECIPE_VALUE, RECIPE_SPENT, RECIPE_ERROR or RECIPE_FULL */
+    uint32_t code;    /* of an error; else 0 */
+    uint32_t steps;   /* steps made; the one in which an error ends the run is counted */
+    uint32_t left;    /* words of the term that stands first in the first buffer; 0 after an error */
+    uint32_t wanted;  /* words of the next term, where it was too large: RECIPE_FULL; else 0 */
+} RecipeRun;
+
+/* Checks a file and runs it for at most `limit` steps.
+ *
+ * The capacity is the shorter buffer's length, at most 16,384 words. Whatever the buffers held does not matter. Both
+ * are written whole: afterwards the term left stands first in the first buffer, and every other word of both is 0.
+ * After a refusal or an error all words of both are 0. */
+RecipeRun recipe_run(const uint8_t *file, size_t file_len, uint32_t limit,
+                     uint32_t *first, size_t first_len, uint32_t *second, size_t second_len);
+
+#ifdef __cplusplus
+}
+#endif
+
+#endif

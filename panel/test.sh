@@ -1,0 +1,97 @@
+#!/bin/sh
+# Builds the panel's program and compares what it prints with outputs written by hand from document 01.
+# With the argument `run` the example that runs a recipe is tried too. The archive must have been built before.
+set -eu
+cd "$(dirname "$0")/.."
+archive=target/staticlib/libexports.a
+out=target/panel
+mkdir -p "$out"
+flags="-std=c11 -O2 -Wall -Wextra -Werror -Iinclude"
+${CC:-cc} $flags -o "$out/panel" panel/panel.c "$archive"
+
+# Prints 32-bit words as little-endian bytes.
+words() {
+    for w in "$@"; do
+        for shift in 0 8 16 24; do printf "\\$(printf %o $((w >> shift & 255)))"; done
+    done
+}
+
+# Prints a word so many times.
+repeat() {
+    i=0
+    while [ "$i" -lt "$1" ]; do words "$2"; i=$((i + 1)); done
+}
+
+failed=0
+
+# same NAME STATUS EXPECTED COMMAND...: the command's status and output are as written.
+same() {
+    name=$1 status=$2 expected=$3
+    shift 3
+    got=0
+    printed=$("$@" 2>&1) || got=$?
+    if [ "$printed" != "$expected" ] || [ "$got" -ne "$status" ]; then
+        printf 'FAILED %s: status %s, not %s\n  due:     %s\n  printed: %s\n' "$name" "$got" "$status" "$expected" "$printed"
+        failed=1
+    fi
+}
+
+(
+    cd "$out"
+    words 1 4 3 5 1 21 529 785 >add
+    : >empty
+    { words 1 4 1 5 1 17; printf x; } >odd
+    head -c 16388 /dev/zero >long
+    words 1 4 1 6 1 17 >header
+    words 1 4 1 5 1 99 >kind
+    words 1 4 1 5 3 17 >type-out
+    words 1 4 2 5 1 21 17 >term-out
+    words 1 4 2 5 1 17 17 >remains
+    { words 1 4 257 5 1; repeat 256 20; words 17; } >deep
+    words 3 4 5 7 4 1 1 18 1 30 1 32 >scope
+    words 1 4 3 5 1 19 17 17 >no-type
+    words 1 4 1 5 2 17 >other-type
+    words 1 4 8 5 1 19 30 4 1 1 34 32 1809 >wrapped
+    words 1 4 3 5 1 26 24 1 >hd-nil
+)
+cd "$out"
+
+word="This word has no kind or operand that is due here, or the type or the term is complete before it, or the type ends too early."
+header="The header is wrong: a count is 0, an offset is not the one due, or the words do not add up to the file's length."
+size="The file's size is wrong: a recipe has 24 to 16,384 bytes, a multiple of 4."
+same add 0 "add: accepted" ./panel add
+same empty 1 "empty: refused 1. $size" ./panel empty
+same odd 1 "odd: refused 1. $size" ./panel odd
+same long 1 "long: refused 1. $size" ./panel long
+same header 1 "header: refused 2. $header" ./panel header
+same kind 1 "kind: refused 3 at word 5. $word" ./panel kind
+same type-out 1 "type-out: refused 3 at word 5. $word" ./panel type-out
+same term-out 1 "term-out: refused 3 at word 7. The file ends here, before the term is complete." ./panel term-out
+same remains 1 "remains: refused 3 at word 6. $word" ./panel remains
+same deep 1 "deep: refused 4 at word 261. This word lies deeper than 256 levels." ./panel deep
+same scope 1 "scope: refused 5 at word 11. This variable has no lambda of its own language at its operand." ./panel scope
+same no-type 1 "no-type: refused 6. The term has no type." ./panel no-type
+same other-type 1 "other-type: refused 7. The term's type is not the declared one." ./panel other-type
+same several 1 "add: accepted
+header: refused 2. $header
+wrapped: accepted" ./panel add header wrapped
+same unread 2 "panel: cannot read none: No such file or directory" ./panel none
+same worst 2 "panel: cannot read none: No such file or directory
+empty: refused 1. $size
+add: accepted" ./panel none empty add
+same folder 2 "panel: cannot read .: Is a directory" ./panel .
+same usage 2 "usage: panel FILE...
+Checks recipe files. Words are counted from 0, each of 4 bytes." ./panel
+
+if [ "${1:-}" = run ]; then
+    (cd ../.. && ${CC:-cc} $flags -o "$out/run" panel/run.c "$archive")
+    same run-add 0 "value, code 0, 1 steps, 1 words left, 0 wanted
+1297" ./run add
+    same run-wrapped 0 "value, code 0, 5 steps, 1 words left, 0 wanted
+1809" ./run wrapped
+    same run-hd-nil 0 "error, code 4, 2 steps, 0 words left, 0 wanted" ./run hd-nil
+    same run-kind 1 "refused 3 at word 5" ./run kind
+fi
+
+[ "$failed" -eq 0 ] && echo "panel: all as written"
+exit "$failed"
