@@ -107,3 +107,6 @@ nothing-written g = record { of = λ l u h. absurd (g l u h) }
 
 pub known-rule : {ws : List ℕ} {r s : Rule} {b : List ℕ} {n k : ℕ} {b′ : List ℕ} → s ≡ r → Writes ws r b n k b′ → Writes ws s b n k b′
 known-rule {ws} {r} {s} {b} {n} {k} {b′} e h = subst (λ (x : Rule). Writes ws x b n k b′) (sym e) h
+
+pub writes-at : {ws vs : List ℕ} {r : Rule} {b : List ℕ} {n k : ℕ} {b′ : List ℕ} → ws ≡ vs → Writes ws r b n k b′ → Writes vs r b n k b′
+writes-at {ws} {vs} {r} {b} {n} {k} {b′} e h = subst (λ (v : List ℕ). Writes v r b n k b′) e h

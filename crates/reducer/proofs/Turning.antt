@@ -262,3 +262,6 @@ within-done at n x e q w = subst (Within at n) q w
 pub within-shift : (at p n m : ℕ) (x : Found) → at ≤ p → p + m ≤ at + n → Within p m x → Within at n x
 within-shift at p n m (Done e) h g w = (omega (arith, h, w .0), omega (arith, g, w .1))
 within-shift at p n m (At q) h g w = (omega (arith, h, w .0), omega (arith, g, w .1))
+
+pub within-at : (at n : ℕ) (x : Found) (p : ℕ) → x ≡ At p → Within at n x → (at ≤ p) × (p ≤ at + n)
+within-at at n x p q w = subst (Within at n) q w

@@ -1,0 +1,90 @@
+// One step of the term in the source: the next term is put together in the target.
+
+use crate::turns::Found;
+use crate::turns::turn;
+use contraction::choices::chosen;
+use contraction::pieces::contract;
+use contraction::rules::Rule;
+use writing::copy;
+use writing::spans::skip;
+ghost use mathlib.Core.Path.{_≡_};
+ghost use Prim.Native.Nat.{_-_, _≤_};
+ghost use lib.ListN.{length, drop};
+ghost use Rattle.nodes.specs.Table.{kinds};
+ghost use Rattle.contraction.specs.Told.{Placed};
+ghost use Rattle.reducer.specs.Moves.{endOf, Spliced, Steps};
+
+// The place of the node whose turn it was, how many words stood there, how many stand there now, and how many words the next term has,
+// whether it fits or not.
+pub struct Change {
+    pub place: usize,
+    pub stood: usize,
+    pub stands: usize,
+    pub size: usize,
+}
+
+pub enum Move {
+    Value,
+    Raised(u32),
+    Next(Change),
+    Stuck,
+}
+
+// Whether a rule ends the reduction, or writes.
+enum End {
+    Stuck,
+    Raised(u32),
+    Writes,
+}
+
+fn end_of(rule: Rule) -> End
+    ensures { λ r. ⌜ r ≡ endOf rule ⌝ }
+{
+    match rule {
+        Rule::Stuck => End::Stuck,
+        Rule::Raised(code) => End::Raised(code),
+        Rule::Number(_, _) => End::Writes,
+        Rule::Part(_, _) => End::Writes,
+        Rule::Led(_, _, _) => End::Writes,
+        Rule::Led2(_, _, _, _) => End::Writes,
+        Rule::Items(_, _, _, _, _) => End::Writes,
+        Rule::IntoML(_, _, _) => End::Writes,
+        Rule::IntoScheme(_, _, _) => End::Writes,
+        Rule::Substituted(_, _, _, _) => End::Writes,
+    }
+}
+
+// The words before a place, what the node there becomes by the rule, and the words after it.
+fn splice(table: &[u64; 48], source: &[u32], place: usize, rule: Rule, target: &mut [u32]) -> Change
+    requires { ⌜ (now table ≡ kinds) × (length (now source) ≤ 1048576) × (place ≤ length (now source)) ⌝ }
+    requires { ⌜ Placed (length (now source) - place) rule ⌝ }
+    ensures { λ r. ⌜ Spliced (now (source .entry)) place rule (now (target .entry)) r (now (target .exit)) ⌝ }
+{
+    let stood = skip(table, &source[place..], 1);
+    let a = copy(&source[..place], target, 0);
+    let b = contract(table, &source[place..], rule, target, a);
+    let size = copy(&source[place + stood..], target, b);
+    Change {
+        place: place,
+        stood: stood,
+        stands: b - a,
+        size: size,
+    }
+}
+
+// The step of the term in the source, which may have 2^20 words.
+pub fn step(table: &[u64; 48], source: &[u32], target: &mut [u32]) -> Move
+    requires { ⌜ (now table ≡ kinds) × (length (now source) ≤ 1048576) ⌝ }
+    ensures { λ r. ⌜ Steps (now (source .entry)) (now (target .entry)) r (now (target .exit)) ⌝ }
+{
+    let found = turn(table, source, 0);
+    let Found::At(place) = found else {
+        return Move::Value;
+    };
+    let rule = chosen(table, &source[place..]);
+    match end_of(rule) {
+        End::Stuck => Move::Stuck,
+        End::Raised(code) => Move::Raised(code),
+        End::Writes => Move::Next(splice(table, source, place, rule, target)),
+    }
+}
