@@ -17,7 +17,7 @@ ghost use Rattle.contraction.specs.declared.rules.Rule.the-variants.{Sub
 
 // A word, and after it the words from a place to another.
 fn lead(w: u32, words: &[u32], a: usize, e: usize, target: &mut [u32], n: usize) -> usize
-    requires { ⌜ (length (now words) ≤ 1048576) × (a ≤ e) × (e ≤ length (now words)) × (n ≤ 2 ^ 40) ⌝ }
+    requires { ⌜ (length (now words) ≤ 1048576) × (a ≤ e) × (e ≤ length (now words)) × (n ≤ 2 ^ 50) ⌝ }
     ensures { λ r. ⌜ Wrote (now (target .entry)) n (w ∷ stretch a e (now (words .entry))) r (now (target .exit)) ⌝ }
     ensures bound { λ r. ⌜ (n ≤ r) × (r ≤ n + 1048577) ⌝ }
 {
@@ -36,7 +36,7 @@ fn items(
     target: &mut [u32],
     n: usize,
 ) -> usize
-    requires { ⌜ (length (now words) ≤ 1048576) × (n ≤ 1048576) ⌝ }
+    requires { ⌜ (length (now words) ≤ 1048576) × (n ≤ 2 ^ 45) ⌝ }
     requires { ⌜ (2 ≤ value) × (value + 1 ≤ tail) × (tail ≤ end) × (end ≤ length (now words)) ⌝ }
     ensures { λ r. ⌜ Wrote (now (target .entry)) n (itemsWords q m value tail end (now (words .entry))) r (now (target .exit)) ⌝ }
     ensures bound { λ r. ⌜ (n ≤ r) × (r ≤ n + 8388608) ⌝ }
@@ -57,7 +57,7 @@ fn into_ml(
     target: &mut [u32],
     n: usize,
 ) -> usize
-    requires { ⌜ (length (now words) ≤ 1048576) × (n ≤ 1048576) ⌝ }
+    requires { ⌜ (length (now words) ≤ 1048576) × (n ≤ 2 ^ 45) ⌝ }
     requires { ⌜ (2 ≤ second) × (second ≤ value) × (value ≤ end) × (end ≤ length (now words)) ⌝ }
     ensures { λ r. ⌜ Wrote (now (target .entry)) n (intoMLWords second value end (now (words .entry))) r (now (target .exit)) ⌝ }
     ensures bound { λ r. ⌜ (n ≤ r) × (r ≤ n + 8388608) ⌝ }
@@ -78,7 +78,7 @@ fn into_scheme(
     target: &mut [u32],
     n: usize,
 ) -> usize
-    requires { ⌜ (length (now words) ≤ 1048576) × (n ≤ 1048576) ⌝ }
+    requires { ⌜ (length (now words) ≤ 1048576) × (n ≤ 2 ^ 45) ⌝ }
     requires { ⌜ (2 ≤ second) × (second ≤ value) × (value ≤ end) × (end ≤ length (now words)) ⌝ }
     ensures { λ r. ⌜ Wrote (now (target .entry)) n (intoSchemeWords second value end (now (words .entry))) r (now (target .exit)) ⌝ }
     ensures bound { λ r. ⌜ (n ≤ r) × (r ≤ n + 8388608) ⌝ }
@@ -100,7 +100,7 @@ fn lead_two(
     target: &mut [u32],
     n: usize,
 ) -> usize
-    requires { ⌜ (length (now words) ≤ 1048576) × (a ≤ e) × (e ≤ length (now words)) × (n ≤ 1048576) ⌝ }
+    requires { ⌜ (length (now words) ≤ 1048576) × (a ≤ e) × (e ≤ length (now words)) × (n ≤ 2 ^ 45) ⌝ }
     ensures { λ r. ⌜ Wrote (now (target .entry)) n (w ∷ v ∷ stretch a e (now (words .entry))) r (now (target .exit)) ⌝ }
     ensures bound { λ r. ⌜ (n ≤ r) × (r ≤ n + 8388608) ⌝ }
 {
@@ -119,7 +119,7 @@ fn replaced(
     target: &mut [u32],
     n: usize,
 ) -> usize
-    requires { ⌜ (now table ≡ kinds) × (length (now words) ≤ 1048576) × (n ≤ 1048576) ⌝ }
+    requires { ⌜ (now table ≡ kinds) × (length (now words) ≤ 1048576) × (n ≤ 2 ^ 45) ⌝ }
     requires { ⌜ Placed (length (now words)) (Substituted x body a e) ⌝ }
     ensures { λ r. ⌜ Writes (now (words .entry)) (Substituted x body a e) (now (target .entry)) n r (now (target .exit)) ⌝ }
     ensures bound { λ r. ⌜ (n ≤ r) × (r ≤ n + 2 ^ 41) ⌝ }
@@ -130,7 +130,7 @@ fn replaced(
 
 // What the node that the words start with becomes by the rule. Returns the place after it. The words may be 2^20.
 pub fn contract(table: &[u64; 48], words: &[u32], rule: Rule, target: &mut [u32], n: usize) -> usize
-    requires { ⌜ (now table ≡ kinds) × (length (now words) ≤ 1048576) × (n ≤ 1048576) ⌝ }
+    requires { ⌜ (now table ≡ kinds) × (length (now words) ≤ 1048576) × (n ≤ 2 ^ 45) ⌝ }
     requires { ⌜ Placed (length (now words)) rule ⌝ }
     ensures { λ r. ⌜ Writes (now (words .entry)) rule (now (target .entry)) n r (now (target .exit)) ⌝ }
     ensures bound { λ r. ⌜ (n ≤ r) × (r ≤ n + 2 ^ 41) ⌝ }

@@ -4,8 +4,8 @@ use mathlib.Core.Bool.{Bool, true, false}
 use mathlib.Core.List.{List, [], _∷_, _++_, append-nil}
 use mathlib.Core.Path.{_≡_, refl, sym, ap, _∙_, subst}
 use lib.Dec.{T}
-use lib.ListN.{length, take, drop}
-use lib.Seq.{take-at, drop-at, drop-drop}
+use lib.ListN.{length, take, drop, length-append, length-drop}
+use lib.Seq.{length-take-le, take-at, drop-at, drop-drop}
 use borrow.Rule.Slice.PartAt.{part-to-end}
 use native.Mathlib.Omega.{arith}
 use Rattle.calculus.specs.Trees.{Lang, ml, Term}
@@ -23,7 +23,8 @@ use Rattle.writing.proofs.Stores.{then, wrote-as}
 use Rattle.contraction.specs.declared.rules.Rule.{Rule}
 use Rattle.contraction.specs.declared.rules.Rule.the-variants as rule
 use Rattle.contraction.specs.Told.{Gives, Tells}
-use Rattle.contraction.specs.Chosen.{OfNode, Writes}
+use Rattle.contraction.specs.Chosen.{OfNode}
+use Rattle.writer.specs.Kept as writer
 use Rattle.reducer.specs.declared.turns.Found.{Found}
 use Rattle.reducer.specs.declared.turns.Found.the-variants.{Done, At}
 use Rattle.reducer.specs.declared.steps.Change.{Change}
@@ -34,26 +35,40 @@ use Rattle.reducer.specs.declared.steps.End.the-variants as end
 use Rattle.reducer.specs.Placed.{placed, Turns}
 use Rattle.reducer.specs.Moves.{endOf, Spliced, Changed, Moved, Steps}
 
--- The splice from what is written before the node, by the rule, and after it.
-module _ (source : List ℕ) (place : ℕ) (r : Rule) (b b₁ b₂ b′ : List ℕ) (c : Change) (place-is : c .place ≡ place)
-    (stood-is : c .stood ≡ span (drop place source) 1) (a k : ℕ) (stands-is : c .stands ≡ k - a) (before : Wrote b 0 (take place source) a b₁)
-    (piece : Writes (drop place source) r b₁ a k b₂) (after : Wrote b₂ k (drop (place + c .stood) source) (c .size) b′) where
-  spliced-of : (P : List ℕ) (m : Lang) (n u : Term m) (Q : List ℕ) → source ≡ P ++ put n Q → place ≡ length P → Gives (drop place source) r u
-      → (c .stood ≡ size n) × (c .stands ≡ size u) × Wrote b 0 (P ++ put u Q) (c .size) b′
+-- The splice from the three pieces of the next term.
+module _ (source : List ℕ) (place : ℕ) (b b′ : List ℕ) (stood k : ℕ) (inside : place ≤ length source)
+    (stood-is : stood ≡ span (drop place source) 1) (next : writer.Next source place place (place + stood) 1 b k b′) where
+  front : Wrote b 0 (take place source) (next .k₁) (next .b₁)
+  front = let z : place - 0 ≡ place = omega arith in wrote-as (ap (λ (j : ℕ). take j source) z) (next .front .copied refl)
+
+  back : Wrote (next .b₂) (next .k₂) (drop (place + stood) source) k b′
+  back = wrote-as (part-to-end source (place + stood)) (next .back .copied refl)
+
+  -- The words that stay were there before.
+  pub next-least : place + stood ≤ length source → length source ≤ k + stood
+  next-least h =
+      omega (arith, front .place, length-take-le place source inside, next .piece .least, back .place, length-drop (place + stood) source)
+
+  abbrev change : Change
+  change = record { place = place; stood = stood; stands = k + stood - length source; size = k }
+
+  spliced-of : (P : List ℕ) (m : Lang) (n u : Term m) (Q : List ℕ) → source ≡ P ++ put n Q → place ≡ length P → contract n ≡ becomes u
+      → (stood ≡ size n) × (k + stood - length source ≡ size u) × Wrote b 0 (P ++ put u Q) k b′
   spliced-of P m n u Q q h g =
       let here : drop place source ≡ put n Q = ap (drop place) q ∙ drop-at P (put n Q) place (sym h) in
-      let stood : c .stood ≡ size n = stood-is ∙ span-tree (term m) n Q (drop place source) here in
-      let front : take place source ≡ P = ap (take place) q ∙ take-at P (put n Q) place (sym h) in
-      let back : drop (place + c .stood) source ≡ Q =
-      ap (λ (j : ℕ). drop (place + j) source) stood ∙ sym (drop-drop (size n) place source) ∙ ap (drop (size n)) here ∙ drop-tree (term m) n Q in
-      let w = piece .of m u g in (
-        stood,
-        omega (arith, stands-is, w .place, tree-length (term m) u []),
-        wrote-as (ap (λ (v : List ℕ). P ++ v) (sym (put-append u [] Q))) (then (wrote-as front before) (then w (wrote-as back after))),
-      )
+      let e : stood ≡ size n = stood-is ∙ span-tree (term m) n Q (drop place source) here in
+      let before : take place source ≡ P = ap (take place) q ∙ take-at P (put n Q) place (sym h) in
+      let after : drop (place + stood) source ≡ Q =
+          ap (λ (j : ℕ). drop (place + j) source) e ∙ sym (drop-drop (size n) place source) ∙ ap (drop (size n)) here ∙ drop-tree (term m) n Q in
+      let piece = next .piece .became (λ z. omega (arith, z)) m n Q here u g in
+      let w : Wrote b 0 (P ++ put u Q) k b′ =
+          wrote-as (ap (λ (v : List ℕ). P ++ v) (sym (put-append u [] Q))) (then (wrote-as before front) (then piece (wrote-as after back))) in
+      let l = length-append P (put u Q) in
+      let r = length-append P (put n Q) in
+      (e, omega (arith, e, w .place, l, tree-length (term m) u Q, ap length q, r, tree-length (term m) n Q), w)
 
-  pub spliced : Spliced source place r b c b′
-  spliced = record { where-it-was = place-is; of = spliced-of }
+  pub spliced : Spliced source place b change b′
+  spliced = record { where-it-was = refl; of = spliced-of }
 
 abbrev isDone : Found → Bool
 isDone (Done n) = true
@@ -166,12 +181,12 @@ module _ (source b : List ℕ) (x : Found) (x-is : Turns source 0 x) (place : �
             (λ m F n z s. raised-moved e b (drop place source) rl F c g (contract n) (tells source b x x-is place h rl told b (Raised c) e q F n z s));
       }
 
-  module _ (b′ : List ℕ) (c : Change) (sp : Spliced source place rl b c b′) (g : endOf rl ≡ end.Writes) where
+  module _ (b′ : List ℕ) (c : Change) (sp : Spliced source place b c b′) (g : endOf rl ≡ end.Writes) where
     next-moved : (e : Term ml) (q : source ≡ words e) {m : Lang} (F : Context m ml) (n : Term m) (z : turn e ≡ calculus.at m F n) (s : fill F n ≡ e)
         (o : Became m) → contract n ≡ o → Tells (drop place source) rl o → Moved e (Next c) b b′ (outcome F o)
     next-moved e q {m} F n z s (becomes u) k t =
         let p = place-is source b x x-is place h rl told b′ (Next c) e q F n z s in
-        let w = sp .of (wordsBefore F) m n u (wordsAfter F ++ []) (stands source b x x-is place h rl told b′ (Next c) e q F n z s) p t in
+        let w = sp .of (wordsBefore F) m n u (wordsAfter F ++ []) (stands source b x x-is place h rl told b′ (Next c) e q F n z s) p k in
         let v : Wrote b 0 (words (fill F u)) (c .size) b′ = wrote-as (sym (put-fill F u [])) (w .2) in (
           c,
           refl,

@@ -1,16 +1,15 @@
 -- One step in words: what the code answers, and what it leaves in the target, is the calculus's step.
-use Prim.Native.Nat.{ℕ, _+_}
+use Prim.Native.Nat.{ℕ}
 use mathlib.Core.List.{List, _++_}
 use mathlib.Core.Path.{_≡_}
-use lib.ListN.{length, drop}
+use lib.ListN.{length}
 use Rattle.calculus.specs.Trees.{Lang, ml, Term}
 use Rattle.calculus.specs.Words.{put, words, size}
-use Rattle.calculus.specs.Reduction.{Outcome, value, raised, next, stuck, step}
+use Rattle.calculus.specs.Reduction.{becomes, contract, Outcome, value, raised, next, stuck, step}
 use Rattle.calculus.proofs.Splices.{wordsBefore, Splice}
 use Rattle.writing.specs.Wrote.{Wrote}
 use Rattle.contraction.specs.declared.rules.Rule.{Rule}
 use Rattle.contraction.specs.declared.rules.Rule.the-variants as rule
-use Rattle.contraction.specs.Told.{Gives}
 use Rattle.reducer.specs.declared.steps.Change.{Change}
 use Rattle.reducer.specs.declared.steps.Move.{Move}
 use Rattle.reducer.specs.declared.steps.Move.the-variants.{Value, Raised, Next, Stuck}
@@ -29,11 +28,11 @@ endOf (rule.IntoML s v e) = end.Writes
 endOf (rule.IntoScheme s v e) = end.Writes
 endOf (rule.Substituted x b a e) = end.Writes
 
--- Where the node n stands in the source behind the words P, and the rule gives u of it: how many words stood and stand there, and the words
--- that are written.
-pub record Spliced (source : List ℕ) (place : ℕ) (r : Rule) (b : List ℕ) (c : Change) (b′ : List ℕ) : Type 0 where
+-- Where the node n stands in the source behind the words P, and it becomes u: how many words stood and stand there, and the words that are
+-- written.
+pub record Spliced (source : List ℕ) (place : ℕ) (b : List ℕ) (c : Change) (b′ : List ℕ) : Type 0 where
   pub where-it-was : c .place ≡ place
-  pub of : (P : List ℕ) (m : Lang) (n u : Term m) (Q : List ℕ) → source ≡ P ++ put n Q → place ≡ length P → Gives (drop place source) r u
+  pub of : (P : List ℕ) (m : Lang) (n u : Term m) (Q : List ℕ) → source ≡ P ++ put n Q → place ≡ length P → contract n ≡ becomes u
       → (c .stood ≡ size n) × (c .stands ≡ size u) × Wrote b 0 (P ++ put u Q) (c .size) b′
 
 -- The next term r of e: the change is that of the step's splice, and the words of r are written, as far as they fit.

@@ -3,15 +3,13 @@
 use crate::turns::Found;
 use crate::turns::turn;
 use contraction::choices::chosen;
-use contraction::pieces::contract;
 use contraction::rules::Rule;
-use writing::copy;
+use writer::write_next;
 use writing::spans::skip;
 ghost use mathlib.Core.Path.{_≡_};
-ghost use Prim.Native.Nat.{_-_, _≤_};
-ghost use lib.ListN.{length, drop};
+ghost use Prim.Native.Nat.{_≤_};
+ghost use lib.ListN.{length};
 ghost use Rattle.nodes.specs.Table.{kinds};
-ghost use Rattle.contraction.specs.Told.{Placed};
 ghost use Rattle.reducer.specs.Moves.{endOf, Spliced, Steps};
 
 // The place of the node whose turn it was, how many words stood there, how many stand there now, and how many words the next term has,
@@ -54,20 +52,17 @@ fn end_of(rule: Rule) -> End
     }
 }
 
-// The words before a place, what the node there becomes by the rule, and the words after it.
-fn splice(table: &[u64; 48], source: &[u32], place: usize, rule: Rule, target: &mut [u32]) -> Change
+// The next term: the words before a place, what the node there becomes, and the words after it.
+fn splice(table: &[u64; 48], source: &[u32], place: usize, target: &mut [u32]) -> Change
     requires { ⌜ (now table ≡ kinds) × (length (now source) ≤ 1048576) × (place ≤ length (now source)) ⌝ }
-    requires { ⌜ Placed (length (now source) - place) rule ⌝ }
-    ensures { λ r. ⌜ Spliced (now (source .entry)) place rule (now (target .entry)) r (now (target .exit)) ⌝ }
+    ensures { λ r. ⌜ Spliced (now (source .entry)) place (now (target .entry)) r (now (target .exit)) ⌝ }
 {
     let stood = skip(table, &source[place..], 1);
-    let a = copy(&source[..place], target, 0);
-    let b = contract(table, &source[place..], rule, target, a);
-    let size = copy(&source[place + stood..], target, b);
+    let size = write_next(target, source, place, place, place + stood, 1);
     Change {
         place: place,
         stood: stood,
-        stands: b - a,
+        stands: size + stood - source.len(),
         size: size,
     }
 }
@@ -85,6 +80,6 @@ pub fn step(table: &[u64; 48], source: &[u32], target: &mut [u32]) -> Move
     match end_of(rule) {
         End::Stuck => Move::Stuck,
         End::Raised(code) => Move::Raised(code),
-        End::Writes => Move::Next(splice(table, source, place, rule, target)),
+        End::Writes => Move::Next(splice(table, source, place, target)),
     }
 }

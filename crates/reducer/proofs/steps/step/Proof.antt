@@ -1,12 +1,11 @@
 -- `reducer::steps::step` meets its contract: each way out is one law of Stepping. Assumes nothing.
 use borrow.Author.Needs.{needs}
 use mathlib.Core.List.{List}
-use mathlib.Core.Path.{_≡_, refl, sym, ap, _∙_, subst}
+use mathlib.Core.Path.{_≡_, sym, _∙_}
 use Prim.Native.Nat.{ℕ, _+_, _-_, _≤_}
 use lib.ListN.{length, drop}
 use native.Mathlib.Omega.{arith}
 use Rattle.nodes.proofs.Ways.{part-length}
-use Rattle.contraction.specs.Told.{Placed}
 use Rattle.reducer.proofs.Turning.{within-at}
 use Rattle.reducer.proofs.Stepping.{step-value, step-stuck, step-raised, step-next}
 use borrow.Author.Needs.{needs}
@@ -64,11 +63,7 @@ enum-told-3 : tie.Need-enum-told-3
 enum-told-3 c = search needs
 
 splice-requires : tie.Need-splice-requires
-splice-requires c κs =
-    let s = c .before .before .before .before .before .before .before .before .before .before .before .before in (
-      (s .pre .0, s .pre .1, inside (c .before .before .before .before .before .before .before)),
-      subst (λ (n : ℕ). Placed n (c .before .before .before .before .chosen .result)) (part-length (s .args .source .now) (c .before .before .before .before .before .before .before .found .given .0 .0)) (c .before .before .before .before .chosen .ensures .0),
-    )
+splice-requires c κs = (c .before .before .before .before .before .before .before .before .before .before .before .before .pre .0, c .before .before .before .before .before .before .before .before .before .before .before .before .pre .1, inside (c .before .before .before .before .before .before .before))
 
 returns-2 : tie.Need-returns-2
 returns-2 c =
