@@ -1,26 +1,25 @@
 -- The ways out of choosing a rule for ms and sm, by the type. Assumes nothing.
-use Prim.Native.Nat.{ℕ, _+_, _-_, _/_, _≤_, _<_}
-use mathlib.Core.Bool.{Bool, true, false, cond}
+use Prim.Native.Nat.{ℕ, _+_, _-_, _/_, _<_}
+use mathlib.Core.Bool.{Bool, true, false}
 use mathlib.Core.List.{List, [], _∷_, _++_}
 use mathlib.Core.Path.{_≡_, refl, sym, ap, _∙_, subst}
-use lib.Dec.{T, eqb}
-use lib.ListN.{length, getD, drop, take}
+use lib.Dec.{T}
+use lib.ListN.{getD, drop}
 use lib.Seq.{drop-drop}
 use native.Mathlib.Omega.{arith}
-use Rattle.calculus.specs.Trees.{Ty, N, L, list, _to_, Lang, ml, sc, Static, Op2, pair, Term, var, num, lam, op2, nil, wrong, ms, sm, app, cons}
+use Rattle.calculus.specs.Trees.{Ty, N, L, list, _to_, Lang, ml, sc, Term, num, wrong, ms, sm, app}
 use Rattle.calculus.specs.Words.{word, put, putTy, words, size, sizeTy}
 use Rattle.calculus.specs.Kinds.{type, term}
-use Rattle.calculus.specs.Reduction.{form, Became, becomes, nothing, onNumber, onLambda, onList, onLump, toML, toScheme}
+use Rattle.calculus.specs.Reduction.{form, becomes, nothing, onNumber, onLump, toML, toScheme}
 use Rattle.calculus.proofs.Sizes.{putTy-append, put-append}
-use Rattle.writing.specs.Spans.{span}
 use Rattle.contraction.specs.declared.rules.Rule.{Rule}
-use Rattle.contraction.specs.declared.rules.Rule.the-variants.{Stuck, Part, Led, Items, IntoML, IntoScheme}
-use Rattle.contraction.specs.Forms.{formAt, isScheme}
-use Rattle.contraction.specs.Told.{Tells, stretch, refusedRule, numberRule, from, converted}
+use Rattle.contraction.specs.declared.rules.Rule.the-variants.{Stuck, Part}
+use Rattle.contraction.specs.Forms.{isScheme}
+use Rattle.contraction.specs.Told.{Tells, refusedRule, numberRule, from, converted}
 use Rattle.contraction.specs.Chosen.{Value, AtType, AtList, AtFunction}
-use Rattle.contraction.proofs.Views.{Formed, is-number, is-function, is-empty, is-pair, is-lump, by-form, size-some}
+use Rattle.contraction.proofs.Views.{Formed, is-number, is-lump, by-form}
 use Rattle.contraction.proofs.Parts.{Stands, sized, stands}
-use Rattle.contraction.proofs.Looks.{no-number, no-lambda, no-list, no-lump, number-told, number-of}
+use Rattle.contraction.proofs.Looks.{no-number, no-lump, number-told, number-of}
 
 -- The words of a list and of a function that are brought over, in a row.
 pub items-words : (q m : ℕ) (l : Lang) (t : Ty) (a b : Term l)

@@ -1,12 +1,12 @@
 -- The ways out of choosing a rule for ms and sm at the type of a function, and at whichever type it is. Assumes nothing.
-use Prim.Native.Nat.{ℕ, _+_, _-_, _≤_, _<_}
+use Prim.Native.Nat.{ℕ, _+_, _-_, _<_}
 use mathlib.Core.Bool.{Bool, true, false}
 use mathlib.Core.List.{List, [], _∷_, _++_}
 use mathlib.Core.Path.{_≡_, refl, sym, ap, _∙_, subst}
 use lib.Dec.{T, eqb}
-use lib.ListN.{length, getD, drop}
+use lib.ListN.{getD, drop}
 use native.Mathlib.Omega.{arith}
-use Rattle.calculus.specs.Trees.{Ty, N, L, list, _to_, Lang, ml, sc, Term, var, lam, wrong, ms, sm, app}
+use Rattle.calculus.specs.Trees.{Ty, N, L, list, _to_, Lang, ml, sc, Term, lam, wrong, ms, sm, app}
 use Rattle.calculus.specs.Words.{word, put, putTy, size, sizeTy}
 use Rattle.calculus.specs.Kinds.{type, term}
 use Rattle.calculus.specs.Reduction.{form, becomes, nothing, onLambda, toML, toScheme}

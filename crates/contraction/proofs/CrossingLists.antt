@@ -1,25 +1,25 @@
 -- The ways out of choosing a rule for ms and sm at the type of a list, and of a function. Assumes nothing.
-use Prim.Native.Nat.{ℕ, _+_, _-_, _≤_, _<_}
+use Prim.Native.Nat.{ℕ, _+_, _-_, _<_}
 use mathlib.Core.Bool.{Bool, true, false}
-use mathlib.Core.List.{List, [], _∷_, _++_}
+use mathlib.Core.List.{List, _∷_}
 use mathlib.Core.Path.{_≡_, refl, sym, ap, _∙_, subst}
 use lib.Dec.{T}
-use lib.ListN.{length, drop}
+use lib.ListN.{drop}
 use lib.Seq.{drop-drop}
 use native.Mathlib.Omega.{arith}
-use Rattle.calculus.specs.Trees.{Ty, list, _to_, Lang, ml, sc, pair, Term, var, lam, op2, nil, wrong, ms, sm, app, cons}
+use Rattle.calculus.specs.Trees.{Ty, list, _to_, Lang, ml, sc, pair, Term, op2, nil, wrong, ms, sm}
 use Rattle.calculus.specs.Words.{word, put, putTy, size, sizeTy}
 use Rattle.calculus.specs.Kinds.{type, term}
-use Rattle.calculus.specs.Reduction.{form, becomes, nothing, onLambda, onList, toML, toScheme}
+use Rattle.calculus.specs.Reduction.{form, becomes, nothing, onList, toML, toScheme}
 use Rattle.writing.specs.Spans.{span}
-use Rattle.contraction.specs.declared.rules.Rule.the-variants.{Stuck, Led, Items, IntoML, IntoScheme}
+use Rattle.contraction.specs.declared.rules.Rule.the-variants.{Stuck, Led, Items}
 use Rattle.contraction.specs.Forms.{isScheme}
 use Rattle.contraction.specs.Told.{Tells, refusedRule, from, converted}
-use Rattle.contraction.specs.Chosen.{Value, AtType, AtList, AtFunction}
-use Rattle.contraction.proofs.Views.{Formed, is-function, is-empty, is-pair}
+use Rattle.contraction.specs.Chosen.{Value, AtList}
+use Rattle.contraction.proofs.Views.{Formed, is-empty, is-pair}
 use Rattle.contraction.proofs.Parts.{Stands, sized, stands}
-use Rattle.contraction.proofs.Looks.{no-lambda, no-list}
-use Rattle.contraction.proofs.Crossing.{items-words, function-words, type-stands, value-stands, value-form, inner, refused-told}
+use Rattle.contraction.proofs.Looks.{no-list}
+use Rattle.contraction.proofs.Crossing.{items-words, type-stands, value-stands, value-form, inner, refused-told}
 
 module _ (ws : List ℕ) (form-number value end : ℕ) (p : Value ws form-number value end) where
   -- The element's type stands from 2 up to the value.

@@ -1,14 +1,14 @@
 -- The ways out of choosing a rule for whichever node it is, by its shape; and what the rules write. Assumes nothing.
-use Prim.Native.Nat.{ℕ, _+_, _-_, _/_, _%_, _≤_, _<_}
-use mathlib.Core.List.{List, [], _∷_, _++_}
+use Prim.Native.Nat.{ℕ, _-_, _/_, _%_, _≤_, _<_}
+use mathlib.Core.List.{List, [], _∷_}
 use mathlib.Core.Path.{_≡_, refl, sym, ap, _∙_, subst}
 use lib.ListN.{length, getD, take, drop, length-take, length-drop}
 use borrow.Rule.Slice.PartAt.{part-to-end}
 use native.Mathlib.Omega.{arith}
-use Rattle.calculus.specs.Trees.{Lang, ml, sc, Static, Term, op1, op2, if0, wrong, ms, sm}
+use Rattle.calculus.specs.Trees.{Lang, ml, sc, Term, wrong, ms, sm}
 use Rattle.calculus.specs.Words.{word, by, put, words}
 use Rattle.calculus.specs.Kinds.{term}
-use Rattle.calculus.specs.Reduction.{contract, nothing, substitute}
+use Rattle.calculus.specs.Reduction.{contract, nothing}
 use Rattle.calculus.proofs.Sizes.{tree-length}
 use Rattle.nodes.specs.Table.{rowOf}
 use Rattle.writing.specs.Wrote.{Wrote}
@@ -107,6 +107,3 @@ nothing-written g = record { of = λ l u h. absurd (g l u h) }
 
 pub known-rule : {ws : List ℕ} {r s : Rule} {b : List ℕ} {n k : ℕ} {b′ : List ℕ} → s ≡ r → Writes ws r b n k b′ → Writes ws s b n k b′
 known-rule {ws} {r} {s} {b} {n} {k} {b′} e h = subst (λ (x : Rule). Writes ws x b n k b′) (sym e) h
-
-pub writes-at : {ws vs : List ℕ} {r : Rule} {b : List ℕ} {n k : ℕ} {b′ : List ℕ} → ws ≡ vs → Writes ws r b n k b′ → Writes vs r b n k b′
-writes-at {ws} {vs} {r} {b} {n} {k} {b′} e h = subst (λ (v : List ℕ). Writes v r b n k b′) e h

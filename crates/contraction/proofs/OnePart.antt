@@ -1,22 +1,21 @@
 -- The ways out of choosing a rule for the operators of one part. Assumes nothing.
-use Prim.Native.Nat.{ℕ, _+_, _/_, _%_, _≤_, _<_}
-use mathlib.Core.Bool.{Bool, true, false, cond}
+use Prim.Native.Nat.{ℕ, _+_, _/_, _<_}
+use mathlib.Core.Bool.{Bool, true, false}
 use mathlib.Core.List.{List, [], _∷_}
 use mathlib.Core.Path.{_≡_, refl, sym, ap, _∙_, subst}
 use lib.Dec.{T, eqb, leb}
-use lib.ListN.{length, getD, drop}
+use lib.ListN.{getD, drop}
 use lib.Seq.{drop-drop}
 use native.Mathlib.Omega.{arith}
-use Rattle.calculus.specs.Trees.{Ty, Lang, ml, sc, Static, Test, isFun, isList, isNull, isNum, Op1, head, tail, fixpoint, empty, testing, Op2, pair, Term, lam, op1, op2, nil, fix}
-use Rattle.calculus.specs.Words.{word, word1, put, putTy, size, sizeTy, testNumber}
+use Rattle.calculus.specs.Trees.{Ty, Lang, ml, sc, Test, isFun, isList, isNull, isNum, Op1, head, tail, fixpoint, empty, testing, pair, Term, lam, op1, op2, nil, fix}
+use Rattle.calculus.specs.Words.{word, word1, put, putTy, size, testNumber}
 use Rattle.calculus.specs.Kinds.{type, term}
-use Rattle.calculus.specs.Reduction.{Form, number, lambda, noItem, items, sealed, other, form, Became, nothing, amiss, answer, onNumber, onLambda, onList, contract1}
-use Rattle.calculus.proofs.Sizes.{sizeTree}
+use Rattle.calculus.specs.Reduction.{Form, number, lambda, noItem, items, other, form, nothing, amiss, answer, onLambda, onList, contract1}
 use Rattle.writing.specs.Spans.{span}
 use Rattle.writing.proofs.Measures.{span-tree}
 use Rattle.contraction.specs.declared.rules.Rule.{Rule}
 use Rattle.contraction.specs.declared.rules.Rule.the-variants.{Stuck, Number, Part, Led, Led2, Substituted}
-use Rattle.contraction.specs.Forms.{formNumber, formAt, isScheme, answerBy, operator1}
+use Rattle.contraction.specs.Forms.{formNumber, isScheme, answerBy, operator1}
 use Rattle.contraction.specs.Told.{Tells, amissRule, nullRule, part}
 use Rattle.contraction.specs.Chosen.{FirstPart, OfFix, OfList, OfOne}
 use Rattle.contraction.proofs.Views.{Formed, is-number, is-function, is-empty, is-pair, is-lump, is-other, by-form, form-at, size-some}

@@ -1,10 +1,10 @@
 -- The ways out of choosing a rule for the operators of two parts. Assumes nothing.
-use Prim.Native.Nat.{ℕ, _+_, _-_, _/_, _%_, _≤_, _<_}
+use Prim.Native.Nat.{ℕ, _+_, _-_, _/_, _<_}
 use mathlib.Core.Bool.{Bool, true, false, cond}
-use mathlib.Core.List.{List, [], _∷_}
+use mathlib.Core.List.{List}
 use mathlib.Core.Path.{_≡_, refl, sym, ap, _∙_, subst}
-use lib.Dec.{T, eqb, leb}
-use lib.ListN.{length, getD, drop}
+use lib.Dec.{T, leb}
+use lib.ListN.{getD, drop}
 use lib.Seq.{drop-drop}
 use native.Mathlib.Omega.{arith}
 use Rattle.calculus.specs.Trees.{Lang, ml, sc, Op2, apply, plus, minus, pair, Term, num, lam, op2, wrong, numbers}

@@ -1,19 +1,18 @@
 -- Terms by the number of their shape, and values by that of their form. Assumes nothing.
 use Prim.Native.Nat.{ℕ, _%_, _<_, _≤_}
-use mathlib.Core.Bool.{Bool, true, false, cond}
 use mathlib.Core.List.{List, [], _∷_}
 use mathlib.Core.Path.{_≡_, refl, sym, ap, _∙_, subst}
 use lib.Dec.{eqb}
 use lib.ListN.{length, getD}
 use borrow.Author.Tests.{ne-eqb}
 use native.Mathlib.Omega.{arith}
-use Rattle.calculus.specs.Trees.{Ty, N, L, list, _to_, Lang, ml, sc, Static, Test, isFun, isList, isNull, isNum, Op1, head, tail, fixpoint, empty, testing, Op2, apply, plus, minus, pair, Term, var, num, lam, op1, op2, if0, nil, wrong, ms, sm}
+use Rattle.calculus.specs.Trees.{Ty, N, L, list, _to_, Lang, ml, sc, Static, isFun, isList, isNull, isNum, Op1, head, tail, fixpoint, empty, testing, Op2, apply, plus, minus, pair, Term, var, num, lam, op1, op2, if0, nil, wrong, ms, sm}
 use Rattle.calculus.specs.Words.{word, by, put, putTy, size}
 use Rattle.calculus.specs.Kinds.{term}
-use Rattle.calculus.specs.Reduction.{Form, number, lambda, noItem, items, sealed, other, form}
-use Rattle.calculus.proofs.Views.{View, view, sized}
+use Rattle.calculus.specs.Reduction.{Form, number, lambda, other, form}
+use Rattle.calculus.proofs.Views.{view, sized}
 use Rattle.nodes.specs.Table.{shapeNumber, rowOf}
-use Rattle.writing.proofs.Trees.{headOf, head-is, shape-is}
+use Rattle.writing.proofs.Trees.{head-is, shape-is}
 use Rattle.contraction.specs.Forms.{formNumber, formBy, formAt}
 
 -- A term by its shape.

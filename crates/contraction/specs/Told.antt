@@ -1,10 +1,10 @@
 -- What a rule that was chosen writes, and that it tells what a node becomes.
-use Prim.Native.Nat.{ℕ, _+_, _*_, _-_, _≤_, _<_}
+use Prim.Native.Nat.{ℕ, _+_, _-_, _≤_}
 use mathlib.Core.Bool.{Bool, true, false, cond}
 use mathlib.Core.List.{List, [], _∷_, _++_}
 use mathlib.Core.Path.{_≡_}
 use lib.Dec.{eqb, leb}
-use lib.ListN.{length, take, drop}
+use lib.ListN.{take, drop}
 use Rattle.calculus.specs.Trees.{Ty, Lang, ml, sc, Op1, head, tail, Term}
 use Rattle.calculus.specs.Words.{word, by, put, words}
 use Rattle.calculus.specs.Reduction.{Became, becomes, raises, nothing, substitute, toML, toScheme}

@@ -5,9 +5,7 @@ use mathlib.Core.Path.{_≡_, sym, subst}
 use lib.ListN.{length, take, drop}
 use borrow.Rule.Slice.PartAt.{part-to-end}
 use native.Mathlib.Omega.{arith}
-use Rattle.calculus.specs.Trees.{Lang, Term}
-use Rattle.calculus.specs.Words.{put, words}
-use Rattle.calculus.specs.Reduction.{becomes, contract}
+use Rattle.calculus.specs.Words.{put}
 use Rattle.writing.specs.Wrote.{Wrote}
 use Rattle.contraction.specs.declared.rules.Rule.{Rule}
 use Rattle.contraction.specs.Told.{Tells, stretch}

@@ -1,7 +1,7 @@
 -- The ways out of a step, and the splice: the words before the node, what it becomes, and the words after it. Assumes nothing.
 use Prim.Native.Nat.{ℕ, _+_, _-_, _≤_}
 use mathlib.Core.Bool.{Bool, true, false}
-use mathlib.Core.List.{List, [], _∷_, _++_, append-nil}
+use mathlib.Core.List.{List, [], _++_, append-nil}
 use mathlib.Core.Path.{_≡_, refl, sym, ap, _∙_, subst}
 use lib.Dec.{T}
 use lib.ListN.{length, take, drop, length-append, length-drop}
@@ -33,7 +33,7 @@ use Rattle.reducer.specs.declared.steps.Move.the-variants.{Value, Raised
 use Rattle.reducer.specs.declared.steps.End.{End}
 use Rattle.reducer.specs.declared.steps.End.the-variants as end
 use Rattle.reducer.specs.Placed.{placed, Turns}
-use Rattle.reducer.specs.Moves.{endOf, Spliced, Changed, Moved, Steps}
+use Rattle.reducer.specs.Moves.{endOf, Spliced, Moved, Steps}
 
 -- The splice from the three pieces of the next term.
 module _ (source : List ℕ) (place : ℕ) (b b′ : List ℕ) (stood k : ℕ) (inside : place ≤ length source)
@@ -59,10 +59,10 @@ module _ (source : List ℕ) (place : ℕ) (b b′ : List ℕ) (stood k : ℕ) (
       let e : stood ≡ size n = stood-is ∙ span-tree (term m) n Q (drop place source) here in
       let before : take place source ≡ P = ap (take place) q ∙ take-at P (put n Q) place (sym h) in
       let after : drop (place + stood) source ≡ Q =
-          ap (λ (j : ℕ). drop (place + j) source) e ∙ sym (drop-drop (size n) place source) ∙ ap (drop (size n)) here ∙ drop-tree (term m) n Q in
+      ap (λ (j : ℕ). drop (place + j) source) e ∙ sym (drop-drop (size n) place source) ∙ ap (drop (size n)) here ∙ drop-tree (term m) n Q in
       let piece = next .piece .became (λ z. omega (arith, z)) m n Q here u g in
       let w : Wrote b 0 (P ++ put u Q) k b′ =
-          wrote-as (ap (λ (v : List ℕ). P ++ v) (sym (put-append u [] Q))) (then (wrote-as before front) (then piece (wrote-as after back))) in
+      wrote-as (ap (λ (v : List ℕ). P ++ v) (sym (put-append u [] Q))) (then (wrote-as before front) (then piece (wrote-as after back))) in
       let l = length-append P (put u Q) in
       let r = length-append P (put n Q) in
       (e, omega (arith, e, w .place, l, tree-length (term m) u Q, ap length q, r, tree-length (term m) n Q), w)

@@ -1,16 +1,16 @@
 -- The ways out of the walk that finds whose turn it is. Assumes nothing.
 use Prim.Native.Nat.{ℕ, _+_, _-_, _%_, _≤_, _<_}
 use mathlib.Core.Bool.{Bool, true, false, cond}
-use mathlib.Core.List.{List, [], _∷_, _++_}
+use mathlib.Core.List.{List, []}
 use mathlib.Core.Path.{_≡_, refl, sym, ap, _∙_, subst}
-use lib.Dec.{T, eqb, ltb}
+use lib.Dec.{T, eqb}
 use lib.ListN.{length, getD, take, drop, length-append}
 use borrow.Rule.Slice.PartAt.{part-to-end}
 use native.Mathlib.Omega.{arith}
-use Rattle.calculus.specs.Trees.{Ty, N, L, list, _to_, Lang, ml, sc, Static, Op1, Op2, apply, plus, minus, pair, Term, var, num, lam, op1, op2, if0, nil, wrong, ms, sm}
+use Rattle.calculus.specs.Trees.{Ty, N, L, list, _to_, Lang, ml, sc, Op2, apply, plus, minus, pair, Term, var, num, lam, op2, nil, wrong, ms, sm}
 use Rattle.calculus.specs.Words.{put, putTy, words, size, sizeTy}
 use Rattle.calculus.specs.Kinds.{type, term}
-use Rattle.calculus.specs.Reduction.{isLump, isPair, form, Frame, under, first, second, tested, intoML, intoScheme, plug, Context, here, within, done, into, own, turn}
+use Rattle.calculus.specs.Reduction.{isLump, isPair, form, Frame, under, first, second, tested, intoML, intoScheme, Context, here, within, done, into, own, turn}
 use Rattle.calculus.specs.Reduction as calculus
 use Rattle.calculus.proofs.Sizes.{tree-length, drop-tree}
 use Rattle.calculus.proofs.Splices.{wordsBefore}

@@ -1,10 +1,10 @@
 -- How many sorts a number in base 4 stands for: its digits up to the first 0. Assumes nothing.
 use Prim.Native.Nat.{ℕ, suc, _/_, _%_, _<_}
-use mathlib.Core.Path.{_≡_, refl, sym, ap, _∙_}
+use mathlib.Core.Path.{_≡_, ap}
 use lib.ListN.{length}
 use native.Mathlib.Omega.{arith}
 use Rattle.nodes.specs.Walks.{sortsOf}
-use Rattle.nodes.proofs.Dues.{none-due, FirstDue, first-due}
+use Rattle.nodes.proofs.Dues.{none-due, first-due}
 
 pub none : (d : ℕ) → d % 4 ≡ 0 → 0 ≡ length (sortsOf d)
 none d h = rw (none-due d h)

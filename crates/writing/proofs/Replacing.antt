@@ -1,17 +1,17 @@
 -- Substitution at a node, by its first word: a variable's word that is the one replaced, or a word that stays. Assumes nothing.
-use Prim.Native.Nat.{ℕ, suc, _+_, _%_}
-use mathlib.Core.Bool.{Bool, true, false, cond}
-use mathlib.Core.List.{List, [], _∷_}
+use Prim.Native.Nat.{ℕ, suc, _%_}
+use mathlib.Core.Bool.{cond}
+use mathlib.Core.List.{List, _∷_}
 use mathlib.Core.Path.{_≡_, refl, sym, ap, _∙_}
 use lib.Dec.{eqb}
 use borrow.Author.Tests.{eq-eqb, ne-eqb}
 use native.Mathlib.Omega.{arith}
-use Rattle.calculus.specs.Trees.{Ty, N, L, list, _to_, Lang, ml, sc, Test, isFun, isList, isNull, isNum, Op1, head, tail, fixpoint, empty, testing, Op2, apply, plus, minus, pair, Term, var, num, lam, op1, op2, if0, nil, wrong, ms, sm}
+use Rattle.calculus.specs.Trees.{Ty, N, L, list, _to_, Lang, ml, sc, isFun, isList, isNull, isNum, head, tail, fixpoint, empty, testing, apply, plus, minus, pair, Term, var, num, lam, op1, op2, if0, nil, wrong, ms, sm}
 use Rattle.calculus.specs.Words.{word, by, put, putTy, size}
 use Rattle.calculus.specs.Kinds.{Sort, type, term, Tree, putTree, putTrees}
 use Rattle.calculus.specs.Reduction.{substitute}
 use Rattle.calculus.proofs.Sizes.{sizeTree}
-use Rattle.calculus.proofs.Views.{View, seen, view-type, view-ml, view-sc, view}
+use Rattle.calculus.proofs.Views.{seen, view-type, view-ml, view-sc, view}
 use Rattle.calculus.proofs.Substitution.{substitute-word}
 use Rattle.nodes.specs.Table.{shapeNumber, rowOf}
 use Rattle.writing.specs.Substituted.{inTree, inTrees}

@@ -1,5 +1,5 @@
 -- Laws of words put into a buffer: one after the other, and none past the end. Assumes nothing.
-use Prim.Native.Nat.{ℕ, zero, suc, _+_, _-_, _≤_, _<_, min}
+use Prim.Native.Nat.{ℕ, suc, _+_, _-_, _≤_, _<_, min}
 use mathlib.Core.List.{List, [], _∷_, _++_}
 use mathlib.Core.Path.{_≡_, refl, sym, ap, _∙_, subst}
 use native.Mathlib.Numerals.{add-one}
@@ -50,7 +50,3 @@ wrote-as {b} {b₁} {xs} {ys} {n} {k} e p = subst (λ (l : List ℕ). Wrote b n 
 
 pub wrote-none : (b : List ℕ) (n : ℕ) → Wrote b n [] n b
 wrote-none b n = record { place = omega arith; stored = refl }
-
--- A buffer's length stays.
-pub wrote-length : {b b₁ xs : List ℕ} {n k : ℕ} → Wrote b n xs k b₁ → length b₁ ≡ length b
-wrote-length {b} {b₁} {xs} {n} w = ap length (w .stored) ∙ length-sets b n xs

@@ -1,7 +1,7 @@
 -- The ways out of substitution on words: nothing due, no words, the variable's word, another word. Assumes nothing.
-use Prim.Native.Nat.{ℕ, zero, suc, _+_, _*_, _-_, _%_, _≤_, _<_}
+use Prim.Native.Nat.{ℕ, suc, _+_, _-_, _%_}
 use mathlib.Core.Bool.{Bool, true, false, cond}
-use mathlib.Core.List.{List, [], _∷_, _++_, append-assoc}
+use mathlib.Core.List.{List, [], _∷_, _++_}
 use mathlib.Core.Path.{_≡_, refl, sym, ap, _∙_}
 use lib.Dec.{eqb}
 use lib.ListN.{length, getD, take, drop}
@@ -12,7 +12,7 @@ use Rattle.calculus.specs.Words.{word, by, put, words}
 use Rattle.calculus.specs.Scope.{partCount}
 use Rattle.calculus.specs.Kinds.{Sort, Tree, Trees, putTree, putTrees}
 use Rattle.calculus.proofs.Sizes.{sizeTree, sizeTrees, tree-append, tree-length, drop-tree, put-append}
-use Rattle.calculus.proofs.Views.{View, view, sized}
+use Rattle.calculus.proofs.Views.{view, sized}
 use Rattle.nodes.specs.Table.{shapeNumber, rowOf}
 use Rattle.writing.specs.Wrote.{Wrote}
 use Rattle.writing.specs.Substituted.{inTree, inTrees, deepened, Substituted}

@@ -1,15 +1,15 @@
 -- Trees by the code's table: the row of a tree's first word, its parts and its shape. Assumes nothing.
 use Prim.Native.Nat.{ℕ, _%_}
-use mathlib.Core.List.{List, []}
+use mathlib.Core.List.{List}
 use mathlib.Core.Option.{Option}
-use mathlib.Core.Path.{_≡_, refl, sym, ap, _∙_}
+use mathlib.Core.Path.{_≡_, refl, ap, _∙_}
 use lib.ListN.{length, getD}
-use Rattle.calculus.specs.Trees.{Ty, N, L, list, _to_, Lang, ml, sc, Test, isFun, isList, isNull, isNum, Op1, head, tail, fixpoint, empty, testing, Op2, apply, plus, minus, pair, Term, var, num, lam, op1, op2, if0, nil, wrong, ms, sm}
+use Rattle.calculus.specs.Trees.{Ty, N, L, list, _to_, ml, sc, isFun, isList, isNull, isNum, head, tail, fixpoint, empty, testing, apply, plus, minus, pair, var, num, lam, op1, op2, if0, nil, wrong, ms, sm}
 use Rattle.calculus.specs.Words.{word}
 use Rattle.calculus.specs.Verdicts.{found}
 use Rattle.calculus.specs.Scope.{partCount}
-use Rattle.calculus.specs.Kinds.{Sort, type, term, Tree, putTree, Row, table, rowIn, sortOf, sortOfKind}
-use Rattle.calculus.proofs.Views.{View, seen, view-type, view-ml, view-sc, view, kind-of, sort-of}
+use Rattle.calculus.specs.Kinds.{Sort, type, term, Tree, putTree, Row, table, rowIn, sortOf}
+use Rattle.calculus.proofs.Views.{seen, view-type, view-ml, view-sc, view, kind-of, sort-of}
 use Rattle.nodes.specs.Table.{shapeNumber, entry, noEntry, rowOf}
 
 -- A tree's first word.

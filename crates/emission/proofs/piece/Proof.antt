@@ -1,7 +1,6 @@
 -- `emission::piece` meets its contract. Assumes nothing.
 use borrow.Author.Needs.{needs}
-use mathlib.Core.Path.{_≡_, refl, sym, subst}
-use Prim.Native.Nat.{ℕ}
+use mathlib.Core.Path.{refl}
 use lib.ListN.{length}
 use native.Mathlib.Omega.{arith}
 use Rattle.nodes.specs.Table.{rowOf, kinds}
@@ -10,11 +9,6 @@ use Rattle.emission.proofs.Emitting.{emitted-copy, emitted-node}
 use borrow.Author.Needs.{needs}
 use Rattle.emission.proofs.piece.Statement.{statement}
 use Rattle.emission.proofs.piece.Tie as tie
-use Rattle.emission.proofs.piece.Reads as reads
-use Rattle.emission.proofs.piece.Lts as lts
-use Rattle.contraction.proofs.choices.chosen.Reads as chosen-reads
-use Rattle.contraction.proofs.pieces.contract.Reads as contract-reads
-use Rattle.writing.proofs.copy.Reads as copy-reads
 
 mul-copy : tie.Need-mul-copy
 mul-copy c = search needs

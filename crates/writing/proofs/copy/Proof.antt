@@ -1,16 +1,13 @@
 -- `writing::copy` meets its contract: before each turn the first i words are stored. Assumes nothing.
 use borrow.Author.Needs.{needs}
-use mathlib.Core.Path.{_≡_, refl, sym, ap, _∙_}
-use Prim.Native.Nat.{ℕ, _≤_, _-_, min}
+use mathlib.Core.Path.{_≡_, refl, ap, _∙_}
+use Prim.Native.Nat.{_≤_, _-_, min}
 use native.Mathlib.Omega.{arith}
 use lib.ListN.{length, take, length-set}
 use lib.Seq.{sets, length-sets}
 use Rattle.writing.proofs.Stores.{sets-snoc, sets-cut}
 use Rattle.writing.proofs.copy.Statement.{statement}
 use Rattle.writing.proofs.copy.Tie as tie
-use Rattle.writing.proofs.copy.Reads as reads
-use Rattle.writing.proofs.copy.Lts as lts
-use Rattle.writing.proofs.fitting.Reads as fitting-reads
 
 abbrev Inv-loop : tie.InvT-loop
 Inv-loop source target₀ n m i₀ target i = (i ≤ m) × (m ≡ min (length source) (length target₀ - n)) × (target ≡ sets target₀ n (take i source))

@@ -7,8 +7,6 @@ use lib.Seq.{set-out}
 use borrow.Author.Needs.{needs}
 use Rattle.writing.proofs.put.Statement.{statement}
 use Rattle.writing.proofs.put.Tie as tie
-use Rattle.writing.proofs.put.Reads as reads
-use Rattle.writing.proofs.put.Lts as lts
 
 met : (c : tie.Joined1) → c .if1 .target ≡ set (c .before .args .target .now) (c .before .args .n) (c .before .args .w)
 met c = ⊎-elim (λ w. w .1) (λ w. w .1 ∙ sym (set-out _ _ _ (w .0 .left))) (c .if1 .came)

@@ -1,7 +1,7 @@
 -- `contraction::binary::of_apply` meets its contract. Assumes nothing.
 use borrow.Author.Needs.{needs}
 use mathlib.Core.List.{List}
-use mathlib.Core.Path.{_≡_, sym, ap, _∙_}
+use mathlib.Core.Path.{ap, _∙_}
 use Prim.Native.Nat.{ℕ, _+_}
 use lib.ListN.{length}
 use borrow.Rule.Slice.PartAt.{part-to-end}
@@ -13,10 +13,6 @@ use Rattle.contraction.proofs.TwoPart.{known-apply, apply-other, apply-
 use borrow.Author.Needs.{needs}
 use Rattle.contraction.proofs.binary.of_apply.Statement.{statement}
 use Rattle.contraction.proofs.binary.of_apply.Tie as tie
-use Rattle.contraction.proofs.binary.of_apply.Reads as reads
-use Rattle.contraction.proofs.binary.of_apply.Lts as lts
-use Rattle.contraction.proofs.rules.amiss.Reads as amiss-reads
-use Rattle.writing.proofs.spans.skip.Reads as skip-reads
 
 amiss-requires : tie.Need-amiss-requires
 amiss-requires c κs = search needs

@@ -1,10 +1,8 @@
 -- `contraction::binary::of_if` meets its contract. Assumes nothing.
 use borrow.Author.Needs.{needs}
-use borrow.Author.Tests.{not-true, not-false}
 use mathlib.Core.List.{List}
-use mathlib.Core.Path.{_≡_, refl, sym, ap, _∙_}
+use mathlib.Core.Path.{_≡_, ap, _∙_}
 use Prim.Native.Nat.{ℕ, _+_, _-_, _/_, _≤_}
-use lib.Dec.{leb, eqb}
 use lib.ListN.{length, drop, getD}
 use borrow.Rule.Slice.PartAt.{part-to-end}
 use native.Mathlib.Omega.{arith}
@@ -15,11 +13,6 @@ use Rattle.contraction.proofs.Choice.{if-scheme, if-ml, if-zero, if-mor
 use borrow.Author.Needs.{needs}
 use Rattle.contraction.proofs.binary.of_if.Statement.{statement}
 use Rattle.contraction.proofs.binary.of_if.Tie as tie
-use Rattle.contraction.proofs.binary.of_if.Reads as reads
-use Rattle.contraction.proofs.binary.of_if.Lts as lts
-use Rattle.contraction.proofs.forms.form_at.Reads as form-at-reads
-use Rattle.contraction.proofs.numbers.number_at.Reads as number-at-reads
-use Rattle.writing.proofs.spans.skip.Reads as skip-reads
 
 -- Where the parts start and end.
 module _ (c : tie.After-form-at) where

@@ -1,34 +1,21 @@
 -- `contraction::binary::of_two` meets its contract. Assumes nothing.
 use borrow.Author.Needs.{needs}
-use borrow.Author.Tests.{not-true, not-false}
 use mathlib.Core.List.{List}
-use mathlib.Core.Path.{_≡_, refl, sym, ap, _∙_}
+use mathlib.Core.Path.{_≡_, ap, _∙_}
 use Prim.Native.Nat.{ℕ, _+_, _-_, _/_, _≤_}
-use lib.Dec.{leb, eqb}
+use lib.Dec.{leb}
 use lib.ListN.{length, drop, getD}
 use borrow.Rule.Slice.PartAt.{part-to-end}
 use native.Mathlib.Omega.{arith}
 use Rattle.nodes.proofs.Ways.{part-length}
 use Rattle.writing.specs.Spans.{span}
 use Rattle.contraction.specs.Forms.{formAt}
-use Rattle.contraction.specs.Told.{Placed}
 use Rattle.contraction.specs.Chosen.{TwoParts}
 use Rattle.contraction.proofs.Looks.{amiss-placed, number-placed, sum-placed}
 use Rattle.contraction.proofs.TwoPart.{two-none, two-apply, two-cons, two-no-number, two-no-second, two-plus, two-minus}
 use borrow.Author.Needs.{needs}
 use Rattle.contraction.proofs.binary.of_two.Statement.{statement}
 use Rattle.contraction.proofs.binary.of_two.Tie as tie
-use Rattle.contraction.proofs.binary.of_two.Reads as reads
-use Rattle.contraction.proofs.binary.of_two.Lts as lts
-use Rattle.contraction.proofs.binary.difference.Reads as difference-reads
-use Rattle.contraction.proofs.binary.of_apply.Reads as of-apply-reads
-use Rattle.contraction.proofs.binary.operator.Reads as operator-reads
-use Rattle.contraction.proofs.binary.sum.Reads as sum-reads
-use Rattle.contraction.proofs.forms.form_at.Reads as form-at-reads
-use Rattle.contraction.proofs.numbers.number_at.Reads as number-at-reads
-use Rattle.contraction.proofs.rules.amiss.Reads as amiss-reads
-use Rattle.contraction.proofs.rules.numbered.Reads as numbered-reads
-use Rattle.writing.proofs.spans.skip.Reads as skip-reads
 
 module _ (c : tie.After-skip) where
   middle-is : 1 + c .skip .result ≡ 1 + span (drop 1 (c .before .before .before .args .words .now)) 1

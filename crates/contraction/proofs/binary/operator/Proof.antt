@@ -1,10 +1,7 @@
 -- `contraction::binary::operator` meets its contract. Assumes nothing.
-use borrow.Author.Needs.{needs}
 use borrow.Author.Tests.{eq-eqb, ne-eqb}
 use Rattle.contraction.proofs.binary.operator.Statement.{statement}
 use Rattle.contraction.proofs.binary.operator.Tie as tie
-use Rattle.contraction.proofs.binary.operator.Reads as reads
-use Rattle.contraction.proofs.binary.operator.Lts as lts
 
 returns : tie.Need-returns
 returns c = let w = c .before .args .w in rw (eq-eqb (w) 19 (c .if1 .taken))

@@ -7,9 +7,6 @@ use native.Mathlib.Omega.{arith}
 use borrow.Author.Needs.{needs}
 use Rattle.contraction.proofs.binary.sum.Statement.{statement}
 use Rattle.contraction.proofs.binary.sum.Tie as tie
-use Rattle.contraction.proofs.binary.sum.Reads as reads
-use Rattle.contraction.proofs.binary.sum.Lts as lts
-use Rattle.contraction.proofs.rules.numbered.Reads as numbered-reads
 
 add-if1 : tie.Need-add-if1
 add-if1 c = search needs

@@ -1,26 +1,12 @@
 -- `contraction::choices::chosen` meets its contract: each way out is one law of Dispatch. Assumes nothing.
 use borrow.Author.Needs.{needs}
-use mathlib.Core.List.{List}
-use mathlib.Core.Path.{_≡_, refl, sym, ap, _∙_, subst}
-use Prim.Native.Nat.{ℕ, _+_, _-_, _/_, _≤_}
-use lib.Dec.{leb, eqb}
-use lib.ListN.{length, drop, getD}
-use lib.Seq.{getD-drop}
-use borrow.Rule.Slice.PartAt.{part-to-end}
+use mathlib.Core.Path.{ap}
+use Prim.Native.Nat.{_-_}
 use native.Mathlib.Omega.{arith}
-use Rattle.nodes.proofs.Ways.{part-length}
-use Rattle.writing.specs.Spans.{span}
 use Rattle.contraction.proofs.Dispatch.{node-none, node-wrong, node-one, node-two, node-if, node-boundary, node-other}
 use borrow.Author.Needs.{needs}
 use Rattle.contraction.proofs.choices.chosen.Statement.{statement}
 use Rattle.contraction.proofs.choices.chosen.Tie as tie
-use Rattle.contraction.proofs.choices.chosen.Reads as reads
-use Rattle.contraction.proofs.choices.chosen.Lts as lts
-use Rattle.contraction.proofs.binary.of_if.Reads as of-if-reads
-use Rattle.contraction.proofs.binary.of_two.Reads as of-two-reads
-use Rattle.contraction.proofs.conversions.of_boundary.Reads as of-boundary-reads
-use Rattle.contraction.proofs.unary.of_one.Reads as of-one-reads
-use Rattle.nodes.proofs.kinds.row_at.Reads as row-at-reads
 
 returns : tie.Need-returns
 returns c = (tt, node-none _ (c .if1 .taken))

@@ -1,14 +1,11 @@
 -- `contraction::conversions::at_function` meets its contract. Assumes nothing.
 use borrow.Author.Needs.{needs}
-use borrow.Author.Tests.{not-true, not-false}
 use mathlib.Core.List.{List}
-use mathlib.Core.Path.{_≡_, refl, sym, ap, _∙_}
-use Prim.Native.Nat.{ℕ, _+_, _-_, _/_, _≤_}
-use lib.Dec.{leb, eqb}
-use lib.ListN.{length, drop, getD}
+use mathlib.Core.Path.{_≡_, ap, _∙_}
+use Prim.Native.Nat.{ℕ, _+_, _-_}
+use lib.ListN.{length, drop}
 use borrow.Rule.Slice.PartAt.{part-to-end}
 use native.Mathlib.Omega.{arith}
-use Rattle.nodes.proofs.Ways.{part-length}
 use Rattle.writing.specs.Spans.{span}
 use Rattle.contraction.proofs.Looks.{refused-placed}
 use Rattle.contraction.proofs.Crossing.{known-function}
@@ -16,10 +13,6 @@ use Rattle.contraction.proofs.CrossingFunctions.{function-other, functi
 use borrow.Author.Needs.{needs}
 use Rattle.contraction.proofs.conversions.at_function.Statement.{statement}
 use Rattle.contraction.proofs.conversions.at_function.Tie as tie
-use Rattle.contraction.proofs.conversions.at_function.Reads as reads
-use Rattle.contraction.proofs.conversions.at_function.Lts as lts
-use Rattle.contraction.proofs.conversions.refused.Reads as refused-reads
-use Rattle.writing.proofs.spans.skip.Reads as skip-reads
 
 -- Where the second type starts.
 module _ (c : tie.After-skip) where

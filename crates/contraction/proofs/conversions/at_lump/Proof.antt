@@ -1,21 +1,12 @@
 -- `contraction::conversions::at_lump` meets its contract. Assumes nothing.
 use borrow.Author.Needs.{needs}
 use borrow.Author.Tests.{not-true, not-false}
-use mathlib.Core.List.{List}
-use mathlib.Core.Path.{_≡_, refl, sym, ap, _∙_}
-use Prim.Native.Nat.{ℕ, _+_, _-_, _/_, _≤_}
-use lib.Dec.{leb, eqb}
-use lib.ListN.{length, drop, getD}
-use borrow.Rule.Slice.PartAt.{part-to-end}
+use Prim.Native.Nat.{_-_}
 use native.Mathlib.Omega.{arith}
-use Rattle.nodes.proofs.Ways.{part-length}
-use Rattle.writing.specs.Spans.{span}
 use Rattle.contraction.proofs.Crossing.{known-type, lump-ml, lump-other, lump-absurd, lump-scheme}
 use borrow.Author.Needs.{needs}
 use Rattle.contraction.proofs.conversions.at_lump.Statement.{statement}
 use Rattle.contraction.proofs.conversions.at_lump.Tie as tie
-use Rattle.contraction.proofs.conversions.at_lump.Reads as reads
-use Rattle.contraction.proofs.conversions.at_lump.Lts as lts
 
 returns : tie.Need-returns
 returns c = (tt, known-type (not-true _ (c .if1 .taken)) (lump-ml _ _ _ _ (c .before .pre .1)))

@@ -1,25 +1,16 @@
 -- `contraction::conversions::at_number` meets its contract. Assumes nothing.
 use borrow.Author.Needs.{needs}
-use borrow.Author.Tests.{not-true, not-false}
 use mathlib.Core.List.{List}
-use mathlib.Core.Path.{_≡_, refl, sym, ap, _∙_}
-use Prim.Native.Nat.{ℕ, _+_, _-_, _/_, _≤_}
-use lib.Dec.{leb, eqb}
-use lib.ListN.{length, drop, getD}
+use mathlib.Core.Path.{ap, _∙_}
+use Prim.Native.Nat.{ℕ, _-_, _/_}
+use lib.ListN.{length, getD}
 use borrow.Rule.Slice.PartAt.{part-to-end}
 use native.Mathlib.Omega.{arith}
-use Rattle.nodes.proofs.Ways.{part-length}
-use Rattle.writing.specs.Spans.{span}
 use Rattle.contraction.proofs.Looks.{refused-placed, number-placed}
 use Rattle.contraction.proofs.Crossing.{number-other, number-number}
 use borrow.Author.Needs.{needs}
 use Rattle.contraction.proofs.conversions.at_number.Statement.{statement}
 use Rattle.contraction.proofs.conversions.at_number.Tie as tie
-use Rattle.contraction.proofs.conversions.at_number.Reads as reads
-use Rattle.contraction.proofs.conversions.at_number.Lts as lts
-use Rattle.contraction.proofs.conversions.refused.Reads as refused-reads
-use Rattle.contraction.proofs.numbers.number_at.Reads as number-at-reads
-use Rattle.contraction.proofs.rules.numbered.Reads as numbered-reads
 
 refused-requires : tie.Need-refused-requires
 refused-requires c κs = search needs

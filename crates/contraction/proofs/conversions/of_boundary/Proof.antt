@@ -1,9 +1,8 @@
 -- `contraction::conversions::of_boundary` meets its contract. Assumes nothing.
 use borrow.Author.Needs.{needs}
 use mathlib.Core.List.{List}
-use mathlib.Core.Path.{_≡_, refl, sym, ap, _∙_, subst}
-use Prim.Native.Nat.{ℕ, _+_, _-_, _/_, _≤_}
-use lib.Dec.{leb, eqb}
+use mathlib.Core.Path.{_≡_, sym, ap, _∙_}
+use Prim.Native.Nat.{ℕ, _+_, _-_, _≤_}
 use lib.ListN.{length, drop, getD}
 use lib.Seq.{getD-drop}
 use borrow.Rule.Slice.PartAt.{part-to-end}
@@ -16,14 +15,6 @@ use Rattle.contraction.proofs.CrossingFunctions.{at-N, at-L, at-list, a
 use borrow.Author.Needs.{needs}
 use Rattle.contraction.proofs.conversions.of_boundary.Statement.{statement}
 use Rattle.contraction.proofs.conversions.of_boundary.Tie as tie
-use Rattle.contraction.proofs.conversions.of_boundary.Reads as reads
-use Rattle.contraction.proofs.conversions.of_boundary.Lts as lts
-use Rattle.contraction.proofs.conversions.at_function.Reads as at-function-reads
-use Rattle.contraction.proofs.conversions.at_list.Reads as at-list-reads
-use Rattle.contraction.proofs.conversions.at_lump.Reads as at-lump-reads
-use Rattle.contraction.proofs.conversions.at_number.Reads as at-number-reads
-use Rattle.contraction.proofs.forms.form_at.Reads as form-at-reads
-use Rattle.writing.proofs.spans.skip.Reads as skip-reads
 
 -- Where the value starts, and where it ends.
 module _ (c : tie.After-skip) where

@@ -3,8 +3,6 @@ use borrow.Author.Needs.{needs}
 use borrow.Author.Needs.{needs}
 use Rattle.contraction.proofs.conversions.refused.Statement.{statement}
 use Rattle.contraction.proofs.conversions.refused.Tie as tie
-use Rattle.contraction.proofs.conversions.refused.Reads as reads
-use Rattle.contraction.proofs.conversions.refused.Lts as lts
 
 returns : tie.Need-returns
 returns c = rw (c .if1 .taken)

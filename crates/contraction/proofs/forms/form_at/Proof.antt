@@ -1,8 +1,8 @@
 -- `contraction::forms::form_at` meets its contract. Assumes nothing.
 use borrow.Author.Needs.{needs}
 use borrow.Author.Tests.{eq-eqb, ne-eqb}
-use mathlib.Core.Path.{_≡_, refl, sym, ap, _∙_}
-use lib.ListN.{length, getD, List·getD-eq-default}
+use mathlib.Core.Path.{_≡_, ap}
+use lib.ListN.{getD, List·getD-eq-default}
 use native.Mathlib.Omega.{arith}
 use Prim.Native.Nat.{ℕ}
 use Rattle.contraction.specs.Forms.{formBy, formAt}
@@ -10,9 +10,6 @@ use Rattle.contraction.proofs.Views.{form-is, form-none, form-rest}
 use borrow.Author.Needs.{needs}
 use Rattle.contraction.proofs.forms.form_at.Statement.{statement}
 use Rattle.contraction.proofs.forms.form_at.Tie as tie
-use Rattle.contraction.proofs.forms.form_at.Reads as reads
-use Rattle.contraction.proofs.forms.form_at.Lts as lts
-use Rattle.nodes.proofs.kinds.row_at.Reads as row-at-reads
 
 -- The first word's shape is none of the three that tell a form.
 module _ (c : tie.Else4) where

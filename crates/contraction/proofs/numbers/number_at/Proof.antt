@@ -1,14 +1,10 @@
 -- `contraction::numbers::number_at` meets its contract. Assumes nothing.
 use borrow.Author.Needs.{needs}
-use mathlib.Core.Path.{_≡_, refl, sym, ap, _∙_}
-use lib.ListN.{length, getD, List·getD-eq-default}
+use lib.ListN.{getD, List·getD-eq-default}
 use native.Mathlib.Omega.{arith}
 use borrow.Author.Needs.{needs}
 use Rattle.contraction.proofs.numbers.number_at.Statement.{statement}
 use Rattle.contraction.proofs.numbers.number_at.Tie as tie
-use Rattle.contraction.proofs.numbers.number_at.Reads as reads
-use Rattle.contraction.proofs.numbers.number_at.Lts as lts
-use Rattle.contraction.proofs.numbers.operand.Reads as operand-reads
 
 returns : tie.Need-returns
 returns c = (rw (List·getD-eq-default (c .before .before .args .words .now) 0 {n = 0} (omega arith)), omega arith)

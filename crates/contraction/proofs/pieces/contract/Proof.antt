@@ -1,32 +1,15 @@
 -- `contraction::pieces::contract` meets its contract. Assumes nothing.
 use borrow.Author.Needs.{needs}
-use mathlib.Core.List.{List}
-use mathlib.Core.Path.{_≡_, refl, sym, ap, _∙_, subst}
-use Prim.Native.Nat.{ℕ, _+_, _-_, _/_, _≤_}
-use lib.Dec.{leb, eqb}
-use lib.ListN.{length, drop, getD}
-use lib.Seq.{getD-drop}
-use borrow.Rule.Slice.PartAt.{part-to-end}
+use mathlib.Core.Path.{subst}
+use Prim.Native.Nat.{_-_}
+use lib.ListN.{length}
 use native.Mathlib.Omega.{arith}
-use Rattle.nodes.proofs.Ways.{part-length}
-use Rattle.writing.specs.Spans.{span}
-use Rattle.writing.proofs.Stores.{then}
 use Rattle.contraction.proofs.Dispatch.{stretch-length}
 use Rattle.contraction.specs.Told.{Placed}
 use Rattle.contraction.proofs.Dispatch.{words-write, nothing-written, known-rule}
 use borrow.Author.Needs.{needs}
 use Rattle.contraction.proofs.pieces.contract.Statement.{statement}
 use Rattle.contraction.proofs.pieces.contract.Tie as tie
-use Rattle.contraction.proofs.pieces.contract.Reads as reads
-use Rattle.contraction.proofs.pieces.contract.Lts as lts
-use Rattle.contraction.proofs.numbers.put_number.Reads as put-number-reads
-use Rattle.contraction.proofs.pieces.into_ml.Reads as into-ml-reads
-use Rattle.contraction.proofs.pieces.into_scheme.Reads as into-scheme-reads
-use Rattle.contraction.proofs.pieces.items.Reads as items-reads
-use Rattle.contraction.proofs.pieces.lead.Reads as lead-reads
-use Rattle.contraction.proofs.pieces.lead_two.Reads as lead-two-reads
-use Rattle.contraction.proofs.pieces.replaced.Reads as replaced-reads
-use Rattle.writing.proofs.copy.Reads as copy-reads
 
 enum-told : tie.Need-enum-told
 enum-told c = search needs

@@ -1,24 +1,12 @@
 -- `contraction::pieces::into_ml` meets its contract. Assumes nothing.
 use borrow.Author.Needs.{needs}
-use mathlib.Core.List.{List}
-use mathlib.Core.Path.{_≡_, refl, sym, ap, _∙_, subst}
-use Prim.Native.Nat.{ℕ, _+_, _-_, _/_, _≤_}
-use lib.Dec.{leb, eqb}
-use lib.ListN.{length, drop, getD}
-use lib.Seq.{getD-drop}
-use borrow.Rule.Slice.PartAt.{part-to-end}
+use Prim.Native.Nat.{_-_}
+use lib.ListN.{length}
 use native.Mathlib.Omega.{arith}
-use Rattle.nodes.proofs.Ways.{part-length}
-use Rattle.writing.specs.Spans.{span}
 use Rattle.writing.proofs.Stores.{then}
-use Rattle.contraction.proofs.Dispatch.{stretch-length}
 use borrow.Author.Needs.{needs}
 use Rattle.contraction.proofs.pieces.into_ml.Statement.{statement}
 use Rattle.contraction.proofs.pieces.into_ml.Tie as tie
-use Rattle.contraction.proofs.pieces.into_ml.Reads as reads
-use Rattle.contraction.proofs.pieces.into_ml.Lts as lts
-use Rattle.contraction.proofs.pieces.lead.Reads as lead-reads
-use Rattle.writing.proofs.put.Reads as put-reads
 
 lead-requires : tie.Need-lead-requires
 lead-requires c κs =

@@ -1,24 +1,13 @@
 -- `contraction::pieces::lead` meets its contract. Assumes nothing.
 use borrow.Author.Needs.{needs}
-use mathlib.Core.List.{List}
-use mathlib.Core.Path.{_≡_, refl, sym, ap, _∙_, subst}
-use Prim.Native.Nat.{ℕ, _+_, _-_, _/_, _≤_}
-use lib.Dec.{leb, eqb}
-use lib.ListN.{length, drop, getD}
-use lib.Seq.{getD-drop}
-use borrow.Rule.Slice.PartAt.{part-to-end}
+use Prim.Native.Nat.{_-_}
+use lib.ListN.{length}
 use native.Mathlib.Omega.{arith}
-use Rattle.nodes.proofs.Ways.{part-length}
-use Rattle.writing.specs.Spans.{span}
 use Rattle.writing.proofs.Stores.{then}
 use Rattle.contraction.proofs.Dispatch.{stretch-length}
 use borrow.Author.Needs.{needs}
 use Rattle.contraction.proofs.pieces.lead.Statement.{statement}
 use Rattle.contraction.proofs.pieces.lead.Tie as tie
-use Rattle.contraction.proofs.pieces.lead.Reads as reads
-use Rattle.contraction.proofs.pieces.lead.Lts as lts
-use Rattle.writing.proofs.copy.Reads as copy-reads
-use Rattle.writing.proofs.put.Reads as put-reads
 
 put-requires : tie.Need-put-requires
 put-requires c κs = search needs

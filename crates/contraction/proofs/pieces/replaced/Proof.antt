@@ -1,24 +1,15 @@
 -- `contraction::pieces::replaced` meets its contract. Assumes nothing.
 use borrow.Author.Needs.{needs}
-use mathlib.Core.List.{List}
-use mathlib.Core.Path.{_≡_, refl, sym, ap, _∙_, subst}
-use Prim.Native.Nat.{ℕ, _+_, _-_, _/_, _≤_}
-use lib.Dec.{leb, eqb}
-use lib.ListN.{length, drop, getD}
-use lib.Seq.{getD-drop}
-use borrow.Rule.Slice.PartAt.{part-to-end}
+use mathlib.Core.Path.{subst}
+use Prim.Native.Nat.{_-_}
+use lib.ListN.{length}
 use native.Mathlib.Omega.{arith}
 use Rattle.nodes.proofs.Ways.{part-length}
-use Rattle.writing.specs.Spans.{span}
-use Rattle.writing.proofs.Stores.{then}
 use Rattle.contraction.proofs.Dispatch.{stretch-length}
 use Rattle.contraction.proofs.Dispatch.{replaced-writes}
 use borrow.Author.Needs.{needs}
 use Rattle.contraction.proofs.pieces.replaced.Statement.{statement}
 use Rattle.contraction.proofs.pieces.replaced.Tie as tie
-use Rattle.contraction.proofs.pieces.replaced.Reads as reads
-use Rattle.contraction.proofs.pieces.replaced.Lts as lts
-use Rattle.writing.proofs.substitution.substitute.Reads as substitute-reads
 
 mul-substitute : tie.Need-mul-substitute
 mul-substitute c = search needs

@@ -3,8 +3,6 @@ use borrow.Author.Needs.{needs}
 use borrow.Author.Needs.{needs}
 use Rattle.contraction.proofs.rules.amiss.Statement.{statement}
 use Rattle.contraction.proofs.rules.amiss.Tie as tie
-use Rattle.contraction.proofs.rules.amiss.Reads as reads
-use Rattle.contraction.proofs.rules.amiss.Lts as lts
 
 mul-t4 : tie.Need-mul-t4
 mul-t4 c = search needs

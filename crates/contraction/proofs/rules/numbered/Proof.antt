@@ -1,9 +1,6 @@
 -- `contraction::rules::numbered` meets its contract. Assumes nothing.
-use borrow.Author.Needs.{needs}
 use Rattle.contraction.proofs.rules.numbered.Statement.{statement}
 use Rattle.contraction.proofs.rules.numbered.Tie as tie
-use Rattle.contraction.proofs.rules.numbered.Reads as reads
-use Rattle.contraction.proofs.rules.numbered.Lts as lts
 
 returns : tie.Need-returns
 returns c = rw (c .if1 .taken)

@@ -1,11 +1,8 @@
 -- `contraction::unary::answer` meets its contract. Assumes nothing.
-use borrow.Author.Needs.{needs}
 use borrow.Author.Tests.{eq-eqb, ne-eqb}
 use native.Mathlib.Omega.{arith}
 use Rattle.contraction.proofs.unary.answer.Statement.{statement}
 use Rattle.contraction.proofs.unary.answer.Tie as tie
-use Rattle.contraction.proofs.unary.answer.Reads as reads
-use Rattle.contraction.proofs.unary.answer.Lts as lts
 
 returns : tie.Need-returns
 returns c = let a = c .before .before .args in (rw (eq-eqb (a .test) 0 (c .before .if1 .taken), eq-eqb (a .form) 2 (c .if2 .taken)), omega arith)

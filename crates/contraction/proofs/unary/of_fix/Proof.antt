@@ -1,9 +1,9 @@
 -- `contraction::unary::of_fix` meets its contract. Assumes nothing.
 use borrow.Author.Needs.{needs}
-use mathlib.Core.Path.{_≡_, sym, ap, _∙_}
+use mathlib.Core.Path.{ap, _∙_}
 use Prim.Native.Nat.{ℕ, _+_}
 use mathlib.Core.List.{List}
-use lib.ListN.{length, length-drop}
+use lib.ListN.{length}
 use borrow.Rule.Slice.PartAt.{part-to-end}
 use native.Mathlib.Omega.{arith}
 use Rattle.nodes.proofs.Ways.{part-length}
@@ -12,9 +12,6 @@ use Rattle.contraction.proofs.OnePart.{fix-other, fix-lambda}
 use borrow.Author.Needs.{needs}
 use Rattle.contraction.proofs.unary.of_fix.Statement.{statement}
 use Rattle.contraction.proofs.unary.of_fix.Tie as tie
-use Rattle.contraction.proofs.unary.of_fix.Reads as reads
-use Rattle.contraction.proofs.unary.of_fix.Lts as lts
-use Rattle.writing.proofs.spans.skip.Reads as skip-reads
 
 returns : tie.Need-returns
 returns c = let s = c .before .before in (tt, fix-other _ _ _ (s .pre .2) (c .if1 .taken))

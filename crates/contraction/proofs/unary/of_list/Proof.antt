@@ -1,7 +1,7 @@
 -- `contraction::unary::of_list` meets its contract. Assumes nothing.
 use borrow.Author.Needs.{needs}
 use mathlib.Core.List.{List}
-use mathlib.Core.Path.{_≡_, refl, sym, ap, _∙_}
+use mathlib.Core.Path.{_≡_, refl, ap, _∙_}
 use Prim.Native.Nat.{ℕ, _+_}
 use lib.ListN.{length, drop}
 use borrow.Rule.Slice.PartAt.{part-to-end}
@@ -13,10 +13,6 @@ use Rattle.contraction.proofs.OnePart.{known-list, list-other, list-nil
 use borrow.Author.Needs.{needs}
 use Rattle.contraction.proofs.unary.of_list.Statement.{statement}
 use Rattle.contraction.proofs.unary.of_list.Tie as tie
-use Rattle.contraction.proofs.unary.of_list.Reads as reads
-use Rattle.contraction.proofs.unary.of_list.Lts as lts
-use Rattle.contraction.proofs.rules.amiss.Reads as amiss-reads
-use Rattle.writing.proofs.spans.skip.Reads as skip-reads
 
 -- Where the tail of a cons starts.
 module _ (c : tie.After-skip) where

@@ -1,10 +1,7 @@
 -- `contraction::unary::of_null` meets its contract. Assumes nothing.
-use borrow.Author.Needs.{needs}
-use borrow.Author.Tests.{eq-eqb, ne-eqb}
+use borrow.Author.Tests.{ne-eqb}
 use Rattle.contraction.proofs.unary.of_null.Statement.{statement}
 use Rattle.contraction.proofs.unary.of_null.Tie as tie
-use Rattle.contraction.proofs.unary.of_null.Reads as reads
-use Rattle.contraction.proofs.unary.of_null.Lts as lts
 
 returns : tie.Need-returns
 returns c = rw (c .if1 .taken)

@@ -1,30 +1,20 @@
 -- `contraction::unary::of_one` meets its contract. Assumes nothing.
 use borrow.Author.Needs.{needs}
 use mathlib.Core.List.{List}
-use mathlib.Core.Path.{_≡_, sym, ap, _∙_, subst}
-use Prim.Native.Nat.{ℕ, _+_, _/_, _≤_}
-use lib.ListN.{length, drop, getD}
+use mathlib.Core.Path.{_≡_, ap, _∙_}
+use Prim.Native.Nat.{ℕ, _+_}
+use lib.ListN.{length, drop}
 use borrow.Rule.Slice.PartAt.{part-to-end}
 use native.Mathlib.Omega.{arith}
 use Rattle.nodes.proofs.Ways.{part-length}
 use Rattle.writing.specs.Spans.{span}
 use Rattle.contraction.specs.Forms.{formAt}
-use Rattle.contraction.specs.Told.{Placed}
 use Rattle.contraction.specs.Chosen.{FirstPart}
 use Rattle.contraction.proofs.Looks.{null-placed}
 use Rattle.contraction.proofs.OnePart.{one-fix, one-null, one-test, one-list, one-none}
 use borrow.Author.Needs.{needs}
 use Rattle.contraction.proofs.unary.of_one.Statement.{statement}
 use Rattle.contraction.proofs.unary.of_one.Tie as tie
-use Rattle.contraction.proofs.unary.of_one.Reads as reads
-use Rattle.contraction.proofs.unary.of_one.Lts as lts
-use Rattle.contraction.proofs.forms.form_at.Reads as form-at-reads
-use Rattle.contraction.proofs.unary.answer.Reads as answer-reads
-use Rattle.contraction.proofs.unary.of_fix.Reads as of-fix-reads
-use Rattle.contraction.proofs.unary.of_list.Reads as of-list-reads
-use Rattle.contraction.proofs.unary.of_null.Reads as of-null-reads
-use Rattle.contraction.proofs.unary.operator.Reads as operator-reads
-use Rattle.writing.proofs.spans.skip.Reads as skip-reads
 
 module _ (c : tie.After-skip) where
   end-is : 1 + c .skip .result ≡ 1 + span (drop 1 (c .before .before .before .args .words .now)) 1

@@ -1,11 +1,8 @@
 -- `contraction::unary::operator` meets its contract. Assumes nothing.
-use borrow.Author.Needs.{needs}
 use borrow.Author.Tests.{eq-eqb, ne-eqb}
 use Prim.Native.Nat.{_%_}
 use Rattle.contraction.proofs.unary.operator.Statement.{statement}
 use Rattle.contraction.proofs.unary.operator.Tie as tie
-use Rattle.contraction.proofs.unary.operator.Reads as reads
-use Rattle.contraction.proofs.unary.operator.Lts as lts
 
 returns : tie.Need-returns
 returns c = let w = c .before .args .w in rw (eq-eqb (w) 26 (c .if1 .taken))

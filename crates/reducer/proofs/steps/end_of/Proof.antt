@@ -1,12 +1,10 @@
 -- `reducer::steps::end_of` meets its contract. Assumes nothing.
 use borrow.Author.Needs.{needs}
-use mathlib.Core.Path.{_≡_, sym, ap}
+use mathlib.Core.Path.{sym, ap}
 use Rattle.reducer.specs.Moves.{endOf}
 use borrow.Author.Needs.{needs}
 use Rattle.reducer.proofs.steps.end_of.Statement.{statement}
 use Rattle.reducer.proofs.steps.end_of.Tie as tie
-use Rattle.reducer.proofs.steps.end_of.Reads as reads
-use Rattle.reducer.proofs.steps.end_of.Lts as lts
 
 enum-told : tie.Need-enum-told
 enum-told c = search needs

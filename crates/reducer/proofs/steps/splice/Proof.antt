@@ -12,10 +12,6 @@ use Rattle.reducer.proofs.Stepping.{next-least, spliced}
 use borrow.Author.Needs.{needs}
 use Rattle.reducer.proofs.steps.splice.Statement.{statement}
 use Rattle.reducer.proofs.steps.splice.Tie as tie
-use Rattle.reducer.proofs.steps.splice.Reads as reads
-use Rattle.reducer.proofs.steps.splice.Lts as lts
-use Rattle.writer.proofs.write_next.Reads as write-next-reads
-use Rattle.writing.proofs.spans.skip.Reads as skip-reads
 
 -- How many words the node had.
 module _ (c : tie.After-skip) where

@@ -1,9 +1,8 @@
 -- `reducer::steps::step` meets its contract: each way out is one law of Stepping. Assumes nothing.
 use borrow.Author.Needs.{needs}
-use mathlib.Core.List.{List}
-use mathlib.Core.Path.{_≡_, sym, _∙_}
-use Prim.Native.Nat.{ℕ, _+_, _-_, _≤_}
-use lib.ListN.{length, drop}
+use mathlib.Core.Path.{sym, _∙_}
+use Prim.Native.Nat.{_-_, _≤_}
+use lib.ListN.{length}
 use native.Mathlib.Omega.{arith}
 use Rattle.nodes.proofs.Ways.{part-length}
 use Rattle.reducer.proofs.Turning.{within-at}
@@ -11,12 +10,6 @@ use Rattle.reducer.proofs.Stepping.{step-value, step-stuck, step-raised
 use borrow.Author.Needs.{needs}
 use Rattle.reducer.proofs.steps.step.Statement.{statement}
 use Rattle.reducer.proofs.steps.step.Tie as tie
-use Rattle.reducer.proofs.steps.step.Reads as reads
-use Rattle.reducer.proofs.steps.step.Lts as lts
-use Rattle.contraction.proofs.choices.chosen.Reads as chosen-reads
-use Rattle.reducer.proofs.steps.end_of.Reads as end-of-reads
-use Rattle.reducer.proofs.steps.splice.Reads as splice-reads
-use Rattle.reducer.proofs.turns.turn.Reads as turn-reads
 
 -- The place is in the source.
 module _ (c : tie.After-found) where

@@ -1,7 +1,6 @@
 -- `reducer::turns::turn` meets its contract: each way out is one law of Turning. The measure is the number of words left. Assumes nothing.
 use borrow.Author.Needs.{needs}
-use mathlib.Core.List.{List}
-use mathlib.Core.Path.{_≡_, refl, sym, ap, _∙_}
+use mathlib.Core.Path.{_≡_, ap}
 use Prim.Native.Nat.{ℕ, _+_, _-_, _≤_}
 use lib.ListN.{length}
 use native.Mathlib.Nat.{pos-of-ne-zero}

@@ -2,7 +2,7 @@
 use borrow.Author.Needs.{needs}
 use borrow.Author.Tests.{eq-eqb, ne-eqb, lt-ltb, le-ltb}
 use mathlib.Core.List.{List}
-use mathlib.Core.Path.{_≡_, refl, sym, ap, _∙_}
+use mathlib.Core.Path.{ap, _∙_}
 use Prim.Native.Nat.{ℕ, _+_}
 use borrow.Rule.Slice.PartAt.{part-to-end}
 use native.Mathlib.Omega.{arith}
@@ -12,9 +12,6 @@ use Rattle.reducer.specs.Placed.{firstPart}
 use borrow.Author.Needs.{needs}
 use Rattle.reducer.proofs.turns.first_part.Statement.{statement}
 use Rattle.reducer.proofs.turns.first_part.Tie as tie
-use Rattle.reducer.proofs.turns.first_part.Reads as reads
-use Rattle.reducer.proofs.turns.first_part.Lts as lts
-use Rattle.writing.proofs.spans.skip.Reads as skip-reads
 
 sub-skip : tie.Need-sub-skip
 sub-skip c = search needs

@@ -1,10 +1,7 @@
 -- `reducer::turns::own` meets its contract. Assumes nothing.
-use borrow.Author.Needs.{needs}
-use borrow.Author.Tests.{eq-eqb, ne-eqb}
+use borrow.Author.Tests.{ne-eqb}
 use Rattle.reducer.proofs.turns.own.Statement.{statement}
 use Rattle.reducer.proofs.turns.own.Tie as tie
-use Rattle.reducer.proofs.turns.own.Reads as reads
-use Rattle.reducer.proofs.turns.own.Lts as lts
 
 returns : tie.Need-returns
 returns c = rw (c .if1 .taken)

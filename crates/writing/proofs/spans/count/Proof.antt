@@ -1,11 +1,8 @@
 -- `writing::spans::count` meets its contract. Assumes nothing.
-use borrow.Author.Needs.{needs}
 use native.Mathlib.Omega.{arith}
 use Rattle.writing.proofs.Digits.{none, one, two, three}
 use Rattle.writing.proofs.spans.count.Statement.{statement}
 use Rattle.writing.proofs.spans.count.Tie as tie
-use Rattle.writing.proofs.spans.count.Reads as reads
-use Rattle.writing.proofs.spans.count.Lts as lts
 
 returns : tie.Need-returns
 returns c = (none _ (c .if1 .taken), omega arith)

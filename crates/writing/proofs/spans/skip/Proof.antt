@@ -1,7 +1,7 @@
 -- `writing::spans::skip` meets its contract: before each turn i words are gone by and `left` nodes are due. Assumes nothing.
 use borrow.Author.Needs.{needs}
-use mathlib.Core.Path.{_≡_, refl, sym, ap, _∙_}
-use Prim.Native.Nat.{ℕ, _+_, _*_, _≤_, _-_, _%_}
+use mathlib.Core.Path.{_≡_, sym, ap, _∙_}
+use Prim.Native.Nat.{_+_, _*_, _≤_, _-_}
 use native.Mathlib.Omega.{arith}
 use lib.ListN.{length, drop, getD}
 use Rattle.nodes.proofs.Dues.{parts-small}
@@ -12,10 +12,6 @@ use Rattle.writing.specs.Spans.{span}
 use Rattle.writing.proofs.Measures.{span-turn, span-end, span-over}
 use Rattle.writing.proofs.spans.skip.Statement.{statement}
 use Rattle.writing.proofs.spans.skip.Tie as tie
-use Rattle.writing.proofs.spans.skip.Reads as reads
-use Rattle.writing.proofs.spans.skip.Lts as lts
-use Rattle.nodes.proofs.kinds.row_at.Reads as row-at-reads
-use Rattle.writing.proofs.spans.count.Reads as count-reads
 
 abbrev Inv-loop : tie.InvT-loop
 Inv-loop table words due left₀ i₀ left i = (i ≤ length words) × (left ≤ due + 3 * i) × (i + span (drop i words) left ≡ span words due)

@@ -5,8 +5,6 @@ use native.Mathlib.Omega.{arith}
 use borrow.Author.Needs.{needs}
 use Rattle.writing.proofs.substitution.deeper.Statement.{statement}
 use Rattle.writing.proofs.substitution.deeper.Tie as tie
-use Rattle.writing.proofs.substitution.deeper.Reads as reads
-use Rattle.writing.proofs.substitution.deeper.Lts as lts
 
 add-result : tie.Need-add-result
 add-result c = search needs
