@@ -53,7 +53,8 @@ module _ (ws : List ℕ) (form-number value end : ℕ) (p : Value ws form-number
   inner w k q = sym (drop-drop 1 1 ws) ∙ ap (drop 1) q
 
   -- A value that has not the type.
-  pub refused-told : (l : Lang) (t : Ty) (v : Term l) (k : List ℕ) (c : ℕ) → drop 1 ws ≡ putTy t (put v k) → Tells ws (refusedRule false c value) (becomes (wrong {l = ml} c t))
+  pub refused-told : (l : Lang) (t : Ty) (v : Term l) (k : List ℕ) (c : ℕ) → drop 1 ws ≡ putTy t (put v k)
+      → Tells ws (refusedRule false c value) (becomes (wrong {l = ml} c t))
   unfolding put
   refused-told l t v k c q = ap (λ (w : List ℕ). word 29 c ∷ w) (sym (type-stands l t v k q .own))
 
@@ -88,7 +89,8 @@ module _ (ws : List ℕ) (form-number value end : ℕ) (p : Value ws form-number
   pub lump-ml : AtType ws false Stuck L
   lump-ml = record { of = λ l v k q s. lump-in-ml l v s }
 
-  lump-amiss : (l : Lang) (v : Term (from l)) (k : List ℕ) → drop 1 ws ≡ putTy L (put v k) → true ≡ isScheme l → (form-number ≡ 5 → ⊥) → Tells ws Stuck (converted l L v)
+  lump-amiss : (l : Lang) (v : Term (from l)) (k : List ℕ) → drop 1 ws ≡ putTy L (put v k) → true ≡ isScheme l → (form-number ≡ 5 → ⊥)
+      → Tells ws Stuck (converted l L v)
   unfolding toScheme
   lump-amiss ml v k q s h = absurd (subst T s tt)
   lump-amiss sc v k q s h = subst (Tells ws Stuck) (sym (no-lump nothing _ (value-form ml L v k q form-number refl) h)) refl

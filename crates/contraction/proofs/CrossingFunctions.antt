@@ -32,16 +32,19 @@ module _ (ws : List ℕ) (form-number value end : ℕ) (p : Value ws form-number
   function-amiss ml t u v k q h =
       subst (Tells ws (refusedRule false 2 value)) (sym (no-lambda (becomes (wrong 2 (t to u))) _ (value-form ws form-number value end p sc (t to u) v k q form-number refl) h))
       (refused-told ws form-number value end p sc (t to u) v k 2 q)
-  function-amiss sc t u v k q h = subst (Tells ws Stuck) (sym (no-lambda nothing _ (value-form ws form-number value end p ml (t to u) v k q form-number refl) h)) refl
+  function-amiss sc t u v k q h =
+      subst (Tells ws Stuck) (sym (no-lambda nothing _ (value-form ws form-number value end p ml (t to u) v k q form-number refl) h)) refl
 
   pub function-other : (scheme : Bool) → (form-number ≡ 2 → ⊥) → AtFunction ws scheme (refusedRule scheme 2 value)
   function-other scheme h = record { of = λ t u. record { of = λ l v k q s. rw s (function-amiss l t u v k q h) } }
 
   module _ (second : ℕ) (second-is : second ≡ 2 + span (drop 2 ws) 1) where
     -- t stands from 2, and u from there up to the value.
-    from-stands : (l : Lang) (t u : Ty) (v : Term l) (k : List ℕ) → drop 1 ws ≡ putTy (t to u) (put v k) → Stands type t (putTy u (put v k)) ws 2 second
+    from-stands : (l : Lang) (t u : Ty) (v : Term l) (k : List ℕ) → drop 1 ws ≡ putTy (t to u) (put v k)
+        → Stands type t (putTy u (put v k)) ws 2 second
     unfolding putTy
-    from-stands l t u v k q = stands type t (putTy u (put v k)) ws 2 second (inner ws form-number value end p 4 (putTy t (putTy u (put v k))) q) second-is
+    from-stands l t u v k q =
+        stands type t (putTy u (put v k)) ws 2 second (inner ws form-number value end p 4 (putTy t (putTy u (put v k))) q) second-is
 
     to-stands : (l : Lang) (t u : Ty) (v : Term l) (k : List ℕ) → drop 1 ws ≡ putTy (t to u) (put v k) → Stands type u (put v k) ws second value
     unfolding sizeTy
@@ -54,7 +57,8 @@ module _ (ws : List ℕ) (form-number value end : ℕ) (p : Value ws form-number
         record { of = λ t u. record { of = λ l v k q s. absurd (omega (arith, g, to-stands (from l) t u v k q .end)) } }
 
     module _ (h : form-number ≡ 2) where
-      function-in-ml : (l : Lang) (t u : Ty) (v : Term (from l)) (k : List ℕ) → drop 1 ws ≡ putTy (t to u) (put v k) → false ≡ isScheme l → Formed (from l) 2 v
+      function-in-ml : (l : Lang) (t u : Ty) (v : Term (from l)) (k : List ℕ) → drop 1 ws ≡ putTy (t to u) (put v k) → false ≡ isScheme l
+          → Formed (from l) 2 v
           → Tells ws (IntoML second value end) (converted l (t to u) v)
       unfolding toML onLambda form put
       function-in-ml ml t u v k q s (is-function r b) =
@@ -63,9 +67,11 @@ module _ (ws : List ℕ) (form-number value end : ℕ) (p : Value ws form-number
       function-in-ml sc t u v k q s f = absurd (subst T (sym s) tt)
 
       pub function-ml : AtFunction ws false (IntoML second value end)
-      function-ml = record { of = λ t u. record { of = λ l v k q s. function-in-ml l t u v k q s (value-form ws form-number value end p (from l) (t to u) v k q 2 h) } }
+      function-ml =
+          record { of = λ t u. record { of = λ l v k q s. function-in-ml l t u v k q s (value-form ws form-number value end p (from l) (t to u) v k q 2 h) } }
 
-      function-in-scheme : (l : Lang) (t u : Ty) (v : Term (from l)) (k : List ℕ) → drop 1 ws ≡ putTy (t to u) (put v k) → true ≡ isScheme l → Formed (from l) 2 v
+      function-in-scheme : (l : Lang) (t u : Ty) (v : Term (from l)) (k : List ℕ) → drop 1 ws ≡ putTy (t to u) (put v k) → true ≡ isScheme l
+          → Formed (from l) 2 v
           → Tells ws (IntoScheme second value end) (converted l (t to u) v)
       unfolding toScheme onLambda form put
       function-in-scheme ml t u v k q s f = absurd (subst T s tt)
@@ -74,7 +80,8 @@ module _ (ws : List ℕ) (form-number value end : ℕ) (p : Value ws form-number
           (ap (λ (w : List ℕ). 34 ∷ w) (function-words 45 19 30 ml t u v (32 ∷ [])))
 
       pub function-scheme : AtFunction ws true (IntoScheme second value end)
-      function-scheme = record { of = λ t u. record { of = λ l v k q s. function-in-scheme l t u v k q s (value-form ws form-number value end p (from l) (t to u) v k q 2 h) } }
+      function-scheme =
+          record { of = λ t u. record { of = λ l v k q s. function-in-scheme l t u v k q s (value-form ws form-number value end p (from l) (t to u) v k q 2 h) } }
 
 -- The type by its first word.
 data TypeBy : ℕ → Ty → Type 0 where
@@ -156,7 +163,8 @@ module _ (ws : List ℕ) (value : ℕ) (value-is : value ≡ 1 + span (drop 1 ws
   boundary-none h =
       record { ms-told = λ t v k q. absurd (no-type sc t v k (ap (drop 1) q) h); sm-told = λ t v k q. absurd (no-type ml t v k (ap (drop 1) q) h) }
 
-  no-value : (l : Lang) (t : Ty) (v : Term l) (k : List ℕ) (end : ℕ) → end ≡ value + span (drop value ws) 1 → drop 1 ws ≡ putTy t (put v k) → end < value + 1 → ⊥
+  no-value : (l : Lang) (t : Ty) (v : Term l) (k : List ℕ) (end : ℕ) → end ≡ value + span (drop value ws) 1 → drop 1 ws ≡ putTy t (put v k)
+      → end < value + 1 → ⊥
   no-value l t v k end e q h =
       omega (arith, h, stands (term l) v k ws value end (stands type t (put v k) ws 1 value q value-is .after) e .end, size-some l v)
 

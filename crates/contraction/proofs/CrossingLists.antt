@@ -28,13 +28,15 @@ module _ (ws : List ℕ) (form-number value end : ℕ) (p : Value ws form-number
   element l t v k q =
       sized type t (put v k) ws 2 value (inner ws form-number value end p 3 (putTy t (put v k)) q) (omega (arith, type-stands ws form-number value end p l (list t) v k q .end))
 
-  list-amiss : (l : Lang) (t : Ty) (v : Term (from l)) (k : List ℕ) → drop 1 ws ≡ putTy (list t) (put v k) → (form-number ≡ 3 → ⊥) → (form-number ≡ 4 → ⊥)
+  list-amiss : (l : Lang) (t : Ty) (v : Term (from l)) (k : List ℕ) → drop 1 ws ≡ putTy (list t) (put v k) → (form-number ≡ 3 → ⊥)
+      → (form-number ≡ 4 → ⊥)
       → Tells ws (refusedRule (isScheme l) 3 value) (converted l (list t) v)
   unfolding toML toScheme
   list-amiss ml t v k q h g =
       subst (Tells ws (refusedRule false 3 value)) (sym (no-list (becomes (wrong 3 (list t))) _ _ (value-form ws form-number value end p sc (list t) v k q form-number refl) h g))
       (refused-told ws form-number value end p sc (list t) v k 3 q)
-  list-amiss sc t v k q h g = subst (Tells ws Stuck) (sym (no-list nothing _ _ (value-form ws form-number value end p ml (list t) v k q form-number refl) h g)) refl
+  list-amiss sc t v k q h g =
+      subst (Tells ws Stuck) (sym (no-list nothing _ _ (value-form ws form-number value end p ml (list t) v k q form-number refl) h g)) refl
 
   pub list-other : (scheme : Bool) → (form-number ≡ 3 → ⊥) → (form-number ≡ 4 → ⊥) → AtList ws scheme (refusedRule scheme 3 value)
   list-other scheme h g = record { of = λ t. record { of = λ l v k q s. rw s (list-amiss l t v k q h g) } }
@@ -46,7 +48,8 @@ module _ (ws : List ℕ) (form-number value end : ℕ) (p : Value ws form-number
   nil-in-ml sc t v k q s f = absurd (subst T (sym s) tt)
 
   pub nil-ml : form-number ≡ 3 → AtList ws false (Led 24 2 value)
-  nil-ml h = record { of = λ t. record { of = λ l v k q s. nil-in-ml l t v k q s (value-form ws form-number value end p (from l) (list t) v k q 3 h) } }
+  nil-ml h =
+      record { of = λ t. record { of = λ l v k q s. nil-in-ml l t v k q s (value-form ws form-number value end p (from l) (list t) v k q 3 h) } }
 
   nil-in-scheme : (l : Lang) (t : Ty) (v : Term (from l)) → true ≡ isScheme l → Formed (from l) 3 v → Tells ws (Led 39 0 0) (converted l (list t) v)
   unfolding toScheme onList form put
@@ -54,15 +57,18 @@ module _ (ws : List ℕ) (form-number value end : ℕ) (p : Value ws form-number
   nil-in-scheme sc t v s (is-empty u) = refl
 
   pub nil-scheme : form-number ≡ 3 → AtList ws true (Led 39 0 0)
-  nil-scheme h = record { of = λ t. record { of = λ l v k q s. nil-in-scheme l t v s (value-form ws form-number value end p (from l) (list t) v k q 3 h) } }
+  nil-scheme h =
+      record { of = λ t. record { of = λ l v k q s. nil-in-scheme l t v s (value-form ws form-number value end p (from l) (list t) v k q 3 h) } }
 
   module _ (tail : ℕ) (tail-is : tail ≡ value + 1 + span (drop (value + 1) ws) 1) (h : form-number ≡ 4) where
-    head-stands : (l : Lang) (t : Ty) (a b : Term l) (k : List ℕ) → drop 1 ws ≡ putTy (list t) (put (op2 pair a b) k) → Stands (term l) a (put b k) ws (value + 1) tail
+    head-stands : (l : Lang) (t : Ty) (a b : Term l) (k : List ℕ) → drop 1 ws ≡ putTy (list t) (put (op2 pair a b) k)
+        → Stands (term l) a (put b k) ws (value + 1) tail
     unfolding put
     head-stands l t a b k q =
         stands (term l) a (put b k) ws (value + 1) tail (sym (drop-drop 1 value ws) ∙ ap (drop 1) (type-stands ws form-number value end p l (list t) (op2 pair a b) k q .after)) tail-is
 
-    tail-stands : (l : Lang) (t : Ty) (a b : Term l) (k : List ℕ) → drop 1 ws ≡ putTy (list t) (put (op2 pair a b) k) → Stands (term l) b k ws tail end
+    tail-stands : (l : Lang) (t : Ty) (a b : Term l) (k : List ℕ) → drop 1 ws ≡ putTy (list t) (put (op2 pair a b) k)
+        → Stands (term l) b k ws tail end
     unfolding size
     tail-stands l t a b k q =
         let z = head-stands l t a b k q in
@@ -75,7 +81,8 @@ module _ (ws : List ℕ) (form-number value end : ℕ) (p : Value ws form-number
     pair-absurd scheme g =
         record { of = λ t. record { of = λ l v k q s. absurd (pair-order (from l) t v k q g (value-form ws form-number value end p (from l) (list t) v k q 4 h)) } }
 
-    pair-in-ml : (l : Lang) (t : Ty) (v : Term (from l)) (k : List ℕ) → drop 1 ws ≡ putTy (list t) (put v k) → false ≡ isScheme l → Formed (from l) 4 v
+    pair-in-ml : (l : Lang) (t : Ty) (v : Term (from l)) (k : List ℕ) → drop 1 ws ≡ putTy (list t) (put v k) → false ≡ isScheme l
+        → Formed (from l) 4 v
         → Tells ws (Items 25 30 value tail end) (converted l (list t) v)
     unfolding toML onList form put putTy
     pair-in-ml ml t v k q s (is-pair a b) =
@@ -84,9 +91,11 @@ module _ (ws : List ℕ) (form-number value end : ℕ) (p : Value ws form-number
     pair-in-ml sc t v k q s f = absurd (subst T (sym s) tt)
 
     pub pair-ml : AtList ws false (Items 25 30 value tail end)
-    pair-ml = record { of = λ t. record { of = λ l v k q s. pair-in-ml l t v k q s (value-form ws form-number value end p (from l) (list t) v k q 4 h) } }
+    pair-ml =
+        record { of = λ t. record { of = λ l v k q s. pair-in-ml l t v k q s (value-form ws form-number value end p (from l) (list t) v k q 4 h) } }
 
-    pair-in-scheme : (l : Lang) (t : Ty) (v : Term (from l)) (k : List ℕ) → drop 1 ws ≡ putTy (list t) (put v k) → true ≡ isScheme l → Formed (from l) 4 v
+    pair-in-scheme : (l : Lang) (t : Ty) (v : Term (from l)) (k : List ℕ) → drop 1 ws ≡ putTy (list t) (put v k) → true ≡ isScheme l
+        → Formed (from l) 4 v
         → Tells ws (Items 40 45 value tail end) (converted l (list t) v)
     unfolding toScheme onList form put putTy
     pair-in-scheme ml t v k q s f = absurd (subst T s tt)
@@ -95,4 +104,5 @@ module _ (ws : List ℕ) (form-number value end : ℕ) (p : Value ws form-number
         (items-words 40 45 ml t a b)
 
     pub pair-scheme : AtList ws true (Items 40 45 value tail end)
-    pair-scheme = record { of = λ t. record { of = λ l v k q s. pair-in-scheme l t v k q s (value-form ws form-number value end p (from l) (list t) v k q 4 h) } }
+    pair-scheme =
+        record { of = λ t. record { of = λ l v k q s. pair-in-scheme l t v k q s (value-form ws form-number value end p (from l) (list t) v k q 4 h) } }

@@ -102,7 +102,8 @@ pub words-write : {ws : List ℕ} {r : Rule} {b : List ℕ} {n k : ℕ} {b′ xs
     → Wrote b n xs k b′ → Writes ws r b n k b′
 words-write g w = record { of = λ l u h. wrote-as (sym (g l u h)) w }
 
-pub nothing-written : {ws : List ℕ} {r : Rule} {b : List ℕ} {n k : ℕ} {b′ : List ℕ} → ((l : Lang) (u : Term l) → Gives ws r u → ⊥) → Writes ws r b n k b′
+pub nothing-written : {ws : List ℕ} {r : Rule} {b : List ℕ} {n k : ℕ} {b′ : List ℕ} → ((l : Lang) (u : Term l) → Gives ws r u → ⊥)
+    → Writes ws r b n k b′
 nothing-written g = record { of = λ l u h. absurd (g l u h) }
 
 pub known-rule : {ws : List ℕ} {r s : Rule} {b : List ℕ} {n k : ℕ} {b′ : List ℕ} → s ≡ r → Writes ws r b n k b′ → Writes ws s b n k b′

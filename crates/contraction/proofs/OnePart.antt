@@ -144,13 +144,15 @@ module _ (ws : List ℕ) (form-number end : ℕ) (f : FirstPart ws form-number e
   nil-head : (l : Lang) (a : Term l) (k : List ℕ) → drop 1 ws ≡ put a k → end ≡ 1 + size a → false ≡ isScheme l → Formed l 3 a
       → Tells ws (Led 1053 2 end) (contract1 head a)
   unfolding contract1 onList form put size
-  nil-head ml a k q e s (is-empty t) = ap (λ (v : List ℕ). 1053 ∷ v) (sym (sized type t k ws 2 end (sym (drop-drop 1 1 ws) ∙ ap (drop 1) q) (omega arith) .own))
+  nil-head ml a k q e s (is-empty t) =
+      ap (λ (v : List ℕ). 1053 ∷ v) (sym (sized type t k ws 2 end (sym (drop-drop 1 1 ws) ∙ ap (drop 1) q) (omega arith) .own))
   nil-head sc a k q e s (is-empty t) = absurd (subst T (sym s) tt)
 
   nil-tail : (l : Lang) (a : Term l) (k : List ℕ) → drop 1 ws ≡ put a k → end ≡ 1 + size a → false ≡ isScheme l → Formed l 3 a
       → Tells ws (Led2 1053 3 2 end) (contract1 tail a)
   unfolding contract1 onList form put putTy size
-  nil-tail ml a k q e s (is-empty t) = ap (λ (v : List ℕ). 1053 ∷ 3 ∷ v) (sym (sized type t k ws 2 end (sym (drop-drop 1 1 ws) ∙ ap (drop 1) q) (omega arith) .own))
+  nil-tail ml a k q e s (is-empty t) =
+      ap (λ (v : List ℕ). 1053 ∷ 3 ∷ v) (sym (sized type t k ws 2 end (sym (drop-drop 1 1 ws) ∙ ap (drop 1) q) (omega arith) .own))
   nil-tail sc a k q e s (is-empty t) = absurd (subst T (sym s) tt)
 
   pub list-nil-head : form-number ≡ 3 → OfList ws true false (Led 1053 2 end)
@@ -179,7 +181,8 @@ module _ (ws : List ℕ) (form-number end : ℕ) (f : FirstPart ws form-number e
     pub list-head : (scheme : Bool) → OfList ws true scheme (Part 2 middle)
     list-head scheme = record { of = λ l a k q s. pair-head l a k q (part-form l a k q 4 h) }
 
-    pair-tail : (l : Lang) (a : Term l) (k : List ℕ) → drop 1 ws ≡ put a k → end ≡ 1 + size a → Formed l 4 a → Tells ws (Part middle end) (contract1 tail a)
+    pair-tail : (l : Lang) (a : Term l) (k : List ℕ) → drop 1 ws ≡ put a k → end ≡ 1 + size a → Formed l 4 a
+        → Tells ws (Part middle end) (contract1 tail a)
     unfolding contract1 onList form size
     pair-tail l a k q i (is-pair v w) =
         let z = head-stands l v w k q in sym (sized (term l) w k ws middle end (z .after) (omega (arith, i, z .end)) .own)
@@ -194,7 +197,8 @@ module _ (ws : List ℕ) (form-number end : ℕ) (f : FirstPart ws form-number e
     op-of l o a k q n e =
         subst (λ (j : ℕ). Unary l j o) (sym (ap (λ (v : List ℕ). operator1 (getD v 0 0)) q) ∙ sym op-is ∙ e) (unary l o)
 
-    one-of-fix : (r : Rule) → OfFix ws r → (l : Lang) (o : Op1 l) (a : Term l) (k : List ℕ) → ws ≡ put (op1 o a) k → Unary l 2 o → Tells ws r (contract1 o a)
+    one-of-fix : (r : Rule) → OfFix ws r → (l : Lang) (o : Op1 l) (a : Term l) (k : List ℕ) → ws ≡ put (op1 o a) k → Unary l 2 o
+        → Tells ws r (contract1 o a)
     one-of-fix r g l o a k q is-fix = g .of a k q
 
     pub one-fix : (r : Rule) → op ≡ 2 → OfFix ws r → OfOne ws r
@@ -230,7 +234,8 @@ module _ (ws : List ℕ) (form-number end : ℕ) (f : FirstPart ws form-number e
 
 -- The same where the code knows which it is.
 pub known-list : {ws : List ℕ} {first scheme f s : Bool} {r : Rule} → f ≡ first → s ≡ scheme → OfList ws first scheme r → OfList ws f s r
-known-list {ws} {first} {scheme} {f} {s} {r} e g h = record { of = λ l a k q i. subst (λ (b : Bool). Tells ws r (contract1 (part b) a)) (sym e) (h .of l a k q (sym g ∙ i)) }
+known-list {ws} {first} {scheme} {f} {s} {r} e g h =
+    record { of = λ l a k q i. subst (λ (b : Bool). Tells ws r (contract1 (part b) a)) (sym e) (h .of l a k q (sym g ∙ i)) }
 
 -- No part at all.
 pub one-none : (ws : List ℕ) (end : ℕ) → end ≡ 1 + span (drop 1 ws) 1 → end < 2 → OfOne ws Stuck

@@ -76,8 +76,10 @@ formed sc (sm t a) = is-other refl
 -- The form is told by the first two words.
 form-by : (l : Lang) (e : Term l) (k : List ℕ) → formNumber (form e) ≡ formBy (shapeNumber (term l) e) (getD (put e k) 0 0) (getD (put e k) 1 0)
 unfolding form put putTy
-form-by ml (var i) k = rw (ne-eqb (word 16 i) 25 (λ e. omega (arith, e)), ne-eqb (word 16 i) 40 (λ e. omega (arith, e)), ne-eqb (word 16 i) 30 (λ e. omega (arith, e)))
-form-by sc (var i) k = rw (ne-eqb (word 32 i) 25 (λ e. omega (arith, e)), ne-eqb (word 32 i) 40 (λ e. omega (arith, e)), ne-eqb (word 32 i) 30 (λ e. omega (arith, e)))
+form-by ml (var i) k =
+    rw (ne-eqb (word 16 i) 25 (λ e. omega (arith, e)), ne-eqb (word 16 i) 40 (λ e. omega (arith, e)), ne-eqb (word 16 i) 30 (λ e. omega (arith, e)))
+form-by sc (var i) k =
+    rw (ne-eqb (word 32 i) 25 (λ e. omega (arith, e)), ne-eqb (word 32 i) 40 (λ e. omega (arith, e)), ne-eqb (word 32 i) 30 (λ e. omega (arith, e)))
 form-by l (num n) k = refl
 form-by l (lam t b) k = refl
 form-by ml (op1 head a) k = refl
@@ -101,8 +103,10 @@ form-by sc (op2 pair a b) k = refl
 form-by ml (if0 a b c) k = refl
 form-by sc (if0 a b c) k = refl
 form-by l (nil t) k = refl
-form-by ml (wrong c t) k = rw (ne-eqb (word 29 c) 25 (λ e. omega (arith, e)), ne-eqb (word 29 c) 40 (λ e. omega (arith, e)), ne-eqb (word 29 c) 30 (λ e. omega (arith, e)))
-form-by sc (wrong c t) k = rw (ne-eqb (word 44 c) 25 (λ e. omega (arith, e)), ne-eqb (word 44 c) 40 (λ e. omega (arith, e)), ne-eqb (word 44 c) 30 (λ e. omega (arith, e)))
+form-by ml (wrong c t) k =
+    rw (ne-eqb (word 29 c) 25 (λ e. omega (arith, e)), ne-eqb (word 29 c) 40 (λ e. omega (arith, e)), ne-eqb (word 29 c) 30 (λ e. omega (arith, e)))
+form-by sc (wrong c t) k =
+    rw (ne-eqb (word 44 c) 25 (λ e. omega (arith, e)), ne-eqb (word 44 c) 40 (λ e. omega (arith, e)), ne-eqb (word 44 c) 30 (λ e. omega (arith, e)))
 form-by ml (ms N a) k = refl
 form-by ml (ms L a) k = refl
 form-by ml (ms (list t) a) k = refl

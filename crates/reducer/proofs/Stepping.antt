@@ -191,7 +191,8 @@ module _ (source b : List ℕ) (x : Found) (x-is : Turns source 0 x) (place : �
           c,
           refl,
           record {
-            splice = record { lang = m; place = F; node = n; became = u; turns = z; contracts = k; was = ap words (sym s) ∙ words-fill F n; is = words-fill F u };
+            splice =
+                record { lang = m; place = F; node = n; became = u; turns = z; contracts = k; was = ap words (sym s) ∙ words-fill F n; is = words-fill F u };
             place = sp .where-it-was ∙ p;
             stood = w .0;
             stands = w .1;

@@ -69,7 +69,8 @@ own-cons l plus a b at n e = ap At (omega arith)
 own-cons l minus a b at n e = ap At (omega arith)
 own-cons l pair a b at n e = ap Done e
 
-own-lump : (t : Ty) (a : Term sc) (at n : ℕ) → n ≡ at + size (ms t a) → ownTurn (formNumber (form (ms t a))) at n ≡ placed at (ms t a) (own (isLump t) (ms t a))
+own-lump : (t : Ty) (a : Term sc) (at n : ℕ) → n ≡ at + size (ms t a)
+    → ownTurn (formNumber (form (ms t a))) at n ≡ placed at (ms t a) (own (isLump t) (ms t a))
 unfolding form wordsBefore
 own-lump N a at n e = ap At (omega arith)
 own-lump L a at n e = ap Done e

@@ -21,7 +21,8 @@ span-none (w ∷ ws) = refl
 abbrev Past : (s : Sort) → Tree s → Type 0
 Past s t = (k : List ℕ) (due : ℕ) → span (putTree s t k) (suc due) ≡ sizeTree s t + span k due
 
-past-all : (ss : List Sort) (ts : Trees ss) → Holds Past ss ts → (k : List ℕ) (due : ℕ) → span (putTrees ss ts k) (length ss + due) ≡ sizeTrees ss ts + span k due
+past-all : (ss : List Sort) (ts : Trees ss) → Holds Past ss ts → (k : List ℕ) (due : ℕ)
+    → span (putTrees ss ts k) (length ss + due) ≡ sizeTrees ss ts + span k due
 past-all [] ts h k due = let e : 0 + due ≡ due = omega arith in ap (span k) e ∙ sym (omega arith)
 past-all (s ∷ ss) ts h k due =
     let e : length (s ∷ ss) + due ≡ suc (length ss + due) = omega arith in
