@@ -1,0 +1,174 @@
+-- The ways out of choosing a rule for ms and sm at the type of a function, and at whichever type it is. Assumes nothing.
+use Prim.Native.Nat.{ℕ, _+_, _-_, _<_}
+use mathlib.Core.Bool.{Bool, true, false}
+use mathlib.Core.List.{List, [], _∷_, _++_}
+use mathlib.Core.Path.{_≡_, refl, sym, ap, _∙_, subst}
+use lib.Dec.{T, eqb}
+use lib.ListN.{getD, drop}
+use native.Mathlib.Omega.{arith}
+use Rattle.calculus.specs.Trees.{Ty, N, L, list, _to_, Lang, ml, sc, Term, lam, wrong, ms, sm, app}
+use Rattle.calculus.specs.Words.{word, put, putTy, size, sizeTy}
+use Rattle.calculus.specs.Kinds.{type, term}
+use Rattle.calculus.specs.Reduction.{form, becomes, nothing, onLambda, toML, toScheme}
+use Rattle.calculus.proofs.Sizes.{putTy-append}
+use Rattle.calculus.proofs.Views.{view, sized}
+use Rattle.writing.specs.Spans.{span}
+use Rattle.writing.proofs.Measures.{span-tree}
+use Rattle.contraction.specs.declared.rules.Rule.{Rule}
+use Rattle.contraction.specs.declared.rules.Rule.the-variants.{Stuck, IntoML, IntoScheme}
+use Rattle.contraction.specs.Forms.{isScheme}
+use Rattle.contraction.specs.Told.{Tells, refusedRule, from, converted}
+use Rattle.contraction.specs.Chosen.{Value, AtType, AtList, AtFunction, OfBoundary}
+use Rattle.contraction.proofs.Views.{Formed, is-function, size-some}
+use Rattle.contraction.proofs.Parts.{Stands, stands}
+use Rattle.contraction.proofs.Parts as parts
+use Rattle.contraction.proofs.Looks.{no-lambda}
+use Rattle.contraction.proofs.Crossing.{function-words, type-stands, value-stands, value-form, inner, refused-told}
+
+module _ (ws : List ℕ) (form-number value end : ℕ) (p : Value ws form-number value end) where
+  function-amiss : (l : Lang) (t u : Ty) (v : Term (from l)) (k : List ℕ) → drop 1 ws ≡ putTy (t to u) (put v k) → (form-number ≡ 2 → ⊥)
+      → Tells ws (refusedRule (isScheme l) 2 value) (converted l (t to u) v)
+  unfolding toML toScheme
+  function-amiss ml t u v k q h =
+      subst (Tells ws (refusedRule false 2 value)) (sym (no-lambda (becomes (wrong 2 (t to u))) _ (value-form ws form-number value end p sc (t to u) v k q form-number refl) h))
+      (refused-told ws form-number value end p sc (t to u) v k 2 q)
+  function-amiss sc t u v k q h =
+      subst (Tells ws Stuck) (sym (no-lambda nothing _ (value-form ws form-number value end p ml (t to u) v k q form-number refl) h)) refl
+
+  pub function-other : (scheme : Bool) → (form-number ≡ 2 → ⊥) → AtFunction ws scheme (refusedRule scheme 2 value)
+  function-other scheme h = record { of = λ t u. record { of = λ l v k q s. rw s (function-amiss l t u v k q h) } }
+
+  module _ (second : ℕ) (second-is : second ≡ 2 + span (drop 2 ws) 1) where
+    -- t stands from 2, and u from there up to the value.
+    from-stands : (l : Lang) (t u : Ty) (v : Term l) (k : List ℕ) → drop 1 ws ≡ putTy (t to u) (put v k)
+        → Stands type t (putTy u (put v k)) ws 2 second
+    unfolding putTy
+    from-stands l t u v k q =
+        stands type t (putTy u (put v k)) ws 2 second (inner ws form-number value end p 4 (putTy t (putTy u (put v k))) q) second-is
+
+    to-stands : (l : Lang) (t u : Ty) (v : Term l) (k : List ℕ) → drop 1 ws ≡ putTy (t to u) (put v k) → Stands type u (put v k) ws second value
+    unfolding sizeTy
+    to-stands l t u v k q =
+        let z = from-stands l t u v k q in
+        parts.sized type u (put v k) ws second value (z .after) (omega (arith, z .end, type-stands ws form-number value end p l (t to u) v k q .end))
+
+    pub function-absurd : (scheme : Bool) → value < second → AtFunction ws scheme Stuck
+    function-absurd scheme g =
+        record { of = λ t u. record { of = λ l v k q s. absurd (omega (arith, g, to-stands (from l) t u v k q .end)) } }
+
+    module _ (h : form-number ≡ 2) where
+      function-in-ml : (l : Lang) (t u : Ty) (v : Term (from l)) (k : List ℕ) → drop 1 ws ≡ putTy (t to u) (put v k) → false ≡ isScheme l
+          → Formed (from l) 2 v
+          → Tells ws (IntoML second value end) (converted l (t to u) v)
+      unfolding toML onLambda form put
+      function-in-ml ml t u v k q s (is-function r b) =
+          rw (from-stands sc t u v k q .own, to-stands sc t u v k q .own, value-stands ws form-number value end p sc (t to u) v k q .own)
+          (ap (λ (w : List ℕ). 18 ∷ w) (putTy-append t [] _ ∙ ap (λ (w : List ℕ). putTy t [] ++ w) (function-words 30 35 45 sc t u v (16 ∷ []))))
+      function-in-ml sc t u v k q s f = absurd (subst T (sym s) tt)
+
+      pub function-ml : AtFunction ws false (IntoML second value end)
+      function-ml =
+          record { of = λ t u. record { of = λ l v k q s. function-in-ml l t u v k q s (value-form ws form-number value end p (from l) (t to u) v k q 2 h) } }
+
+      function-in-scheme : (l : Lang) (t u : Ty) (v : Term (from l)) (k : List ℕ) → drop 1 ws ≡ putTy (t to u) (put v k) → true ≡ isScheme l
+          → Formed (from l) 2 v
+          → Tells ws (IntoScheme second value end) (converted l (t to u) v)
+      unfolding toScheme onLambda form put
+      function-in-scheme ml t u v k q s f = absurd (subst T s tt)
+      function-in-scheme sc t u v k q s (is-function r b) =
+          rw (from-stands ml t u v k q .own, to-stands ml t u v k q .own, value-stands ws form-number value end p ml (t to u) v k q .own)
+          (ap (λ (w : List ℕ). 34 ∷ w) (function-words 45 19 30 ml t u v (32 ∷ [])))
+
+      pub function-scheme : AtFunction ws true (IntoScheme second value end)
+      function-scheme =
+          record { of = λ t u. record { of = λ l v k q s. function-in-scheme l t u v k q s (value-form ws form-number value end p (from l) (t to u) v k q 2 h) } }
+
+-- The type by its first word.
+data TypeBy : ℕ → Ty → Type 0 where
+  by-N : TypeBy 1 N
+  by-L : TypeBy 2 L
+  by-list : (t : Ty) → TypeBy 3 (list t)
+  by-to : (t u : Ty) → TypeBy 4 (t to u)
+
+type-by : (t : Ty) (k : List ℕ) → TypeBy (getD (putTy t k) 0 0) t
+unfolding putTy
+type-by N k = by-N
+type-by L k = by-L
+type-by (list t) k = by-list t
+type-by (t to u) k = by-to t u
+
+-- Whichever type it is.
+sides : (ws : List ℕ) (r : Rule) → ((t : Ty) → TypeBy (getD (drop 1 ws) 0 0) t → AtType ws (eqb (getD ws 0 0) 45) r t) → OfBoundary ws r
+unfolding put
+sides ws r g =
+    record {
+      ms-told = λ t v k q.
+          let e : drop 1 ws ≡ putTy t (put v k) = ap (drop 1) q in
+          g t (subst (λ (n : ℕ). TypeBy n t) (sym (ap (λ (w : List ℕ). getD w 0 0) e)) (type-by t (put v k))) .of ml v k e (ap (λ (w : List ℕ). eqb (getD w 0 0) 45) q);
+      sm-told = λ t v k q.
+          let e : drop 1 ws ≡ putTy t (put v k) = ap (drop 1) q in
+          g t (subst (λ (n : ℕ). TypeBy n t) (sym (ap (λ (w : List ℕ). getD w 0 0) e)) (type-by t (put v k))) .of sc v k e (ap (λ (w : List ℕ). eqb (getD w 0 0) 45) q);
+    }
+
+module _ (ws : List ℕ) (r : Rule) (n : ℕ) (n-is : n ≡ getD (drop 1 ws) 0 0) where
+  abbrev At : Ty → Type 0
+  At t = AtType ws (eqb (getD ws 0 0) 45) r t
+
+  turned : ((t : Ty) → TypeBy n t → At t) → OfBoundary ws r
+  turned g = sides ws r (λ t b. g t (subst (λ (j : ℕ). TypeBy j t) (sym n-is) b))
+
+  only-N : At N → (t : Ty) (m : ℕ) → TypeBy m t → m ≡ 1 → At t
+  only-N g t m by-N e = g
+  only-N g t m by-L e = absurd (omega (arith, e))
+  only-N g t m (by-list s) e = absurd (omega (arith, e))
+  only-N g t m (by-to s u) e = absurd (omega (arith, e))
+
+  pub at-N : n ≡ 1 → At N → OfBoundary ws r
+  at-N e g = turned (λ t b. only-N g t n b e)
+
+  only-L : At L → (t : Ty) (m : ℕ) → TypeBy m t → m ≡ 2 → At t
+  only-L g t m by-N e = absurd (omega (arith, e))
+  only-L g t m by-L e = g
+  only-L g t m (by-list s) e = absurd (omega (arith, e))
+  only-L g t m (by-to s u) e = absurd (omega (arith, e))
+
+  pub at-L : n ≡ 2 → At L → OfBoundary ws r
+  at-L e g = turned (λ t b. only-L g t n b e)
+
+  only-list : AtList ws (eqb (getD ws 0 0) 45) r → (t : Ty) (m : ℕ) → TypeBy m t → m ≡ 3 → At t
+  only-list g t m by-N e = absurd (omega (arith, e))
+  only-list g t m by-L e = absurd (omega (arith, e))
+  only-list g t m (by-list s) e = g .of s
+  only-list g t m (by-to s u) e = absurd (omega (arith, e))
+
+  pub at-list : n ≡ 3 → AtList ws (eqb (getD ws 0 0) 45) r → OfBoundary ws r
+  at-list e g = turned (λ t b. only-list g t n b e)
+
+  only-function : AtFunction ws (eqb (getD ws 0 0) 45) r → (t : Ty) (m : ℕ) → TypeBy m t → (m ≡ 1 → ⊥) → (m ≡ 2 → ⊥) → (m ≡ 3 → ⊥) → At t
+  only-function g t m by-N a b c = absurd (a refl)
+  only-function g t m by-L a b c = absurd (b refl)
+  only-function g t m (by-list s) a b c = absurd (c refl)
+  only-function g t m (by-to s u) a b c = g .of s u
+
+  pub at-function : (n ≡ 1 → ⊥) → (n ≡ 2 → ⊥) → (n ≡ 3 → ⊥) → AtFunction ws (eqb (getD ws 0 0) 45) r → OfBoundary ws r
+  at-function a b c g = turned (λ t z. only-function g t n z a b c)
+
+-- No type, or no value after it.
+module _ (ws : List ℕ) (value : ℕ) (value-is : value ≡ 1 + span (drop 1 ws) 1) where
+  no-type : (l : Lang) (t : Ty) (v : Term l) (k : List ℕ) → drop 1 ws ≡ putTy t (put v k) → value < 2 → ⊥
+  no-type l t v k q h = omega (arith, h, value-is, span-tree type t (put v k) (drop 1 ws) q, sized (view type t))
+
+  pub boundary-none : value < 2 → OfBoundary ws Stuck
+  unfolding put
+  boundary-none h =
+      record { ms-told = λ t v k q. absurd (no-type sc t v k (ap (drop 1) q) h); sm-told = λ t v k q. absurd (no-type ml t v k (ap (drop 1) q) h) }
+
+  no-value : (l : Lang) (t : Ty) (v : Term l) (k : List ℕ) (end : ℕ) → end ≡ value + span (drop value ws) 1 → drop 1 ws ≡ putTy t (put v k)
+      → end < value + 1 → ⊥
+  no-value l t v k end e q h =
+      omega (arith, h, stands (term l) v k ws value end (stands type t (put v k) ws 1 value q value-is .after) e .end, size-some l v)
+
+  pub boundary-empty : (end : ℕ) → end ≡ value + span (drop value ws) 1 → end < value + 1 → OfBoundary ws Stuck
+  unfolding put
+  boundary-empty end e h =
+      record { ms-told = λ t v k q. absurd (no-value sc t v k end e (ap (drop 1) q) h); sm-told = λ t v k q. absurd (no-value ml t v k end e (ap (drop 1) q) h) }

@@ -1,0 +1,108 @@
+-- The ways out of choosing a rule for ms and sm at the type of a list, and of a function. Assumes nothing.
+use Prim.Native.Nat.{ℕ, _+_, _-_, _<_}
+use mathlib.Core.Bool.{Bool, true, false}
+use mathlib.Core.List.{List, _∷_}
+use mathlib.Core.Path.{_≡_, refl, sym, ap, _∙_, subst}
+use lib.Dec.{T}
+use lib.ListN.{drop}
+use lib.Seq.{drop-drop}
+use native.Mathlib.Omega.{arith}
+use Rattle.calculus.specs.Trees.{Ty, list, _to_, Lang, ml, sc, pair, Term, op2, nil, wrong, ms, sm}
+use Rattle.calculus.specs.Words.{word, put, putTy, size, sizeTy}
+use Rattle.calculus.specs.Kinds.{type, term}
+use Rattle.calculus.specs.Reduction.{form, becomes, nothing, onList, toML, toScheme}
+use Rattle.writing.specs.Spans.{span}
+use Rattle.contraction.specs.declared.rules.Rule.the-variants.{Stuck, Led, Items}
+use Rattle.contraction.specs.Forms.{isScheme}
+use Rattle.contraction.specs.Told.{Tells, refusedRule, from, converted}
+use Rattle.contraction.specs.Chosen.{Value, AtList}
+use Rattle.contraction.proofs.Views.{Formed, is-empty, is-pair}
+use Rattle.contraction.proofs.Parts.{Stands, sized, stands}
+use Rattle.contraction.proofs.Looks.{no-list}
+use Rattle.contraction.proofs.Crossing.{items-words, type-stands, value-stands, value-form, inner, refused-told}
+
+module _ (ws : List ℕ) (form-number value end : ℕ) (p : Value ws form-number value end) where
+  -- The element's type stands from 2 up to the value.
+  element : (l : Lang) (t : Ty) (v : Term l) (k : List ℕ) → drop 1 ws ≡ putTy (list t) (put v k) → Stands type t (put v k) ws 2 value
+  unfolding putTy sizeTy
+  element l t v k q =
+      sized type t (put v k) ws 2 value (inner ws form-number value end p 3 (putTy t (put v k)) q) (omega (arith, type-stands ws form-number value end p l (list t) v k q .end))
+
+  list-amiss : (l : Lang) (t : Ty) (v : Term (from l)) (k : List ℕ) → drop 1 ws ≡ putTy (list t) (put v k) → (form-number ≡ 3 → ⊥)
+      → (form-number ≡ 4 → ⊥)
+      → Tells ws (refusedRule (isScheme l) 3 value) (converted l (list t) v)
+  unfolding toML toScheme
+  list-amiss ml t v k q h g =
+      subst (Tells ws (refusedRule false 3 value)) (sym (no-list (becomes (wrong 3 (list t))) _ _ (value-form ws form-number value end p sc (list t) v k q form-number refl) h g))
+      (refused-told ws form-number value end p sc (list t) v k 3 q)
+  list-amiss sc t v k q h g =
+      subst (Tells ws Stuck) (sym (no-list nothing _ _ (value-form ws form-number value end p ml (list t) v k q form-number refl) h g)) refl
+
+  pub list-other : (scheme : Bool) → (form-number ≡ 3 → ⊥) → (form-number ≡ 4 → ⊥) → AtList ws scheme (refusedRule scheme 3 value)
+  list-other scheme h g = record { of = λ t. record { of = λ l v k q s. rw s (list-amiss l t v k q h g) } }
+
+  nil-in-ml : (l : Lang) (t : Ty) (v : Term (from l)) (k : List ℕ) → drop 1 ws ≡ putTy (list t) (put v k) → false ≡ isScheme l → Formed (from l) 3 v
+      → Tells ws (Led 24 2 value) (converted l (list t) v)
+  unfolding toML onList form put
+  nil-in-ml ml t v k q s (is-empty u) = ap (λ (w : List ℕ). 24 ∷ w) (sym (element sc t v k q .own))
+  nil-in-ml sc t v k q s f = absurd (subst T (sym s) tt)
+
+  pub nil-ml : form-number ≡ 3 → AtList ws false (Led 24 2 value)
+  nil-ml h =
+      record { of = λ t. record { of = λ l v k q s. nil-in-ml l t v k q s (value-form ws form-number value end p (from l) (list t) v k q 3 h) } }
+
+  nil-in-scheme : (l : Lang) (t : Ty) (v : Term (from l)) → true ≡ isScheme l → Formed (from l) 3 v → Tells ws (Led 39 0 0) (converted l (list t) v)
+  unfolding toScheme onList form put
+  nil-in-scheme ml t v s f = absurd (subst T s tt)
+  nil-in-scheme sc t v s (is-empty u) = refl
+
+  pub nil-scheme : form-number ≡ 3 → AtList ws true (Led 39 0 0)
+  nil-scheme h =
+      record { of = λ t. record { of = λ l v k q s. nil-in-scheme l t v s (value-form ws form-number value end p (from l) (list t) v k q 3 h) } }
+
+  module _ (tail : ℕ) (tail-is : tail ≡ value + 1 + span (drop (value + 1) ws) 1) (h : form-number ≡ 4) where
+    head-stands : (l : Lang) (t : Ty) (a b : Term l) (k : List ℕ) → drop 1 ws ≡ putTy (list t) (put (op2 pair a b) k)
+        → Stands (term l) a (put b k) ws (value + 1) tail
+    unfolding put
+    head-stands l t a b k q =
+        stands (term l) a (put b k) ws (value + 1) tail (sym (drop-drop 1 value ws) ∙ ap (drop 1) (type-stands ws form-number value end p l (list t) (op2 pair a b) k q .after)) tail-is
+
+    tail-stands : (l : Lang) (t : Ty) (a b : Term l) (k : List ℕ) → drop 1 ws ≡ putTy (list t) (put (op2 pair a b) k)
+        → Stands (term l) b k ws tail end
+    unfolding size
+    tail-stands l t a b k q =
+        let z = head-stands l t a b k q in
+        sized (term l) b k ws tail end (z .after) (omega (arith, z .end, value-stands ws form-number value end p l (list t) (op2 pair a b) k q .end))
+
+    pair-order : (l : Lang) (t : Ty) (v : Term l) (k : List ℕ) → drop 1 ws ≡ putTy (list t) (put v k) → end < tail → Formed l 4 v → ⊥
+    pair-order l t v k q g (is-pair a b) = omega (arith, g, tail-stands l t a b k q .end)
+
+    pub pair-absurd : (scheme : Bool) → end < tail → AtList ws scheme Stuck
+    pair-absurd scheme g =
+        record { of = λ t. record { of = λ l v k q s. absurd (pair-order (from l) t v k q g (value-form ws form-number value end p (from l) (list t) v k q 4 h)) } }
+
+    pair-in-ml : (l : Lang) (t : Ty) (v : Term (from l)) (k : List ℕ) → drop 1 ws ≡ putTy (list t) (put v k) → false ≡ isScheme l
+        → Formed (from l) 4 v
+        → Tells ws (Items 25 30 value tail end) (converted l (list t) v)
+    unfolding toML onList form put putTy
+    pair-in-ml ml t v k q s (is-pair a b) =
+        rw (element sc t v k q .own, type-stands ws form-number value end p sc (list t) v k q .own, head-stands sc t a b k q .own, tail-stands sc t a b k q .own)
+        (items-words 25 30 sc t a b)
+    pair-in-ml sc t v k q s f = absurd (subst T (sym s) tt)
+
+    pub pair-ml : AtList ws false (Items 25 30 value tail end)
+    pair-ml =
+        record { of = λ t. record { of = λ l v k q s. pair-in-ml l t v k q s (value-form ws form-number value end p (from l) (list t) v k q 4 h) } }
+
+    pair-in-scheme : (l : Lang) (t : Ty) (v : Term (from l)) (k : List ℕ) → drop 1 ws ≡ putTy (list t) (put v k) → true ≡ isScheme l
+        → Formed (from l) 4 v
+        → Tells ws (Items 40 45 value tail end) (converted l (list t) v)
+    unfolding toScheme onList form put putTy
+    pair-in-scheme ml t v k q s f = absurd (subst T s tt)
+    pair-in-scheme sc t v k q s (is-pair a b) =
+        rw (element ml t v k q .own, type-stands ws form-number value end p ml (list t) v k q .own, head-stands ml t a b k q .own, tail-stands ml t a b k q .own)
+        (items-words 40 45 ml t a b)
+
+    pub pair-scheme : AtList ws true (Items 40 45 value tail end)
+    pair-scheme =
+        record { of = λ t. record { of = λ l v k q s. pair-in-scheme l t v k q s (value-form ws form-number value end p (from l) (list t) v k q 4 h) } }

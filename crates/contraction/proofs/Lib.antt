@@ -1,0 +1,10 @@
+pub mod Views
+pub mod Parts
+pub mod Looks
+pub mod OnePart
+pub mod TwoPart
+pub mod Choice
+pub mod Crossing
+pub mod CrossingLists
+pub mod CrossingFunctions
+pub mod Dispatch

@@ -1,0 +1,99 @@
+-- What a rule's look at a value's form comes to: the other way, where the value has another form. Assumes nothing.
+use Prim.Native.Nat.{ℕ, _+_, _/_, _≤_}
+use lib.ListN.{getD}
+use mathlib.Core.Bool.{Bool, true, false, cond}
+use lib.Dec.{eqb, leb}
+use borrow.Author.Tests.{leb-true}
+use mathlib.Core.List.{List}
+use mathlib.Core.Path.{_≡_, refl, ap, _∙_}
+use native.Mathlib.Omega.{arith}
+use Rattle.calculus.specs.Trees.{Lang, ml, sc, Static, Term, num}
+use Rattle.calculus.specs.Words.{put}
+use Rattle.calculus.specs.Reduction.{form, Became, becomes, amiss, onNumber, onLambda, onList, onLump}
+use Rattle.contraction.specs.declared.rules.Rule.the-variants.{Stuck, Number}
+use Rattle.contraction.specs.Forms.{isScheme}
+use Rattle.contraction.specs.Told.{Tells, Placed, amissRule, nullRule, numberRule, refusedRule, overRule, sumRule}
+use Rattle.contraction.proofs.Views.{Formed, is-number, is-function, is-empty, is-pair, is-lump, is-other}
+
+module _ {m : Lang} (o : Became m) where
+  pub no-number : {l : Lang} {v : Term l} {n : ℕ} (k : ℕ → Became m) → Formed l n v → (n ≡ 1 → ⊥) → onNumber (form v) o k ≡ o
+  unfolding onNumber form
+  no-number k (is-number n) h = absurd (h refl)
+  no-number k (is-function t b) h = refl
+  no-number k (is-empty t) h = refl
+  no-number k (is-pair v w) h = refl
+  no-number k (is-lump v) h = refl
+  no-number k (is-other q) h = ap (λ f. onNumber f o k) q
+
+  pub no-lambda : {l : Lang} {v : Term l} {n : ℕ} (k : Static l → Term l → Became m) → Formed l n v → (n ≡ 2 → ⊥) → onLambda (form v) o k ≡ o
+  unfolding onLambda form
+  no-lambda k (is-number n) h = refl
+  no-lambda k (is-function t b) h = absurd (h refl)
+  no-lambda k (is-empty t) h = refl
+  no-lambda k (is-pair v w) h = refl
+  no-lambda k (is-lump v) h = refl
+  no-lambda k (is-other q) h = ap (λ f. onLambda f o k) q
+
+  pub no-list : {l : Lang} {v : Term l} {n : ℕ} (e : Static l → Became m) (k : Term l → Term l → Became m) → Formed l n v → (n ≡ 3 → ⊥) → (n ≡ 4 → ⊥)
+      → onList (form v) o e k ≡ o
+  unfolding onList form
+  no-list e k (is-number n) h g = refl
+  no-list e k (is-function t b) h g = refl
+  no-list e k (is-empty t) h g = absurd (h refl)
+  no-list e k (is-pair v w) h g = absurd (g refl)
+  no-list e k (is-lump v) h g = refl
+  no-list e k (is-other q) h g = ap (λ f. onList f o e k) q
+
+pub no-lump : {m : Lang} (o : Became m) {v : Term ml} {n : ℕ} (k : Term _ → Became m) → Formed ml n v → (n ≡ 5 → ⊥) → onLump (form v) o k ≡ o
+unfolding onLump form
+no-lump o k (is-number n) h = refl
+no-lump o k (is-function t b) h = refl
+no-lump o k (is-empty t) h = refl
+no-lump o k (is-pair v w) h = refl
+no-lump o k (is-lump v) h = absurd (h refl)
+no-lump o k (is-other q) h = ap (λ f. onLump f o k) q
+
+-- A value that no rule takes.
+pub amiss-told : (ws : List ℕ) (l : Lang) (c : ℕ) → Tells ws (amissRule (isScheme l) c) (amiss l c)
+unfolding amiss put
+amiss-told ws ml c = refl
+amiss-told ws sc c = refl
+
+pub amiss-placed : (n : ℕ) (s : Bool) (c : ℕ) → Placed n (amissRule s c)
+amiss-placed n true c = (omega arith, omega arith)
+amiss-placed n false c = tt
+
+pub null-placed : (n form : ℕ) → Placed n (nullRule form)
+null-placed n form = cases (eqb form 3) (eqb form 4)
+  where
+    cases : (a b : Bool) → Placed n (cond a (Number 17 0) (cond b (Number 17 1) Stuck))
+    cases true b = (omega arith, omega arith)
+    cases false true = (omega arith, omega arith)
+    cases false false = tt
+
+-- A number of a language, as a rule and as a word.
+pub number-told : (ws : List ℕ) (l : Lang) (n : ℕ) → Tells {l = l} ws (numberRule (isScheme l) n) (becomes (num n))
+unfolding put
+number-told ws ml n = refl
+number-told ws sc n = refl
+
+pub number-of : (l : Lang) (n : ℕ) (k ws : List ℕ) → ws ≡ put (num {l = l} n) k → getD ws 0 0 / 256 ≡ n
+unfolding put
+number-of ml n k ws q = ap (λ (v : List ℕ). getD v 0 0 / 256) q ∙ omega arith
+number-of sc n k ws q = ap (λ (v : List ℕ). getD v 0 0 / 256) q ∙ omega arith
+
+pub number-placed : (n : ℕ) (s : Bool) (m : ℕ) → m ≤ 16777215 → Placed n (numberRule s m)
+number-placed n true m h = (omega arith, h)
+number-placed n false m h = (omega arith, h)
+
+pub refused-placed : (n : ℕ) (s : Bool) (c v : ℕ) → 1 ≤ v → v ≤ n → Placed n (refusedRule s c v)
+refused-placed n true c v h g = tt
+refused-placed n false c v h g = (h, g)
+
+pub sum-placed : (n : ℕ) (s : Bool) (a b : ℕ) → Placed n (sumRule s a b)
+sum-placed n s a b = cases (leb (a + b) 16777215) refl s
+  where
+    cases : (t : Bool) → leb (a + b) 16777215 ≡ t → (s : Bool) → Placed n (cond t (numberRule s (a + b)) (overRule s))
+    cases true e s = number-placed n s (a + b) (leb-true (a + b) 16777215 e)
+    cases false e true = (omega arith, omega arith)
+    cases false e false = (omega arith, omega arith)

@@ -1,0 +1,142 @@
+-- Terms by the number of their shape, and values by that of their form. Assumes nothing.
+use Prim.Native.Nat.{ℕ, _%_, _<_, _≤_}
+use mathlib.Core.List.{List, [], _∷_}
+use mathlib.Core.Path.{_≡_, refl, sym, ap, _∙_, subst}
+use lib.Dec.{eqb}
+use lib.ListN.{length, getD}
+use borrow.Author.Tests.{ne-eqb}
+use native.Mathlib.Omega.{arith}
+use Rattle.calculus.specs.Trees.{Ty, N, L, list, _to_, Lang, ml, sc, Static, isFun, isList, isNull, isNum, Op1, head, tail, fixpoint, empty, testing, Op2, apply, plus, minus, pair, Term, var, num, lam, op1, op2, if0, nil, wrong, ms, sm}
+use Rattle.calculus.specs.Words.{word, by, put, putTy, size}
+use Rattle.calculus.specs.Kinds.{term}
+use Rattle.calculus.specs.Reduction.{Form, number, lambda, other, form}
+use Rattle.calculus.proofs.Views.{view, sized}
+use Rattle.nodes.specs.Table.{shapeNumber, rowOf}
+use Rattle.writing.proofs.Trees.{head-is, shape-is}
+use Rattle.contraction.specs.Forms.{formNumber, formBy, formAt}
+
+-- A term by its shape.
+pub data Shaped : (l : Lang) → ℕ → Term l → Type 0 where
+  a-variable : {l : Lang} {i : ℕ} → Shaped l 1 (var i)
+  a-number : {l : Lang} {n : ℕ} → Shaped l 2 (num n)
+  a-lambda : {l : Lang} {t : Static l} {b : Term l} → Shaped l 3 (lam t b)
+  one-part : {l : Lang} (o : Op1 l) (a : Term l) → Shaped l 4 (op1 o a)
+  two-parts : {l : Lang} (o : Op2) (a b : Term l) → Shaped l 5 (op2 o a b)
+  a-choice : {l : Lang} (a b c : Term l) → Shaped l 6 (if0 a b c)
+  a-nil : {l : Lang} {t : Static l} → Shaped l 7 (nil t)
+  a-wrong : {l : Lang} (c : ℕ) (t : Static l) → Shaped l 8 (wrong c t)
+  an-ms : (t : Ty) (a : Term sc) → Shaped ml 9 (ms t a)
+  an-sm : (t : Ty) (a : Term ml) → Shaped sc 9 (sm t a)
+
+shaped : (l : Lang) (e : Term l) → Shaped l (shapeNumber (term l) e) e
+shaped l (var i) = a-variable
+shaped l (num n) = a-number
+shaped l (lam t b) = a-lambda
+shaped l (op1 o a) = one-part o a
+shaped l (op2 o a b) = two-parts o a b
+shaped l (if0 a b c) = a-choice a b c
+shaped l (nil t) = a-nil
+shaped l (wrong c t) = a-wrong c t
+shaped ml (ms t a) = an-ms t a
+shaped sc (sm t a) = an-sm t a
+
+-- The term that stands at the start of the words, by the shape of their first word.
+pub by-shape : (l : Lang) (e : Term l) (k ws : List ℕ) → ws ≡ put e k → (n : ℕ) → rowOf (getD ws 0 0 % 256) .shape ≡ n → Shaped l n e
+by-shape l e k ws q n h =
+    subst (λ (j : ℕ). Shaped l j e) (sym (shape-is (term l) e) ∙ ap (λ (w : ℕ). rowOf (w % 256) .shape) (sym (head-is (term l) e k ws q)) ∙ h) (shaped l e)
+
+-- A value by its form.
+pub data Formed : (l : Lang) → ℕ → Term l → Type 0 where
+  is-number : {l : Lang} (n : ℕ) → Formed l 1 (num n)
+  is-function : {l : Lang} (t : Static l) (b : Term l) → Formed l 2 (lam t b)
+  is-empty : {l : Lang} (t : Static l) → Formed l 3 (nil t)
+  is-pair : {l : Lang} (v w : Term l) → Formed l 4 (op2 pair v w)
+  is-lump : (v : Term sc) → Formed ml 5 (ms L v)
+  is-other : {l : Lang} {e : Term l} → form e ≡ other → Formed l 0 e
+
+unfoldable pub formed : (l : Lang) (e : Term l) → Formed l (formNumber (form e)) e
+unfolding form
+formed l (var i) = is-other refl
+formed l (num n) = is-number n
+formed l (lam t b) = is-function t b
+formed l (op1 o a) = is-other refl
+formed l (op2 apply a b) = is-other refl
+formed l (op2 plus a b) = is-other refl
+formed l (op2 minus a b) = is-other refl
+formed l (op2 pair a b) = is-pair a b
+formed l (if0 a b c) = is-other refl
+formed l (nil t) = is-empty t
+formed l (wrong c t) = is-other refl
+formed ml (ms N a) = is-other refl
+formed ml (ms L a) = is-lump a
+formed ml (ms (list t) a) = is-other refl
+formed ml (ms (t to u) a) = is-other refl
+formed sc (sm t a) = is-other refl
+
+-- The form is told by the first two words.
+form-by : (l : Lang) (e : Term l) (k : List ℕ) → formNumber (form e) ≡ formBy (shapeNumber (term l) e) (getD (put e k) 0 0) (getD (put e k) 1 0)
+unfolding form put putTy
+form-by ml (var i) k =
+    rw (ne-eqb (word 16 i) 25 (λ e. omega (arith, e)), ne-eqb (word 16 i) 40 (λ e. omega (arith, e)), ne-eqb (word 16 i) 30 (λ e. omega (arith, e)))
+form-by sc (var i) k =
+    rw (ne-eqb (word 32 i) 25 (λ e. omega (arith, e)), ne-eqb (word 32 i) 40 (λ e. omega (arith, e)), ne-eqb (word 32 i) 30 (λ e. omega (arith, e)))
+form-by l (num n) k = refl
+form-by l (lam t b) k = refl
+form-by ml (op1 head a) k = refl
+form-by ml (op1 tail a) k = refl
+form-by ml (op1 fixpoint a) k = refl
+form-by ml (op1 empty a) k = refl
+form-by sc (op1 head a) k = refl
+form-by sc (op1 tail a) k = refl
+form-by sc (op1 (testing isFun) a) k = refl
+form-by sc (op1 (testing isList) a) k = refl
+form-by sc (op1 (testing isNull) a) k = refl
+form-by sc (op1 (testing isNum) a) k = refl
+form-by ml (op2 apply a b) k = refl
+form-by ml (op2 plus a b) k = refl
+form-by ml (op2 minus a b) k = refl
+form-by ml (op2 pair a b) k = refl
+form-by sc (op2 apply a b) k = refl
+form-by sc (op2 plus a b) k = refl
+form-by sc (op2 minus a b) k = refl
+form-by sc (op2 pair a b) k = refl
+form-by ml (if0 a b c) k = refl
+form-by sc (if0 a b c) k = refl
+form-by l (nil t) k = refl
+form-by ml (wrong c t) k =
+    rw (ne-eqb (word 29 c) 25 (λ e. omega (arith, e)), ne-eqb (word 29 c) 40 (λ e. omega (arith, e)), ne-eqb (word 29 c) 30 (λ e. omega (arith, e)))
+form-by sc (wrong c t) k =
+    rw (ne-eqb (word 44 c) 25 (λ e. omega (arith, e)), ne-eqb (word 44 c) 40 (λ e. omega (arith, e)), ne-eqb (word 44 c) 30 (λ e. omega (arith, e)))
+form-by ml (ms N a) k = refl
+form-by ml (ms L a) k = refl
+form-by ml (ms (list t) a) k = refl
+form-by ml (ms (t to u) a) k = refl
+form-by sc (sm t a) k = refl
+
+pub form-at : (l : Lang) (e : Term l) (k ws : List ℕ) → ws ≡ put e k → formAt ws ≡ formNumber (form e)
+unfolding formAt
+form-at l e k ws q =
+    ap (λ (s : ℕ). formBy s (getD ws 0 0) (getD ws 1 0)) (ap (λ (w : ℕ). rowOf (w % 256) .shape) (head-is (term l) e k ws q) ∙ shape-is (term l) e)
+    ∙ ap (λ (l′ : List ℕ). formBy (shapeNumber (term l) e) (getD l′ 0 0) (getD l′ 1 0)) q ∙ sym (form-by l e k)
+
+-- The value that stands at the start of the words, by their form.
+pub by-form : (l : Lang) (e : Term l) (k ws : List ℕ) → ws ≡ put e k → (n : ℕ) → formAt ws ≡ n → Formed l n e
+by-form l e k ws q n h = subst (λ (j : ℕ). Formed l j e) (sym (form-at l e k ws q) ∙ h) (formed l e)
+
+-- The form by the code's row; and no form where there are no words.
+pub form-is : (ws : List ℕ) (s n : ℕ) → s ≡ rowOf (getD ws 0 0 % 256) .shape → formBy s (getD ws 0 0) (getD ws 1 0) ≡ n → n ≡ formAt ws
+unfolding formAt
+form-is ws s n e q = sym q ∙ ap (λ (j : ℕ). formBy j (getD ws 0 0) (getD ws 1 0)) e
+
+pub form-none : (ws : List ℕ) → length ws < 1 → 0 ≡ formAt ws
+unfolding formAt rowOf
+form-none [] h = refl
+form-none (w ∷ ws) h = absurd (omega (arith, h))
+
+pub form-rest : (ws : List ℕ) (s n : ℕ) → s ≡ rowOf (getD ws 0 0 % 256) .shape → (s ≡ 2 → ⊥) → (s ≡ 3 → ⊥) → (s ≡ 7 → ⊥)
+    → formBy 0 (getD ws 0 0) (getD ws 1 0) ≡ n → n ≡ formAt ws
+form-rest ws s n e a b c q = form-is ws s n e (rw (ne-eqb s 2 a, ne-eqb s 3 b, ne-eqb s 7 c) q)
+
+-- A term has at least one word.
+pub size-some : (l : Lang) (e : Term l) → 1 ≤ size e
+size-some l e = omega (arith, sized (view (term l) e))

@@ -1,0 +1,68 @@
+-- `contraction::choices::chosen` meets its contract: each way out is one law of Dispatch. Assumes nothing.
+use borrow.Author.Needs.{needs}
+use mathlib.Core.Path.{ap}
+use Prim.Native.Nat.{_-_}
+use native.Mathlib.Omega.{arith}
+use Rattle.contraction.proofs.Dispatch.{node-none, node-wrong, node-one, node-two, node-if, node-boundary, node-other}
+use borrow.Author.Needs.{needs}
+use Rattle.contraction.proofs.choices.chosen.Statement.{statement}
+use Rattle.contraction.proofs.choices.chosen.Tie as tie
+
+returns : tie.Need-returns
+returns c = (tt, node-none _ (c .if1 .taken))
+
+shared-slice-read-w : tie.Need-shared-slice-read-w
+shared-slice-read-w c = search needs
+
+row-at-requires : tie.Need-row-at-requires
+row-at-requires c κs = search needs
+
+returns-2 : tie.Need-returns-2
+returns-2 c = (tt, node-wrong _ _ (ap (λ r. r .shape) (c .before .row-at .ensures)) (c .if2 .taken))
+
+of-one-requires : tie.Need-of-one-requires
+of-one-requires c κs = (c .before .before .before .before .before .before .pre .0, c .before .before .before .before .before .before .pre .1, omega (arith, c .before .before .before .before .if1 .left))
+
+returns-3 : tie.Need-returns-3
+returns-3 c = let g = c .of-one .ensures in (g .0, node-one _ _ (ap (λ r. r .shape) (c .before .before .before .row-at .ensures)) _ (c .before .if3 .taken) (g .1))
+
+of-two-requires : tie.Need-of-two-requires
+of-two-requires c κs = (c .before .before .before .before .before .before .before .pre .0, c .before .before .before .before .before .before .before .pre .1, omega (arith, c .before .before .before .before .before .if1 .left))
+
+returns-4 : tie.Need-returns-4
+returns-4 c = let g = c .of-two .ensures in (g .0, node-two _ _ (ap (λ r. r .shape) (c .before .before .before .before .row-at .ensures)) _ (c .before .if4 .taken) (g .1))
+
+of-if-requires : tie.Need-of-if-requires
+of-if-requires c κs = (c .before .before .before .before .before .before .before .before .pre .0, c .before .before .before .before .before .before .before .before .pre .1, omega (arith, c .before .before .before .before .before .before .if1 .left))
+
+returns-5 : tie.Need-returns-5
+returns-5 c = let g = c .of-if .ensures in (g .0, node-if _ _ (ap (λ r. r .shape) (c .before .before .before .before .before .row-at .ensures)) _ (c .before .if5 .taken) (g .1))
+
+of-boundary-requires : tie.Need-of-boundary-requires
+of-boundary-requires c κs = (c .before .before .before .before .before .before .before .before .before .pre .0, c .before .before .before .before .before .before .before .before .before .pre .1, omega (arith, c .before .before .before .before .before .before .before .if1 .left))
+
+returns-6 : tie.Need-returns-6
+returns-6 c =
+    let g = c .of-boundary .ensures in
+    (g .0, node-boundary _ _ (ap (λ r. r .shape) (c .before .before .before .before .before .before .row-at .ensures)) _ (c .before .if6 .taken) (g .1))
+
+returns-7 : tie.Need-returns-7
+returns-7 c = (tt, node-other _ _ (ap (λ r. r .shape) (c .before .before .before .before .before .row-at .ensures)) (c .before .before .before .before .if2 .left) (c .before .before .before .if3 .left) (c .before .before .if4 .left) (c .before .if5 .left) (c .if6 .left))
+
+pub chosen-spec : {M : Type 1} → statement M
+chosen-spec =
+    tie.close
+    (tie.spec
+    returns
+    shared-slice-read-w
+    row-at-requires
+    returns-2
+    of-one-requires
+    returns-3
+    of-two-requires
+    returns-4
+    of-if-requires
+    returns-5
+    of-boundary-requires
+    returns-6
+    returns-7)

@@ -1,0 +1,87 @@
+-- `contraction::forms::form_at` meets its contract. Assumes nothing.
+use borrow.Author.Needs.{needs}
+use borrow.Author.Tests.{eq-eqb, ne-eqb}
+use mathlib.Core.Path.{_≡_, ap}
+use lib.ListN.{getD, List·getD-eq-default}
+use native.Mathlib.Omega.{arith}
+use Prim.Native.Nat.{ℕ}
+use Rattle.contraction.specs.Forms.{formBy, formAt}
+use Rattle.contraction.proofs.Views.{form-is, form-none, form-rest}
+use borrow.Author.Needs.{needs}
+use Rattle.contraction.proofs.forms.form_at.Statement.{statement}
+use Rattle.contraction.proofs.forms.form_at.Tie as tie
+
+-- The first word's shape is none of the three that tell a form.
+module _ (c : tie.Else4) where
+  rest : (n : ℕ) → formBy 0 (getD (c .before .before .before .before .before .before .before .args .words .now) 0 0) (getD (c .before .before .before .before .before .before .before .args .words .now) 1 0) ≡ n → n ≡ formAt (c .before .before .before .before .before .before .before .args .words .now)
+  rest n q =
+      let r = c .before .before .before .row-at in
+      form-rest _ _ n (ap (λ r. r .shape) (r .ensures)) (c .before .before .if2 .left) (c .before .if3 .left) (c .if4 .left) q
+
+returns : tie.Need-returns
+returns c = form-none _ (c .if1 .taken)
+
+shared-slice-read-w : tie.Need-shared-slice-read-w
+shared-slice-read-w c = search needs
+
+row-at-requires : tie.Need-row-at-requires
+row-at-requires c κs = search needs
+
+returns-2 : tie.Need-returns-2
+returns-2 c = let r = c .before .row-at in form-is _ _ 1 (ap (λ r. r .shape) (r .ensures)) (rw (eq-eqb (r .result .shape) 2 (c .if2 .taken)))
+
+returns-3 : tie.Need-returns-3
+returns-3 c =
+    let r = c .before .before .row-at in
+    form-is _ _ 2 (ap (λ r. r .shape) (r .ensures)) (rw (ne-eqb (r .result .shape) 2 (c .before .if2 .left), eq-eqb (r .result .shape) 3 (c .if3 .taken)))
+
+returns-4 : tie.Need-returns-4
+returns-4 c =
+    let r = c .before .before .before .row-at in
+    form-is _ _ 3 (ap (λ r. r .shape) (r .ensures))
+    (rw (ne-eqb (r .result .shape) 2 (c .before .before .if2 .left), ne-eqb (r .result .shape) 3 (c .before .if3 .left), eq-eqb (r .result .shape) 7 (c .if4 .taken)))
+
+returns-5 : tie.Need-returns-5
+returns-5 c = rest (c .before) 4 (rw (c .if5 .taken))
+
+returns-6 : tie.Need-returns-6
+returns-6 c = rest (c .before .before) 4 (rw (c .if6 .taken))
+
+returns-7 : tie.Need-returns-7
+returns-7 c =
+    let w = getD (c .before .before .before .before .before .before .before .before .before .before .args .words .now) 0 0 in
+    rest (c .before .before .before) 0 (rw (ne-eqb w 25 (c .before .before .if5 .left), ne-eqb w 40 (c .before .if6 .left), ne-eqb w 30 (c .if7 .taken)))
+
+returns-8 : tie.Need-returns-8
+returns-8 c =
+    let ws = c .before .before .before .before .before .before .before .before .before .before .before .args .words .now in
+    rest (c .before .before .before .before) 0 (rw (c .before .if7 .left, List·getD-eq-default ws 0 {n = 1} (omega arith)))
+
+shared-slice-read-if9 : tie.Need-shared-slice-read-if9
+shared-slice-read-if9 c = search needs
+
+returns-9 : tie.Need-returns-9
+returns-9 c = rest (c .before .before .before .before .before .before) 5 (rw (c .before .before .before .if7 .left, c .if9 .taken))
+
+returns-10 : tie.Need-returns-10
+returns-10 c =
+    let ws = c .before .before .before .before .before .before .before .before .before .before .before .before .before .args .words .now in
+    rest (c .before .before .before .before .before .before) 0 (rw (c .before .before .before .if7 .left, ne-eqb (getD ws 1 0) 2 (c .if9 .left)))
+
+pub form-at-spec : {M : Type 1} → statement M
+form-at-spec =
+    tie.close
+    (tie.spec
+    returns
+    shared-slice-read-w
+    row-at-requires
+    returns-2
+    returns-3
+    returns-4
+    returns-5
+    returns-6
+    returns-7
+    returns-8
+    shared-slice-read-if9
+    returns-9
+    returns-10)

@@ -1,0 +1,109 @@
+-- `contraction::pieces::items` meets its contract. Assumes nothing.
+use borrow.Author.Needs.{needs}
+use Prim.Native.Nat.{_+_, _-_}
+use lib.ListN.{length}
+use native.Mathlib.Omega.{arith}
+use Rattle.writing.proofs.Stores.{then}
+use Rattle.contraction.proofs.Dispatch.{stretch-length}
+use borrow.Author.Needs.{needs}
+use Rattle.contraction.proofs.pieces.items.Statement.{statement}
+use Rattle.contraction.proofs.pieces.items.Tie as tie
+
+put-requires : tie.Need-put-requires
+put-requires c κs = search needs
+
+lead-requires : tie.Need-lead-requires
+lead-requires c κs =
+    let s = c .before .before .before .before .before .before .before in
+    let w = c .before .before .before .put .ensures .place in
+    let p = s .pre .1 in
+    (s .pre .0 .0, p .0, omega (arith, p .1, p .2, p .3), omega (arith, w, s .pre .0 .1))
+
+add-copy : tie.Need-add-copy
+add-copy c = search needs
+
+mul-copy : tie.Need-mul-copy
+mul-copy c = search needs
+
+sub-copy : tie.Need-sub-copy
+sub-copy c = let p = c .before .before .before .before .before .before .before .before .before .before .pre .1 in omega (arith, p .1, p .2, p .3)
+
+part-copy-start : tie.Need-part-copy-start
+part-copy-start c = let p = c .before .before .before .before .before .before .before .before .before .before .pre .1 in omega (arith, p .1, p .2, p .3)
+
+part-copy-end : tie.Need-part-copy-end
+part-copy-end c = let p = c .before .before .before .before .before .before .before .before .before .before .pre .1 in omega (arith, p .1, p .2, p .3)
+
+copy-requires : tie.Need-copy-requires
+copy-requires c κs =
+    let s = c .before .before .before .before .before .before .before .before .before .before .before .before in
+    let l = stretch-length (s .args .words .now) (s .args .value + 1) (s .args .tail) in
+    omega (arith, l, c .before .before .before .before .before .before .before .before .put .ensures .place, c .before .before .before .before .lead .ensures .1 .1, s .pre .0)
+
+lead-requires-2 : tie.Need-lead-requires-2
+lead-requires-2 c κs =
+    let s = c .before .before .before .before .before .before .before .before .before .before .before .before .before .before .before .before in
+    let l = stretch-length (s .args .words .now) (s .args .value + 1) (s .args .tail) in
+    let p = s .pre .1 in (
+      s .pre .0 .0,
+      omega (arith, p .0),
+      omega (arith, p .1, p .2, p .3),
+      omega (arith, l, c .before .before .before .before .before .before .before .before .before .before .before .before .put .ensures .place, c .before .before .before .before .before .before .before .before .lead .ensures .1 .1, c .before .before .before .copy .ensures .place, s .pre .0),
+    )
+
+mul-copy-2 : tie.Need-mul-copy-2
+mul-copy-2 c = search needs
+
+sub-copy-2 : tie.Need-sub-copy-2
+sub-copy-2 c = search needs
+
+part-copy-start-2 : tie.Need-part-copy-start-2
+part-copy-start-2 c = search needs
+
+part-copy-end-2 : tie.Need-part-copy-end-2
+part-copy-end-2 c = search needs
+
+copy-requires-2 : tie.Need-copy-requires-2
+copy-requires-2 c κs =
+    let s = c .before .before .before .before .before .before .before .before .before .before .before .before .before .before .before .before .before .before .before .before .before in
+    let l = stretch-length (s .args .words .now) (s .args .value + 1) (s .args .tail) in
+    let m = stretch-length (s .args .words .now) (s .args .tail) (s .args .end) in
+    omega (arith, l, m, c .before .before .before .before .before .before .before .before .before .before .before .before .before .before .before .before .before .put .ensures .place, c .before .before .before .before .before .before .before .before .before .before .before .before .before .lead .ensures .1 .1, c .before .before .before .before .before .before .before .before .copy .ensures .place, c .before .before .before .before .lead2 .ensures .1 .1, s .pre .0)
+
+same-length : tie.Need-same-length
+same-length c = search needs
+
+returns : tie.Need-returns
+returns c =
+    let s = c .before .before .before .before .before .before .before .before .before .before .before .before .before .before .before .before .before .before .before .before .before .before .before .before in
+    let l = stretch-length (s .args .words .now) (s .args .value + 1) (s .args .tail) in
+    let m = stretch-length (s .args .words .now) (s .args .tail) (s .args .end) in
+    let a = c .before .before .before .before .before .before .before .before .before .before .before .before .before .before .before .before .before .before .before .before .put .ensures in
+    let b = c .before .before .before .before .before .before .before .before .before .before .before .before .before .before .before .before .lead .ensures in
+    let d = c .before .before .before .before .before .before .before .before .before .before .before .copy .ensures in
+    let e = c .before .before .before .before .before .before .before .lead2 .ensures in
+    let f = c .before .before .copy2 .ensures in (
+      then a (then (b .0) (then d (then (e .0) f))),
+      (omega (arith, a .place, b .1 .0, d .place, e .1 .0, f .place), omega (arith, l, m, a .place, b .1 .1, d .place, e .1 .1, f .place, s .pre .0)),
+    )
+
+pub items-spec : {M : Type 1} → statement M
+items-spec =
+    tie.close
+    (tie.spec
+    put-requires
+    lead-requires
+    add-copy
+    mul-copy
+    sub-copy
+    part-copy-start
+    part-copy-end
+    copy-requires
+    lead-requires-2
+    mul-copy-2
+    sub-copy-2
+    part-copy-start-2
+    part-copy-end-2
+    copy-requires-2
+    same-length
+    returns)

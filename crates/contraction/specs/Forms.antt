@@ -1,0 +1,49 @@
+-- The form of a value by its first words, and the choices that hang on numbers alone.
+use Prim.Native.Nat.{ℕ, _%_}
+use mathlib.Core.Bool.{Bool, true, false, cond}
+use mathlib.Core.List.{List}
+use lib.Dec.{eqb}
+use lib.ListN.{getD}
+use Rattle.calculus.specs.Trees.{Lang, ml, sc}
+use Rattle.calculus.specs.Reduction.{Form, number, lambda, noItem, items, sealed, other}
+use Rattle.nodes.specs.Table.{rowOf}
+
+-- The forms in code.
+abbrev pub formNumber : {l : Lang} → Form l → ℕ
+formNumber (number n) = 1
+formNumber (lambda t b) = 2
+formNumber (noItem t) = 3
+formNumber (items v w) = 4
+formNumber (sealed v) = 5
+formNumber other = 0
+
+-- By the shape, the first word and the second: ms L is `30 2`.
+abbrev pub formBy : ℕ → ℕ → ℕ → ℕ
+formBy shape w v =
+    cond (eqb shape 2) 1
+    (cond (eqb shape 3) 2
+    (cond (eqb shape 7) 3
+    (cond (eqb w 25) 4
+    (cond (eqb w 40) 4
+    (cond (eqb w 30) (cond (eqb v 2) 5 0) 0)))))
+
+unfoldable pub formAt : List ℕ → ℕ
+formAt ws = formBy (rowOf (getD ws 0 0 % 256) .shape) (getD ws 0 0) (getD ws 1 0)
+
+abbrev pub isScheme : Lang → Bool
+isScheme ml = false
+isScheme sc = true
+
+-- "null? and tests: 0 for yes, 1 for no", by the test's number and the form's.
+abbrev pub answerBy : ℕ → ℕ → ℕ
+answerBy test form =
+    cond (eqb test 0) (cond (eqb form 2) 0 1)
+    (cond (eqb test 1) (cond (eqb form 3) 0 (cond (eqb form 4) 0 1))
+    (cond (eqb test 2) (cond (eqb form 3) 0 1) (cond (eqb form 1) 0 1)))
+
+-- The operators of one part and of two, by their words: hd 0, tl 1, fix 2, null? 3, a test 4; application 0, cons 1, add 2, subtract 3.
+abbrev pub operator1 : ℕ → ℕ
+operator1 w = cond (eqb w 26) 0 (cond (eqb w 41) 0 (cond (eqb w 20) 2 (cond (eqb w 28) 3 (cond (eqb (w % 256) 43) 4 1))))
+
+abbrev pub operator2 : ℕ → ℕ
+operator2 w = cond (eqb w 19) 0 (cond (eqb w 35) 0 (cond (eqb w 25) 1 (cond (eqb w 40) 1 (cond (eqb w 21) 2 (cond (eqb w 36) 2 3)))))

@@ -1,0 +1,149 @@
+// The rules of the operators of two parts, and of if0.
+
+use crate::forms::form_at;
+use crate::numbers::number_at;
+use crate::rules::Rule;
+use crate::rules::amiss;
+use crate::rules::numbered;
+use writing::spans::skip;
+ghost use mathlib.Core.Path.{_≡_};
+ghost use Prim.Native.Nat.{_≤_, _-_};
+ghost use lib.ListN.{length};
+ghost use Rattle.nodes.specs.Table.{kinds};
+ghost use Rattle.contraction.specs.Forms.{operator2};
+ghost use Rattle.contraction.specs.Told.{Placed, numberRule, sumRule};
+ghost use Rattle.contraction.specs.Chosen.{TwoParts, OfApply, OfTwo, OfIf};
+
+const APPLY: u64 = 0;
+
+const PAIR: u64 = 1;
+
+const PLUS: u64 = 2;
+
+// The operator, by its word. 3 is subtract.
+fn operator(w: u32) -> u64
+    ensures { λ r. ⌜ r ≡ operator2 w ⌝ }
+{
+    if w == 19 {
+        return APPLY;
+    }
+    if w == 35 {
+        return APPLY;
+    }
+    if w == 25 {
+        return PAIR;
+    }
+    if w == 40 {
+        return PAIR;
+    }
+    if w == 21 {
+        return PLUS;
+    }
+    if w == 36 {
+        return PLUS;
+    }
+    3
+}
+
+// The sum of two numbers.
+fn sum(scheme: bool, a: u32, b: u32) -> Rule
+    requires { ⌜ (a ≤ 16777215) × (b ≤ 16777215) ⌝ }
+    ensures { λ r. ⌜ r ≡ sumRule scheme a b ⌝ }
+{
+    if a + b <= 16777215 {
+        return numbered(scheme, a + b);
+    }
+    if scheme {
+        return Rule::Led(1324, 0, 0);
+    }
+    Rule::Led2(1309, 1, 0, 0)
+}
+
+// How much more a is than b, or 0.
+fn difference(a: u32, b: u32) -> u32
+    ensures { λ r. ⌜ r ≡ a - b ⌝ }
+{
+    if a < b {
+        return 0;
+    }
+    a - b
+}
+
+// Application: the first part's form is told, its words end at `middle`, and the argument's at `end`.
+fn of_apply(
+    table: &[u64; 48],
+    words: &[u32],
+    scheme: bool,
+    form: u64,
+    middle: usize,
+    end: usize,
+) -> Rule
+    requires { ⌜ (now table ≡ kinds) × (length (now words) ≤ 1048576) × TwoParts (now words) form middle end ⌝ }
+    ensures placed { λ r. ⌜ Placed (length (now (words .entry))) r ⌝ }
+    ensures told { λ r. ⌜ OfApply (now (words .entry)) scheme r ⌝ }
+{
+    if form != crate::forms::FUNCTION {
+        return amiss(scheme, 2);
+    }
+    if scheme {
+        return Rule::Substituted(32, 2, middle, end);
+    }
+    let body = 2 + skip(table, &words[2..], 1);
+    Rule::Substituted(16, body, middle, end)
+}
+
+// The operators of two parts.
+pub fn of_two(table: &[u64; 48], words: &[u32]) -> Rule
+    requires { ⌜ (now table ≡ kinds) × (length (now words) ≤ 1048576) × (1 ≤ length (now words)) ⌝ }
+    ensures placed { λ r. ⌜ Placed (length (now (words .entry))) r ⌝ }
+    ensures told { λ r. ⌜ OfTwo (now (words .entry)) r ⌝ }
+{
+    let middle = 1 + skip(table, &words[1..], 1);
+    if middle < 2 {
+        return Rule::Stuck;
+    }
+    let end = middle + skip(table, &words[middle..], 1);
+    let form = form_at(table, &words[1..]);
+    let w = words[0];
+    let op = operator(w);
+    let scheme = 32 <= w;
+    if op == APPLY {
+        return of_apply(table, words, scheme, form, middle, end);
+    }
+    if op == PAIR {
+        return Rule::Stuck;
+    }
+    if form != crate::forms::NUMBER {
+        return amiss(scheme, 1);
+    }
+    if form_at(table, &words[middle..]) != crate::forms::NUMBER {
+        return amiss(scheme, 1);
+    }
+    let a = number_at(&words[1..]);
+    let b = number_at(&words[middle..]);
+    if op == PLUS {
+        return sum(scheme, a, b);
+    }
+    numbered(scheme, difference(a, b))
+}
+
+// if0
+pub fn of_if(table: &[u64; 48], words: &[u32]) -> Rule
+    requires { ⌜ (now table ≡ kinds) × (length (now words) ≤ 1048576) × (1 ≤ length (now words)) ⌝ }
+    ensures placed { λ r. ⌜ Placed (length (now (words .entry))) r ⌝ }
+    ensures told { λ r. ⌜ OfIf (now (words .entry)) r ⌝ }
+{
+    let second = 1 + skip(table, &words[1..], 1);
+    let third = second + skip(table, &words[second..], 1);
+    let end = third + skip(table, &words[third..], 1);
+    if form_at(table, &words[1..]) != crate::forms::NUMBER {
+        if words[0] == 38 {
+            return Rule::Part(third, end);
+        }
+        return Rule::Stuck;
+    }
+    if number_at(&words[1..]) == 0 {
+        return Rule::Part(second, third);
+    }
+    Rule::Part(third, end)
+}

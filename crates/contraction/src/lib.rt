@@ -1,0 +1,10 @@
+// The rules of the reduction at a node whose turn it is: which one fits, and what the node becomes, on words.
+
+pub mod binary;
+pub mod choices;
+pub mod conversions;
+pub mod forms;
+pub mod numbers;
+pub mod pieces;
+pub mod rules;
+pub mod unary;

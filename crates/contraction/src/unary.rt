@@ -1,0 +1,161 @@
+// The rules of the operators of one part.
+
+use crate::forms::form_at;
+use crate::rules::Rule;
+use crate::rules::amiss;
+use writing::spans::skip;
+ghost use mathlib.Core.Path.{_≡_};
+ghost use Prim.Native.Nat.{_≤_};
+ghost use lib.ListN.{length};
+ghost use Rattle.nodes.specs.Table.{kinds};
+ghost use Rattle.contraction.specs.Forms.{answerBy, operator1};
+ghost use Rattle.contraction.specs.Told.{Placed, nullRule};
+ghost use Rattle.contraction.specs.Chosen.{FirstPart, OfFix, OfList, OfOne};
+
+const HEAD: u64 = 0;
+
+const FIX: u64 = 2;
+
+const NULL: u64 = 3;
+
+const TEST: u64 = 4;
+
+// The operator, by its word. 1 is tl.
+fn operator(w: u32) -> u64
+    ensures { λ r. ⌜ r ≡ operator1 w ⌝ }
+{
+    if w == 26 {
+        return HEAD;
+    }
+    if w == 41 {
+        return HEAD;
+    }
+    if w == 20 {
+        return FIX;
+    }
+    if w == 28 {
+        return NULL;
+    }
+    if w % 256 == 43 {
+        return TEST;
+    }
+    1
+}
+
+// "null? and tests: 0 for yes, 1 for no."
+fn answer(test: u32, form: u64) -> u32
+    ensures { λ r. ⌜ r ≡ answerBy test form ⌝ }
+    ensures small { λ r. ⌜ r ≤ 1 ⌝ }
+{
+    if test == 0 {
+        if form == crate::forms::FUNCTION {
+            return 0;
+        }
+        return 1;
+    }
+    if test == 1 {
+        if form == crate::forms::EMPTY {
+            return 0;
+        }
+        if form == crate::forms::PAIR {
+            return 0;
+        }
+        return 1;
+    }
+    if test == 2 {
+        if form == crate::forms::EMPTY {
+            return 0;
+        }
+        return 1;
+    }
+    if form == crate::forms::NUMBER {
+        return 0;
+    }
+    1
+}
+
+// null? of ML.
+fn of_null(form: u64) -> Rule
+    ensures { λ r. ⌜ r ≡ nullRule form ⌝ }
+{
+    if form == crate::forms::EMPTY {
+        return Rule::Number(17, 0);
+    }
+    if form == crate::forms::PAIR {
+        return Rule::Number(17, 1);
+    }
+    Rule::Stuck
+}
+
+// fix of a value, whose form is told and whose words end at `end`.
+fn of_fix(table: &[u64; 48], words: &[u32], form: u64, end: usize) -> Rule
+    requires { ⌜ (now table ≡ kinds) × (length (now words) ≤ 1048576) × FirstPart (now words) form end ⌝ }
+    ensures placed { λ r. ⌜ Placed (length (now (words .entry))) r ⌝ }
+    ensures told { λ r. ⌜ OfFix (now (words .entry)) r ⌝ }
+{
+    if form != crate::forms::FUNCTION {
+        return Rule::Stuck;
+    }
+    let body = 2 + skip(table, &words[2..], 1);
+    Rule::Substituted(16, body, 0, end)
+}
+
+// hd, or tl.
+fn of_list(
+    table: &[u64; 48],
+    words: &[u32],
+    first: bool,
+    scheme: bool,
+    form: u64,
+    end: usize,
+) -> Rule
+    requires { ⌜ (now table ≡ kinds) × (length (now words) ≤ 1048576) × FirstPart (now words) form end ⌝ }
+    ensures placed { λ r. ⌜ Placed (length (now (words .entry))) r ⌝ }
+    ensures told { λ r. ⌜ OfList (now (words .entry)) first scheme r ⌝ }
+{
+    if form == crate::forms::PAIR {
+        let middle = 2 + skip(table, &words[2..], 1);
+        if end < middle {
+            return Rule::Stuck;
+        }
+        if first {
+            return Rule::Part(2, middle);
+        }
+        return Rule::Part(middle, end);
+    }
+    if form != crate::forms::EMPTY {
+        return amiss(scheme, 3);
+    }
+    if scheme {
+        return Rule::Led(1068, 0, 0);
+    }
+    if first {
+        return Rule::Led(1053, 2, end);
+    }
+    Rule::Led2(1053, 3, 2, end)
+}
+
+// The operators of one part.
+pub fn of_one(table: &[u64; 48], words: &[u32]) -> Rule
+    requires { ⌜ (now table ≡ kinds) × (length (now words) ≤ 1048576) × (1 ≤ length (now words)) ⌝ }
+    ensures placed { λ r. ⌜ Placed (length (now (words .entry))) r ⌝ }
+    ensures told { λ r. ⌜ OfOne (now (words .entry)) r ⌝ }
+{
+    let end = 1 + skip(table, &words[1..], 1);
+    if end < 2 {
+        return Rule::Stuck;
+    }
+    let form = form_at(table, &words[1..]);
+    let w = words[0];
+    let op = operator(w);
+    if op == FIX {
+        return of_fix(table, words, form, end);
+    }
+    if op == NULL {
+        return of_null(form);
+    }
+    if op == TEST {
+        return Rule::Number(33, answer(w / 256, form));
+    }
+    of_list(table, words, op == HEAD, 32 <= w, form, end)
+}

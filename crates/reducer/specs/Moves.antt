@@ -1,0 +1,55 @@
+-- One step in words: what the code answers, and what it leaves in the target, is the calculus's step.
+use Prim.Native.Nat.{ℕ}
+use mathlib.Core.List.{List, _++_}
+use mathlib.Core.Path.{_≡_}
+use lib.ListN.{length}
+use Rattle.calculus.specs.Trees.{Lang, ml, Term}
+use Rattle.calculus.specs.Words.{put, words, size}
+use Rattle.calculus.specs.Reduction.{becomes, contract, Outcome, value, raised, next, stuck, step}
+use Rattle.calculus.proofs.Splices.{wordsBefore, Splice}
+use Rattle.writing.specs.Wrote.{Wrote}
+use Rattle.contraction.specs.declared.rules.Rule.{Rule}
+use Rattle.contraction.specs.declared.rules.Rule.the-variants as rule
+use Rattle.reducer.specs.declared.steps.Change.{Change}
+use Rattle.reducer.specs.declared.steps.Move.{Move}
+use Rattle.reducer.specs.declared.steps.Move.the-variants.{Value, Raised, Next, Stuck}
+use Rattle.reducer.specs.declared.steps.End.{End}
+use Rattle.reducer.specs.declared.steps.End.the-variants as end
+
+abbrev pub endOf : Rule → End
+endOf rule.Stuck = end.Stuck
+endOf (rule.Raised c) = end.Raised c
+endOf (rule.Number k n) = end.Writes
+endOf (rule.Part a e) = end.Writes
+endOf (rule.Led w a e) = end.Writes
+endOf (rule.Led2 w v a e) = end.Writes
+endOf (rule.Items q m v t e) = end.Writes
+endOf (rule.IntoML s v e) = end.Writes
+endOf (rule.IntoScheme s v e) = end.Writes
+endOf (rule.Substituted x b a e) = end.Writes
+
+-- Where the node n stands in the source behind the words P, and it becomes u: how many words stood and stand there, and the words that are
+-- written.
+pub record Spliced (source : List ℕ) (place : ℕ) (b : List ℕ) (c : Change) (b′ : List ℕ) : Type 0 where
+  pub where-it-was : c .place ≡ place
+  pub of : (P : List ℕ) (m : Lang) (n u : Term m) (Q : List ℕ) → source ≡ P ++ put n Q → place ≡ length P → contract n ≡ becomes u
+      → (c .stood ≡ size n) × (c .stands ≡ size u) × Wrote b 0 (P ++ put u Q) (c .size) b′
+
+-- The next term r of e: the change is that of the step's splice, and the words of r are written, as far as they fit.
+pub record Changed (e r : Term ml) (b : List ℕ) (c : Change) (b′ : List ℕ) : Type 0 where
+  pub splice : Splice e r
+  pub place : c .place ≡ length (wordsBefore (splice .place))
+  pub stood : c .stood ≡ size (splice .node)
+  pub stands : c .stands ≡ size (splice .became)
+  pub sized : c .size ≡ size r
+  pub written : Wrote b 0 (words r) (c .size) b′
+
+-- The answer to each outcome; only a next term is written.
+abbrev pub Moved : Term ml → Move → List ℕ → List ℕ → Outcome ml → Type 0
+Moved e r b b′ value = (r ≡ Value) × (b′ ≡ b)
+Moved e r b b′ (raised c) = (r ≡ Raised c) × (b′ ≡ b)
+Moved e r b b′ (next e′) = (c : Change) × (r ≡ Next c) × Changed e e′ b c b′
+Moved e r b b′ stuck = (r ≡ Stuck) × (b′ ≡ b)
+
+pub record Steps (source b : List ℕ) (r : Move) (b′ : List ℕ) : Type 0 where
+  pub of : (e : Term ml) → source ≡ words e → Moved e r b b′ (step e)

@@ -1,0 +1,85 @@
+// One step of the term in the source: the next term is put together in the target.
+
+use crate::turns::Found;
+use crate::turns::turn;
+use contraction::choices::chosen;
+use contraction::rules::Rule;
+use writer::write_next;
+use writing::spans::skip;
+ghost use mathlib.Core.Path.{_≡_};
+ghost use Prim.Native.Nat.{_≤_};
+ghost use lib.ListN.{length};
+ghost use Rattle.nodes.specs.Table.{kinds};
+ghost use Rattle.reducer.specs.Moves.{endOf, Spliced, Steps};
+
+// The place of the node whose turn it was, how many words stood there, how many stand there now, and how many words the next term has,
+// whether it fits or not.
+pub struct Change {
+    pub place: usize,
+    pub stood: usize,
+    pub stands: usize,
+    pub size: usize,
+}
+
+pub enum Move {
+    Value,
+    Raised(u32),
+    Next(Change),
+    Stuck,
+}
+
+// Whether a rule ends the reduction, or writes.
+enum End {
+    Stuck,
+    Raised(u32),
+    Writes,
+}
+
+fn end_of(rule: Rule) -> End
+    ensures { λ r. ⌜ r ≡ endOf rule ⌝ }
+{
+    match rule {
+        Rule::Stuck => End::Stuck,
+        Rule::Raised(code) => End::Raised(code),
+        Rule::Number(_, _) => End::Writes,
+        Rule::Part(_, _) => End::Writes,
+        Rule::Led(_, _, _) => End::Writes,
+        Rule::Led2(_, _, _, _) => End::Writes,
+        Rule::Items(_, _, _, _, _) => End::Writes,
+        Rule::IntoML(_, _, _) => End::Writes,
+        Rule::IntoScheme(_, _, _) => End::Writes,
+        Rule::Substituted(_, _, _, _) => End::Writes,
+    }
+}
+
+// The next term: the words before a place, what the node there becomes, and the words after it.
+fn splice(table: &[u64; 48], source: &[u32], place: usize, target: &mut [u32]) -> Change
+    requires { ⌜ (now table ≡ kinds) × (length (now source) ≤ 1048576) × (place ≤ length (now source)) ⌝ }
+    ensures { λ r. ⌜ Spliced (now (source .entry)) place (now (target .entry)) r (now (target .exit)) ⌝ }
+{
+    let stood = skip(table, &source[place..], 1);
+    let size = write_next(target, source, place, place, place + stood, 1);
+    Change {
+        place: place,
+        stood: stood,
+        stands: size + stood - source.len(),
+        size: size,
+    }
+}
+
+// The step of the term in the source, which may have 2^20 words.
+pub fn step(table: &[u64; 48], source: &[u32], target: &mut [u32]) -> Move
+    requires { ⌜ (now table ≡ kinds) × (length (now source) ≤ 1048576) ⌝ }
+    ensures { λ r. ⌜ Steps (now (source .entry)) (now (target .entry)) r (now (target .exit)) ⌝ }
+{
+    let found = turn(table, source, 0);
+    let Found::At(place) = found else {
+        return Move::Value;
+    };
+    let rule = chosen(table, &source[place..]);
+    match end_of(rule) {
+        End::Stuck => Move::Stuck,
+        End::Raised(code) => Move::Raised(code),
+        End::Writes => Move::Next(splice(table, source, place, target)),
+    }
+}

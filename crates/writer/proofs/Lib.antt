@@ -1,0 +1,3 @@
+pub mod Again
+pub mod Held
+pub mod Held2

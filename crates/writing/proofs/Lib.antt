@@ -1,0 +1,6 @@
+pub mod Stores
+pub mod Trees
+pub mod Digits
+pub mod Measures
+pub mod Replacing
+pub mod Substituting
