@@ -54,9 +54,12 @@ module _ (w ls ls′ : List ℕ) (start : ℕ) (r : Inferred) (I : Infers w star
     told : (τ : Ty) (e : Term ml) → Written w 4 τ → drop start w ≡ words e → (s : Ty) × (infer [] e ≡ some s) × (b ≡ sameType ml s τ)
     told τ e x d =
         let g = good-part ml w ls′ start (start + size e) (start + size e) (fault start [] e) t n (infer [] e) r q (answer e d) in
-        let i = advanced start (length w) t n r q (I .advances) in
-        (g .static, g .typed, E (g .static) τ start (start + size e) start (start + size e) (omega (arith, g .ends, i .1)) (g .refers)
-            (written-means w ls′ start (start + size e) 4 τ (omega arith) x))
+        let i = advanced start (length w) t n r q (I .advances) in (
+          g .static,
+          g .typed,
+          E (g .static) τ start (start + size e) start (start + size e) (omega (arith, g .ends, i .1)) (g .refers)
+              (written-means w ls′ start (start + size e) 4 τ (omega arith) x),
+        )
 
     pub declared-one : b ≡ true → Decides w start Accepted
     unfolding typed

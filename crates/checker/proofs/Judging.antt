@@ -72,9 +72,11 @@ module _ (ws : List ℕ) (f : Fits ws) where
 
   written : (t : Ordered type (typeWords ws)) → Written ws 4 (t .tree)
   written t =
-      let r = drop 4 ws in
-      (drop (typeCount ws) r, sym (take-append-drop (typeCount ws) r) ∙ ap (λ (l : List ℕ). l ++ drop (typeCount ws) r) (t .spelt)
-          ∙ sym (tree-append type (t .tree) [] (drop (typeCount ws) r)))
+      let r = drop 4 ws in (
+        drop (typeCount ws) r,
+        sym (take-append-drop (typeCount ws) r) ∙ ap (λ (l : List ℕ). l ++ drop (typeCount ws) r) (t .spelt)
+            ∙ sym (tree-append type (t .tree) [] (drop (typeCount ws) r)),
+      )
 
   pub decided : (n m : ℕ) (r : Checked) → passed n ≡ bothOrdered (typeWords ws) (termWords ws)
       → passed m ≡ later (4 + typeCount ws) (walk scopeDue (termWords ws) ([] ∷ [])) → Decides ws (4 + typeCount ws) r

@@ -60,8 +60,8 @@ pub fn judge(words: &[u32], types: usize) -> Checked
         return Checked::Refused(r);
     }
     let closed = scoped(&words[start..], start);
-    if let Walked::Refused(r) = closed {
-        return Checked::Refused(r);
+    if let Walked::Refused(free) = closed {
+        return Checked::Refused(free);
     }
     typed(words, start)
 }

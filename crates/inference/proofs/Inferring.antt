@@ -50,7 +50,7 @@ run-out w ls at scope z =
 
 -- A node whose word is x, with the row that the table has for it, inside the lambda at `scope`.
 module _ (w ls : List ℕ) (at scope x : ℕ) (row : code.Row) (X : x ≡ getD (drop at w) 0 0) (R : row ≡ rowOf (x % 256)) (P : 0 < at) (B : at < length w)
-  (M : length w ≤ 4096) where
+    (M : length w ≤ 4096) where
   module _ (l : Lang) (e : Term l) (k : List ℕ) (d : drop at w ≡ put e k) where
     pub word-told : x ≡ getD (put e k) 0 0
     word-told = X ∙ ap (λ (ws : List ℕ). getD ws 0 0) d
@@ -112,7 +112,7 @@ module _ (w ls : List ℕ) (at scope x : ℕ) (row : code.Row) (X : x ≡ getD (
       by : (l : Lang) (e : Term l) → shapeNumber (term l) e ≡ 1 → Goal ls r l e
       by l (var i) q Γ k d s =
           subst (λ (j : ℕ). Answers l w ls at (at + 1) at (at + 1) (typeAt l Γ j) r) (index l i (word-told l (var i) k d))
-              (v .is l Γ at (at + 1) (sort-told l (var i) k d) (omega arith) s)
+          (v .is l Γ at (at + 1) (sort-told l (var i) k d) (omega arith) s)
       by l (num n) q Γ k d s = absurd (omega (arith, q))
       by l (lam t b) q Γ k d s = absurd (omega (arith, q))
       by l (op1 o a) q Γ k d s = absurd (omega (arith, q))
@@ -201,7 +201,7 @@ module _ (w ls : List ℕ) (at scope x : ℕ) (row : code.Row) (X : x ≡ getD (
 
   -- Nodes with one: it is inferred first, inside the lambda where the node is one.
   module _ (start : ℕ) (S : PartsStart w (row .sort) (row .shape) at start) (ls1 : List ℕ) (inner : ℕ) (E : Entered (row .shape) at scope ls ls1 inner)
-    (ls2 : List ℕ) (r1 : Inferred) (I : Infers w start inner ls1 ls2 r1) where
+      (ls2 : List ℕ) (r1 : Inferred) (I : Infers w start inner ls1 ls2 r1) where
     same-1 : length ls2 ≡ length ls
     same-1 = I .same ∙ E .same
 
@@ -293,8 +293,7 @@ module _ (w ls : List ℕ) (at scope x : ℕ) (row : code.Row) (X : x ≡ getD (
               → Refers l w ls′ at second at (functions l τ u)
           refers ml τ u b k p d i j m =
               let inside = means-in w ls2 p second t u m in
-              let m′ = means-widen w ls′ p second (at + 1) second t u (omega arith) (omega arith) (means-frame w ls2 ls′ p second t u (λ n g h. f .kept n (λ z. omega (arith, z))) m) in
-              (
+              let m′ = means-widen w ls′ p second (at + 1) second t u (omega arith) (omega arith) (means-frame w ls2 ls′ p second t u (λ n g h. f .kept n (λ z. omega (arith, z))) m) in (
                 binds-static ml τ b w k at d,
                 inl (place ml (lam τ b) k d, omega arith, omega (arith, i, j), subst (λ (n : ℕ). Means w ls′ (at + 1) second n u) (sym (f .own (omega (arith, inside .1)))) m′),
               )
@@ -308,8 +307,11 @@ module _ (w ls : List ℕ) (at scope x : ℕ) (row : code.Row) (X : x ≡ getD (
               let g = good-part l w ls2 p (p + size b) (p + size b) (fault p (of l τ ∷ Γ) b) t second (infer (of l τ ∷ Γ) b) r1 T (body h l τ b Γ k d s) in
               let n : second ≡ at + suc (sizeStatic l τ + size b) = omega (arith, g .ends) in
               let m = subst (λ (i : ℕ). Refers l w ls2 p i t (g .static)) (sym (g .ends)) (g .refers) in
-              rw (g .typed) (at, f .answer ∙ ap (Typed at) n,
-                subst (λ (i : ℕ). Refers l w ls′ at i at (functions l τ (g .static))) n (refers l τ (g .static) b k p d (omega arith) (omega (arith, starts start S l (lam τ b) k d, lead-lam l τ, bounds-1)) m))
+              rw (g .typed) (
+                at,
+                f .answer ∙ ap (Typed at) n,
+                subst (λ (i : ℕ). Refers l w ls′ at i at (functions l τ (g .static))) n (refers l τ (g .static) b k p d (omega arith) (omega (arith, starts start S l (lam τ b) k d, lead-lam l τ, bounds-1)) m),
+              )
           by l (op1 o a) q Γ k d s = absurd (omega (arith, q))
           by l (op2 o a b) q Γ k d s = absurd (omega (arith, q))
           by l (if0 a b c) q Γ k d s = absurd (omega (arith, q))
@@ -558,7 +560,7 @@ module _ (w ls : List ℕ) (at scope x : ℕ) (row : code.Row) (X : x ≡ getD (
                     let i = good-part l w ls4 p′ (p′ + size e) (p′ + size e) (fault p′ Γ e) v next (infer Γ e) r3 told (last-part p′ (j .ends) l e Γ k (past-tree (term l) c p w _ y) s) in
                     let n : next ≡ at + suc (size a + size c + size e) = omega (arith, i .ends) in
                     let m = refers-later l w ls2 ls4 (at + 1) (at + 1 + size a) at next t (g .static) (omega arith) (omega (arith, i .ends))
-                            (λ z h. K .kept z (omega (arith, h, g .ends, bounds-2)) ∙ J .kept z (omega (arith, h, g .ends))) (g .refers) in
+                    (λ z h. K .kept z (omega (arith, h, g .ends, bounds-2)) ∙ J .kept z (omega (arith, h, g .ends))) (g .refers) in
                     let m′ = refers-later l w ls3 ls4 p (p + size c) at next u (j .static) (omega arith) (omega (arith, i .ends)) (λ z h. K .kept z (omega (arith, h, j .ends))) (j .refers) in
                     let m″ = refers-later l w ls4 ls4 p′ (p′ + size e) at next v (i .static) (omega arith) (omega (arith, i .ends)) (λ z h. refl) (i .refers) in
                     rw (g .typed, j .typed, i .typed)

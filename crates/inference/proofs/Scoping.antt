@@ -24,14 +24,13 @@ use Rattle.inference.proofs.Leading.{lead-written}
 pub scope-later : (w ls ls′ : List ℕ) (hi hi′ p : ℕ) (Γ : Lambdas) → hi ≤ hi′ → Kept hi ls ls′ → Scope w ls hi p Γ → Scope w ls′ hi′ p Γ
 unfolding Scope
 scope-later w ls ls′ hi hi′ p [] h k s = s
-scope-later w ls ls′ hi hi′ p (x ∷ Γ) h k s =
-    (
-      s .0,
-      omega (arith, s .1),
-      s .2,
-      subst (λ (q : ℕ). Scope w ls′ p q Γ) (sym (k p (s .1)))
-          (scope-later w ls ls′ p p (getD ls p 0) Γ (omega arith) (λ i j. k i (omega (arith, s .1))) (s .3)),
-    )
+scope-later w ls ls′ hi hi′ p (x ∷ Γ) h k s = (
+  s .0,
+  omega (arith, s .1),
+  s .2,
+  subst (λ (q : ℕ). Scope w ls′ p q Γ) (sym (k p (s .1)))
+      (scope-later w ls ls′ p p (getD ls p 0) Γ (omega arith) (λ i j. k i (omega (arith, s .1))) (s .3)),
+)
 
 pub scope-below : (w ls : List ℕ) (hi p : ℕ) (Γ : Lambdas) → 0 < hi → Scope w ls hi p Γ → p < hi
 unfolding Scope
@@ -42,14 +41,13 @@ scope-below w ls hi p (x ∷ Γ) h s = s .1
 pub scope-inside : (w ls ls′ : List ℕ) (at scope hi : ℕ) (l : Lang) (t : Static l) (Γ : Lambdas) → 0 < at → at < hi → at < 65536
     → Kept at ls ls′ → Linked scope (getD ls′ at 0) → Binds w at (of l t) → Scope w ls at scope Γ → Scope w ls′ hi at (of l t ∷ Γ)
 unfolding Scope
-scope-inside w ls ls′ at scope hi l t Γ a b c k own bind s =
-    (
-      a,
-      b,
-      bind,
-      subst (λ (q : ℕ). Scope w ls′ at q Γ) (sym (own (omega (arith, scope-below w ls at scope Γ a s))))
-          (scope-later w ls ls′ at at scope Γ (omega arith) k s),
-    )
+scope-inside w ls ls′ at scope hi l t Γ a b c k own bind s = (
+  a,
+  b,
+  bind,
+  subst (λ (q : ℕ). Scope w ls′ at q Γ) (sym (own (omega (arith, scope-below w ls at scope Γ a s))))
+      (scope-later w ls ls′ at at scope Γ (omega arith) k s),
+)
 
 pub binds-static : (l : Lang) (t : Static l) (b : Term l) (w k : List ℕ) (at : ℕ) → drop at w ≡ put (lam t b) k → WrittenStatic l w (at + 1) t
 binds-static ml t b w k at d = lead-written ml (lam t b) w k at t d refl
