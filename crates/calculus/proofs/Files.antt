@@ -35,7 +35,7 @@ and-iff a b p q = (
 pub size-iff : (n : ℕ) → (isSize n ≡ true) ↔ ((24 ≤ n) × (n ≤ 16384)) × (n % 4 ≡ 0)
 size-iff n = and-iff _ _ (and-iff _ _ (le-iff 24 n) (le-iff n 16384)) (eq-iff (n % 4) 0)
 
-header-iff : (ws : List ℕ) → (isHeader ws ≡ true)
+pub header-iff : (ws : List ℕ) → (isHeader ws ≡ true)
     ↔ ((((1 ≤ getD ws 0 0) × (getD ws 1 0 ≡ 4)) × (1 ≤ getD ws 2 0)) × (getD ws 3 0 ≡ 4 + getD ws 0 0)) × (getD ws 3 0 + getD ws 2 0 ≡ length ws)
 header-iff ws = and-iff _ _ (and-iff _ _ (and-iff _ _ (and-iff _ _ (le-iff _ _) (eq-iff _ _)) (le-iff _ _)) (eq-iff _ _)) (eq-iff _ _)
 

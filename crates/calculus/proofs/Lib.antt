@@ -30,5 +30,6 @@ pub mod Growth
 pub mod Continuing
 pub mod Files
 pub mod Checks
+pub mod Refusing
 pub mod Demands
 pub mod Recipes

@@ -1,0 +1,32 @@
+-- `exports::recipe_check` meets its contract, for every file. Assumes nothing.
+use borrow.Author.Needs.{needs}
+use Rattle.exports.proofs.Packing.{refused-place, refused-number, accepted-number}
+use borrow.Author.Needs.{needs}
+use Rattle.exports.proofs.recipe_check.Statement.{statement}
+use Rattle.exports.proofs.recipe_check.Tie as tie
+use Rattle.exports.proofs.recipe_check.Reads as reads
+use Rattle.exports.proofs.recipe_check.Lts as lts
+use Rattle.checker.proofs.check.Reads as check-reads
+use Rattle.exports.proofs.packed.Reads as packed-reads
+
+check-requires : tie.Need-check-requires
+check-requires c κs = search needs
+
+enum-told : tie.Need-enum-told
+enum-told c = search needs
+
+enum-known-r : tie.Need-enum-known-r
+enum-known-r c = search needs
+
+packed-requires : tie.Need-packed-requires
+packed-requires c κs = refused-place (c .before .before .before .before .before .args .file .now) (c .before .r .given .0 .0) (c .before .before .before .check .result) (c .before .r .given .1) (c .before .before .before .check .ensures)
+
+returns : tie.Need-returns
+returns c = accepted-number (c .before .before .before .before .args .file .now) (c .before .before .check .result) (c .enum-told .given .1) (c .before .before .check .ensures)
+
+returns-2 : tie.Need-returns-2
+returns-2 c = refused-number (c .before .before .before .before .before .before .args .file .now) (c .before .before .r .given .0 .0) (c .before .before .before .before .check .result) (c .packed .result) (c .before .before .r .given .1) (c .before .before .before .before .check .ensures) (c .packed .ensures)
+
+pub recipe-check-spec : {M : Type 1} → statement M
+recipe-check-spec =
+    tie.close (tie.spec check-requires enum-told enum-known-r packed-requires returns returns-2)
