@@ -50,3 +50,7 @@ wrote-as {b} {b₁} {xs} {ys} {n} {k} e p = subst (λ (l : List ℕ). Wrote b n 
 
 pub wrote-none : (b : List ℕ) (n : ℕ) → Wrote b n [] n b
 wrote-none b n = record { place = omega arith; stored = refl }
+
+-- A buffer's length stays.
+pub wrote-length : {b b₁ xs : List ℕ} {n k : ℕ} → Wrote b n xs k b₁ → length b₁ ≡ length b
+wrote-length {b} {b₁} {xs} {n} w = ap length (w .stored) ∙ length-sets b n xs

@@ -1,0 +1,117 @@
+-- The answer of a run: refused, with both buffers zero, or ended as the specification's run does. Assumes nothing.
+use Prim.Native.Nat.{ℕ, _+_, _-_, _≤_, _<_}
+use mathlib.Core.List.{List, []}
+use mathlib.Core.Path.{_≡_, refl, sym, ap, _∙_, subst}
+use native.Mathlib.Omega.{arith}
+use lib.ListN.{length, take, drop}
+use lib.Seq.{sets-eq, take-at}
+use borrow.Author.Tests.{le-leb, lt-leb}
+use borrow.Rule.Slice.PartAt.{part-to-end}
+use Rattle.calculus.specs.Trees.{Ty, ml, Term}
+use Rattle.calculus.specs.Words.{words, size}
+use Rattle.calculus.specs.Kinds.{term}
+use Rattle.calculus.specs.Verdicts.{Verdict, refused, passed, andThen}
+use Rattle.calculus.specs.Run as spec
+use Rattle.calculus.specs.File.{wordsOf, typeCount, termWords, Recipe, checkWords, check, runIn, operate}
+use Rattle.calculus.proofs.Verdicts.{not-both, then-passed}
+use Rattle.calculus.proofs.Sizes.{tree-length}
+use Rattle.calculus.proofs.Checks.{passes-in-order}
+use Rattle.nodes.specs.declared.refusals.Refusal.{Refusal}
+use Rattle.nodes.specs.Refusals.{numberOf, placeOf, refusal}
+use Rattle.file.proofs.Opening.{Opens}
+use Rattle.writing.specs.Wrote.{Wrote}
+use Rattle.checker.specs.declared.Checked.the-variants.{Refused, Accepted}
+use Rattle.engine.specs.declared.ends.Report.{Report}
+use Rattle.engine.specs.declared.runs.Answer.{Answer}
+use Rattle.engine.specs.declared.runs.Answer.the-variants as a
+use Rattle.engine.specs.Buffered.{Settled}
+use Rattle.calculus.specs.File.{padded}
+use Rattle.engine.specs.Ran.{lineOf, told, Good, Reduced}
+use Rattle.engine.specs.Answered.{Answered, started, Begun}
+use Rattle.engine.proofs.Bridge.{Judged}
+
+-- A refusal, with both buffers wiped.
+pub answered-refused : {r : Refusal} {first second first′ second′ : List ℕ} → Settled [] first second first′ second′
+    → Answered (refusal r) (a.Refused r) first second first′ second′
+answered-refused s = record { answer-is = refl; first-is = s .first-is; second-is = s .second-is }
+
+answered-as : {v w : Verdict spec.Result} {x : Answer} {first second first′ second′ : List ℕ} → v ≡ w → Answered v x first second first′ second′
+    → Answered w x first second first′ second′
+answered-as {x = x} {first = first} {second = second} {first′ = first′} {second′ = second′} e h =
+    subst (λ (u : Verdict spec.Result). Answered u x first second first′ second′) e h
+
+words-size : (e : Term ml) → length (words e) ≡ size e
+words-size e = omega (arith, tree-length (term ml) e [])
+
+-- The run of a recipe: its term's words are over the capacity, or fit.
+over : (limit cap : ℕ) (x : Recipe) → cap < size (x .1) → refused 8 0 ≡ runIn limit cap x
+unfolding runIn
+over limit cap x h = rw (lt-leb (size (x .1)) cap h)
+
+fitting : (limit cap : ℕ) (x : Recipe) → size (x .1) ≤ cap → passed (spec.run limit cap spec.uncounted (x .1)) ≡ runIn limit cap x
+unfolding runIn
+fitting limit cap x h = rw (le-leb (size (x .1)) cap h)
+
+-- Refusal 8.
+pub begun-refused : {limit : ℕ} {ws first second first′ second′ : List ℕ} {x : Answer} → spec.capacity (length first) (length second) < length ws
+    → Answered (refused 8 0) x first second first′ second′ → Begun limit ws x first second first′ second′
+begun-refused {limit} {ws} {first} {second} h r =
+    let cap = spec.capacity (length first) (length second) in
+    record { of = λ e τ q g. answered-as (over limit cap (τ, e) (omega (arith, h, ap length q, words-size e))) r }
+
+-- The term's words are copied to the first buffer and reduced there.
+pub begun-ended : {limit cap count k : ℕ} {ws first second first₁ first′ second′ : List ℕ} {x : Report} → cap ≡ spec.capacity (length first) (length second)
+    → count ≡ length ws → count ≤ cap → Wrote first 0 ws k first₁ → length first₁ ≡ length first
+    → Reduced limit (spec.capacity (length first₁) (length second)) (take count first₁) x first₁ second first′ second′
+    → Begun limit ws (a.Ended x) first second first′ second′
+begun-ended {limit} {cap} {count} {k} {ws} {first} {second} {first₁} {first′} {second′} {x} c n fits w l r =
+    let front : take count first₁ ≡ ws =
+    ap (take count) (w .stored ∙ sets-eq ws first 0 (omega arith)) ∙ take-at ws (drop (0 + length ws) first) count (sym n) in
+    let same : spec.capacity (length first₁) (length second) ≡ spec.capacity (length first) (length second) =
+    ap (λ (m : ℕ). spec.capacity m (length second)) l in
+    record {
+      of = λ e τ q g.
+          let d = spec.capacity (length first) (length second) in
+          let y = subst (λ (m : ℕ). (told x ≡ lineOf (spec.run limit m spec.uncounted e)) × Settled (spec.run limit m spec.uncounted e .left) first₁ second first′ second′)
+          same (r .of e (front ∙ q) g) in
+          answered-as (fitting limit d (τ, e) (omega (arith, ap length q, words-size e, c, n, fits)))
+          (record {
+            answer-is = ap passed (y .0);
+            first-is = y .1 .first-is ∙ ap (λ (m : ℕ). padded m (spec.run limit d spec.uncounted e .left)) l;
+            second-is = y .1 .second-is;
+          });
+    }
+
+-- The words of a file: refused by the check, or its term begun.
+pub started-refused : (ws : List ℕ) {first second first′ second′ : List ℕ} (limit : ℕ) (r : Refusal) {x : Answer} → Judged ws (Refused r)
+    → Answered (refusal r) x first second first′ second′ → Answered (started ws limit (length first) (length second)) x first second first′ second′
+started-refused ws {first} {second} {first′} {second′} limit r {x} j h = by (checkWords ws) j
+  where
+    by : (v : Verdict Recipe) → refusal r ≡ andThen v (λ y. passed (tt {0}))
+        → Answered (andThen v (λ y. runIn limit (spec.capacity (length first) (length second)) y)) x first second first′ second′
+    by (refused n p) q = answered-as (let z : refused (numberOf r) (placeOf r) ≡ refused n p = cc in z) h
+    by (passed y) q = absurd (not-both (numberOf r) (placeOf r) tt q)
+
+pub started-begun : (ws : List ℕ) {first second first′ second′ : List ℕ} (limit from : ℕ) {x : Answer} → Judged ws Accepted → from ≡ 4 + typeCount ws
+    → Begun limit (take (length ws - from) (drop from ws)) x first second first′ second′
+    → Answered (started ws limit (length first) (length second)) x first second first′ second′
+started-begun ws {first} {second} {first′} {second′} limit from {x} j f b =
+    let i = then-passed (checkWords ws) (λ y. passed tt) tt (sym j) in
+    let o = passes-in-order ws (i .0) (i .1) in
+    let w : take (length ws - from) (drop from ws) ≡ words (i .0 .1) =
+    part-to-end ws from ∙ ap (λ (k : ℕ). drop k ws) f ∙ o .0 .2 in
+    answered-as (sym (ap (λ (v : Verdict Recipe). andThen v (λ y. runIn limit (spec.capacity (length first) (length second)) y)) (i .1)))
+    (b .of (i .0 .1) (i .0 .0) w (record { ranged = o .3; type = i .0 .0; typed = o .5 }))
+
+-- A file's bytes: refused when it is opened, or its words started.
+module _ (bytes : List ℕ) (limit : ℕ) {first second first′ second′ : List ℕ} {x : Answer} where
+  pub run-refused : (r : Refusal) → check bytes ≡ refusal r → Answered (refusal r) x first second first′ second′
+      → Answered (operate bytes limit (length first) (length second)) x first second first′ second′
+  unfolding operate
+  run-refused r q h = answered-as (ap (λ (v : Verdict Recipe). andThen v (λ y. runIn limit (spec.capacity (length first) (length second)) y)) (sym q)) h
+
+  pub run-started : {all : List ℕ} {types n : ℕ} → Opens bytes all types n → Answered (started (take n all) limit (length first) (length second)) x first second first′ second′
+      → Answered (operate bytes limit (length first) (length second)) x first second first′ second′
+  unfolding operate
+  run-started {all} {types} {n} o h =
+      answered-as (ap (λ (v : Verdict Recipe). andThen v (λ y. runIn limit (spec.capacity (length first) (length second)) y)) (ap checkWords (o .words-are) ∙ sym (o .check-is))) h

@@ -1,0 +1,25 @@
+-- A step of the reducer is that of the calculus, and the judgement of a file's words is the check's. Assumes nothing.
+use Prim.Native.Nat.{ℕ}
+use mathlib.Core.List.{List}
+use mathlib.Core.Path.{_≡_}
+use Rattle.calculus.specs.Trees.{ml, Term}
+use Rattle.calculus.specs.Words.{words}
+use Rattle.calculus.specs.Reduction.{Outcome, value, raised, next, stuck, step}
+use Rattle.calculus.specs.File.{checkWords}
+use Rattle.checker.specs.declared.Checked.{Checked}
+use Rattle.checker.specs.Checks.{checked, accepting}
+use Rattle.reducer.specs.declared.steps.Move.{Move}
+use Rattle.reducer.specs.Moves as reducer
+use Rattle.engine.proofs.Moving.{Moved}
+
+pub moved : {ws b b′ : List ℕ} {r : Move} → reducer.Steps ws b r b′ → (e : Term ml) → ws ≡ words e → Moved (step e) b r b′
+moved {ws} {b} {b′} {r} s e q = by (step e) (s .of e q)
+  where
+    by : (o : Outcome ml) → reducer.Moved e r b b′ o → Moved o b r b′
+    by value m = m .0
+    by (raised c) m = m .0
+    by (next u) m = (m .0, m .1, m .2 .sized, m .2 .written .stored)
+    by stuck m = m .0
+
+abbrev pub Judged : List ℕ → Checked → Type 0
+Judged ws r = checked r ≡ accepting (checkWords ws)

@@ -1,0 +1,6 @@
+pub mod Clearing
+pub mod Moving
+pub mod Bridge
+pub mod Looping
+pub mod Answering
+pub mod Demands

@@ -1,0 +1,166 @@
+-- What follows a step of a term: the run ends there, with the report that was chosen, or goes on from the next term. Assumes nothing.
+use Prim.Native.Nat.{ℕ, zero, suc, _+_, _-_, _≤_, _<_}
+use mathlib.Core.Bool.{Bool, true, false, cond}
+use mathlib.Core.List.{List, []}
+use mathlib.Core.Path.{_≡_, refl, sym, ap, _∙_, subst}
+use native.Mathlib.Numerals.{add-one}
+use native.Mathlib.Omega.{arith}
+use lib.Dec.{eqb, leb}
+use lib.ListN.{length, take, drop}
+use lib.Seq.{sets, sets-eq, take-all, take-at}
+use borrow.Author.Tests.{eq-eqb, ne-eqb, eqb-true, eqb-false, leb-true}
+use Rattle.calculus.specs.Trees.{ml, Term}
+use Rattle.calculus.specs.Words.{words, size}
+use Rattle.calculus.specs.Reduction.{Outcome, value, raised, next, stuck, step}
+use Rattle.calculus.specs.Run as spec
+use Rattle.calculus.specs.Kinds.{term}
+use Rattle.calculus.proofs.Sizes.{tree-length}
+use Rattle.reducer.specs.declared.steps.Change.{Change}
+use Rattle.reducer.specs.declared.steps.Move.{Move}
+use Rattle.reducer.specs.declared.steps.Move.the-variants as m
+use Rattle.engine.specs.declared.ends.Counts.{Counts}
+use Rattle.engine.specs.declared.ends.End.{End}
+use Rattle.engine.specs.declared.ends.End.the-variants as ends
+use Rattle.engine.specs.declared.ends.Report.{Report}
+use Rattle.engine.specs.declared.ends.Choice.{Choice}
+use Rattle.engine.specs.declared.ends.Choice.the-variants.{Stop, Go}
+use Rattle.engine.specs.Decided.{stopped, oneMore, chosen}
+use Rattle.engine.specs.Ran.{Line, lineOf, endOf, countsOf, told}
+
+-- A move is that of an outcome; the next term is put into the buffer b, which is b′ then.
+abbrev pub Moved : Outcome ml → List ℕ → Move → List ℕ → Type 0
+Moved value b r b′ = r ≡ m.Value
+Moved (raised c) b r b′ = r ≡ m.Raised c
+Moved (next u) b r b′ = (x : Change) × (r ≡ m.Next x) × (x .size ≡ size u) × (b′ ≡ sets b 0 (words u))
+Moved stuck b r b′ = r ≡ m.Stuck
+
+-- A report is that of a result, whose words left are the first of ws.
+pub record Finished (r : spec.Result) (ws : List ℕ) (x : Report) : Type 0 where
+  pub told-is : told x ≡ lineOf r
+  pub left-is : take (x .left) ws ≡ r .left
+  pub short : x .left ≤ length ws
+
+-- The run goes on from the next term.
+pub record Going (r : spec.Result) (o : Outcome ml) (b b′ : List ℕ) (cap limit : ℕ) (made : Counts) (n : ℕ) (more : Counts) : Type 0 where
+  pub term : Term ml
+  pub outcome-is : o ≡ next term
+  pub size-is : n ≡ size term
+  pub put : b′ ≡ sets b 0 (words term)
+  pub counted : more ≡ oneMore made
+  pub same : r ≡ spec.run (limit - (made .steps + 1)) cap (countsOf (oneMore made)) term
+
+no-both : {n : ℕ} {more : Counts} {x : Report} → Go n more ≡ Stop x → ⊥
+no-both q = let z : _≡_ {A = ℕ} 0 1 = cc in omega arith
+
+-- The run of a term with k steps left, by the outcome of its step.
+abbrev pub by-outcome : ℕ → ℕ → spec.Counts → Term ml → Outcome ml → spec.Result
+by-outcome zero cap made e o = spec.ended (spec.atLimit o) 0 made (words e) 0
+by-outcome (suc k) cap made e o = spec.decide o made cap e (λ r. spec.run k cap (spec.counted made) r)
+
+pub run-by : (k cap : ℕ) (made : spec.Counts) (e : Term ml) → spec.run k cap made e ≡ by-outcome k cap made e (step e)
+unfolding spec.run
+run-by zero cap made e = refl
+run-by (suc k) cap made e = refl
+
+module _ (e : Term ml) (n cap limit : ℕ) (made : Counts) (size-is : n ≡ length (words e)) (le : made .steps ≤ limit) where
+  -- a report that leaves the term
+  leaves : (x : End) (w : ℕ) (y : Report) → stopped x 0 made n w ≡ Stop y → Finished (spec.ended (endOf x) 0 (countsOf made) (words e) w) (words e) y
+  leaves x w y q =
+      let z : record { end = x; code = 0; made = made; left = n; wanted = w } ≡ y = cc in
+      subst (Finished (spec.ended (endOf x) 0 (countsOf made) (words e) w) (words e)) z
+      (record { told-is = rw size-is; left-is = take-all n (words e) (omega arith); short = omega arith })
+
+  errs : (c : ℕ) (y : Report) → stopped ends.Error c (oneMore made) 0 0 ≡ Stop y
+      → Finished (spec.ended spec.error c (spec.counted (countsOf made)) [] 0) (words e) y
+  errs c y q =
+      let z : record { end = ends.Error; code = c; made = oneMore made; left = 0; wanted = 0 } ≡ y = cc in
+      subst (Finished (spec.ended spec.error c (spec.counted (countsOf made)) [] 0) (words e)) z
+      (record { told-is = rw (add-one (made .steps)); left-is = refl; short = omega arith })
+
+  fills : (b : Bool) (u : Term ml) (g : Term ml → spec.Result) (y : Report)
+      → cond b (Go (size u) (oneMore made)) (stopped ends.Full 0 made n (size u)) ≡ Stop y → Finished (spec.ifFits b (countsOf made) e u g) (words e) y
+  fills true u g y q = absurd (no-both q)
+  fills false u g y q = leaves ends.Full (size u) y q
+
+  -- the run ends here
+  pub stops : (k : ℕ) (o : Outcome ml) (b b′ : List ℕ) (r : Move) (x : Report) → k ≡ limit - made .steps → Moved o b r b′ → chosen r n cap made limit ≡ Stop x
+      → Finished (by-outcome k cap (countsOf made) e o) (words e) x
+  stops zero value b b′ r x i h q = leaves ends.Value 0 x (rw h at q)
+  stops (suc k) value b b′ r x i h q = leaves ends.Value 0 x (rw h at q)
+  stops zero (raised c) b b′ r x i h q = leaves ends.Spent 0 x (rw (h, eq-eqb (made .steps) limit (omega arith)) at q)
+  stops (suc k) (raised c) b b′ r x i h q = errs c x (rw (h, ne-eqb (made .steps) limit (λ z. omega arith)) at q)
+  stops zero (next u) b b′ r x i h q = leaves ends.Spent 0 x (rw (h .1, eq-eqb (made .steps) limit (omega arith)) at q)
+  stops (suc k) (next u) b b′ r x i h q =
+      fills (leb (size u) cap) u (λ v. spec.run k cap (spec.counted (countsOf made)) v) x (rw (h .1, ne-eqb (made .steps) limit (λ z. omega arith), h .2) at q)
+  stops zero stuck b b′ r x i h q = leaves ends.Spent 0 x (rw h at q)
+  stops (suc k) stuck b b′ r x i h q = leaves ends.Spent 0 x (rw h at q)
+
+  fits : (b : Bool) (u : Term ml) (g : Term ml → spec.Result) (j : ℕ) (more : Counts)
+      → cond b (Go (size u) (oneMore made)) (stopped ends.Full 0 made n (size u)) ≡ Go j more
+      → (spec.ifFits b (countsOf made) e u g ≡ g u) × (j ≡ size u) × (more ≡ oneMore made)
+  fits true u g j more q = (refl, cc, cc)
+  fits false u g j more q = absurd (no-both (sym q))
+
+  -- the run goes on
+  pub goes : (k : ℕ) (o : Outcome ml) (b b′ : List ℕ) (r : Move) (j : ℕ) (more : Counts) → k ≡ limit - made .steps → Moved o b r b′
+      → chosen r n cap made limit ≡ Go j more → Going (by-outcome k cap (countsOf made) e o) o b b′ cap limit made j more
+  goes zero value b b′ r j more i h q = absurd (no-both (sym (rw h at q)))
+  goes (suc k) value b b′ r j more i h q = absurd (no-both (sym (rw h at q)))
+  goes zero (raised c) b b′ r j more i h q = absurd (no-both (sym (rw (h, eq-eqb (made .steps) limit (omega arith)) at q)))
+  goes (suc k) (raised c) b b′ r j more i h q = absurd (no-both (sym (rw (h, ne-eqb (made .steps) limit (λ z. omega arith)) at q)))
+  goes zero (next u) b b′ r j more i h q = absurd (no-both (sym (rw (h .1, eq-eqb (made .steps) limit (omega arith)) at q)))
+  goes (suc k) (next u) b b′ r j more i h q =
+      let f = fits (leb (size u) cap) u (λ v. spec.run k cap (spec.counted (countsOf made)) v) j more
+      (rw (h .1, ne-eqb (made .steps) limit (λ z. omega arith), h .2) at q) in
+      let d : k ≡ limit - (made .steps + 1) = omega arith in
+      record {
+        term = u;
+        outcome-is = refl;
+        size-is = f .1;
+        put = h .3;
+        counted = f .2;
+        same = f .0 ∙ ap (λ (i : ℕ). spec.run i cap (spec.counted (countsOf made)) u) d ∙ rw (add-one (made .steps));
+      }
+  goes zero stuck b b′ r j more i h q = absurd (no-both (sym (rw h at q)))
+  goes (suc k) stuck b b′ r j more i h q = absurd (no-both (sym (rw h at q)))
+
+-- The numbers that the loop needs, whatever the words are.
+module _ (n cap limit : ℕ) (made : Counts) (le : made .steps ≤ limit) where
+  pub go-fits : (r : Move) (j : ℕ) (more : Counts) → chosen r n cap made limit ≡ Go j more → (j ≤ cap) × (made .steps < limit) × (more .steps ≡ made .steps + 1)
+  go-fits m.Value j more q = absurd (no-both (sym q))
+  go-fits (m.Raised c) j more q = by (eqb (made .steps) limit) q
+    where
+      by : (b : Bool) → cond b (stopped ends.Spent 0 made n 0) (stopped ends.Error c (oneMore made) 0 0) ≡ Go j more → (j ≤ cap) × (made .steps < limit) × (more .steps ≡ made .steps + 1)
+      by true g = absurd (no-both (sym g))
+      by false g = absurd (no-both (sym g))
+  go-fits (m.Next x) j more q = by (eqb (made .steps) limit) refl (leb (x .size) cap) refl q
+    where
+      by : (b : Bool) → eqb (made .steps) limit ≡ b → (d : Bool) → leb (x .size) cap ≡ d
+          → cond b (stopped ends.Spent 0 made n 0) (cond d (Go (x .size) (oneMore made)) (stopped ends.Full 0 made n (x .size))) ≡ Go j more
+          → (j ≤ cap) × (made .steps < limit) × (more .steps ≡ made .steps + 1)
+      by true e d f g = absurd (no-both (sym g))
+      by false e true f g =
+          let i : x .size ≡ j = cc in
+          let k : oneMore made ≡ more = cc in
+          let l = eqb-false (made .steps) limit e in
+          (omega (arith, leb-true (x .size) cap f), omega (arith, l), sym (ap (λ (c : Counts). c .steps) k))
+      by false e false f g = absurd (no-both (sym g))
+  go-fits m.Stuck j more q = absurd (no-both (sym q))
+
+  left-by : (x y : Report) → Stop x ≡ Stop y → x .left ≤ n → y .left ≤ n
+  left-by x y q h = let z : x ≡ y = cc in subst (λ (r : Report). r .left ≤ n) z h
+
+  pub end-short : (r : Move) (y : Report) → chosen r n cap made limit ≡ Stop y → y .left ≤ n
+  end-short m.Value y q = left-by _ y q (omega arith)
+  end-short (m.Raised c) y q = by (eqb (made .steps) limit) q
+    where
+      by : (b : Bool) → cond b (stopped ends.Spent 0 made n 0) (stopped ends.Error c (oneMore made) 0 0) ≡ Stop y → y .left ≤ n
+      by true g = left-by _ y g (omega arith)
+      by false g = left-by _ y g (omega arith)
+  end-short (m.Next x) y q = by (eqb (made .steps) limit) (leb (x .size) cap) q
+    where
+      by : (b d : Bool) → cond b (stopped ends.Spent 0 made n 0) (cond d (Go (x .size) (oneMore made)) (stopped ends.Full 0 made n (x .size))) ≡ Stop y → y .left ≤ n
+      by true d g = left-by _ y g (omega arith)
+      by false true g = absurd (no-both g)
+      by false false g = left-by _ y g (omega arith)
+  end-short m.Stuck y q = left-by _ y q (omega arith)

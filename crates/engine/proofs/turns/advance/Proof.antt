@@ -1,0 +1,63 @@
+-- `engine::turns::advance` meets its contract. Assumes nothing.
+use mathlib.Core.Path.{refl, sym}
+use native.Mathlib.Omega.{arith}
+use lib.Seq.{length-take-le}
+use borrow.Author.Needs.{needs}
+use Rattle.engine.proofs.turns.advance.Statement.{statement}
+use Rattle.engine.proofs.turns.advance.Tie as tie
+use Rattle.engine.proofs.turns.advance.Reads as reads
+use Rattle.engine.proofs.turns.advance.Lts as lts
+use Rattle.reducer.proofs.steps.step.Reads as step-reads
+
+slice-reshare-prefix-step : tie.Need-slice-reshare-prefix-step
+slice-reshare-prefix-step c = search needs
+
+slice-aggregate-step : tie.Need-slice-aggregate-step
+slice-aggregate-step c = let s = c .before .before .before .before in sym (length-take-le (s .args .n) (s .args .first .now) (s .pre .1))
+
+step-requires : tie.Need-step-requires
+step-requires c κs = let s = c .before .before .before .before .before in (s .pre .0, omega (arith, length-take-le (s .args .n) (s .args .first .now) (s .pre .1), s .pre .3))
+
+same-length : tie.Need-same-length
+same-length c = search needs
+
+same-length-2 : tie.Need-same-length-2
+same-length-2 c = search needs
+
+returns : tie.Need-returns
+returns c = rw (c .before .before .before .before .before .if1 .taken) (record { kept = refl; stepped = c .before .before .step .ensures })
+
+slice-reshare-prefix-step-2 : tie.Need-slice-reshare-prefix-step-2
+slice-reshare-prefix-step-2 c = search needs
+
+slice-aggregate-step-2 : tie.Need-slice-aggregate-step-2
+slice-aggregate-step-2 c = let s = c .before .before .before .before in sym (length-take-le (s .args .n) (s .args .second .now) (s .pre .2))
+
+step-requires-2 : tie.Need-step-requires-2
+step-requires-2 c κs = let s = c .before .before .before .before .before in (s .pre .0, omega (arith, length-take-le (s .args .n) (s .args .second .now) (s .pre .2), s .pre .3))
+
+same-length-3 : tie.Need-same-length-3
+same-length-3 c = search needs
+
+same-length-4 : tie.Need-same-length-4
+same-length-4 c = search needs
+
+returns-2 : tie.Need-returns-2
+returns-2 c = rw (c .before .before .before .before .before .if1 .left) (record { kept = refl; stepped = c .before .before .step2 .ensures })
+
+pub advance-spec : {M : Type 1} → statement M
+advance-spec =
+    tie.close
+    (tie.spec
+    slice-reshare-prefix-step
+    slice-aggregate-step
+    step-requires
+    same-length
+    same-length-2
+    returns
+    slice-reshare-prefix-step-2
+    slice-aggregate-step-2
+    step-requires-2
+    same-length-3
+    same-length-4
+    returns-2)

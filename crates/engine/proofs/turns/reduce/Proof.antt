@@ -1,0 +1,45 @@
+-- `engine::turns::reduce` meets its contract. Assumes nothing.
+use mathlib.Core.Path.{refl, sym, ap, _∙_}
+use native.Mathlib.Omega.{arith}
+use Rattle.nodes.specs.Table.{rowOf, kinds}
+use Rattle.engine.proofs.Looping.{reduced}
+use borrow.Author.Needs.{needs}
+use Rattle.engine.proofs.turns.reduce.Statement.{statement}
+use Rattle.engine.proofs.turns.reduce.Tie as tie
+use Rattle.engine.proofs.turns.reduce.Reads as reads
+use Rattle.engine.proofs.turns.reduce.Lts as lts
+use Rattle.engine.proofs.buffers.settle.Reads as settle-reads
+use Rattle.engine.proofs.ends.capacity.Reads as capacity-reads
+use Rattle.engine.proofs.turns.turns.Reads as turns-reads
+
+capacity-requires : tie.Need-capacity-requires
+capacity-requires c κs = search needs
+
+turns-requires : tie.Need-turns-requires
+unfolding kinds rowOf
+turns-requires c κs =
+    let s = c .before .before .before .before .before .before in
+    let e = c .before .before .before .capacity .ensures in
+    (refl, omega (arith, e, s .pre), omega (arith, e), omega (arith, e), omega (arith, e))
+
+settle-requires : tie.Need-settle-requires
+settle-requires c κs =
+    let t = c .before .before .before .before .before .before .before .turns in
+    let e = c .before .before .before .before .before .before .before .before .before .before .before .capacity .ensures in
+    (omega (arith, t .ensures .short, e, t .kept .1 .0), omega (arith, t .ensures .short, e, t .kept .1 .1 .0), omega (arith, t .ensures .short, e))
+
+same-length : tie.Need-same-length
+same-length c = search needs
+
+same-length-2 : tie.Need-same-length-2
+same-length-2 c = search needs
+
+returns : tie.Need-returns
+returns c =
+    let t = c .before .before .before .before .before .before .before .before .before .before .before .before .turns in
+    reduced (c .before .before .before .before .before .before .before .before .before .before .before .before .before .before .before .before .capacity .ensures) (t .ensures) (t .kept .1 .0) (t .kept .1 .1 .0) (c .before .before .before .before .settle .ensures)
+
+pub reduce-spec : {M : Type 1} → statement M
+reduce-spec =
+    tie.close
+    (tie.spec capacity-requires turns-requires settle-requires same-length same-length-2 returns)

@@ -1,0 +1,30 @@
+-- What follows a move of the term at hand, in the order of document 01: value, spent, error, full, or the step is made.
+use Prim.Native.Nat.{ℕ, _+_}
+use mathlib.Core.Bool.{cond}
+use lib.Dec.{eqb, leb}
+use Rattle.reducer.specs.declared.steps.Change.{Change}
+use Rattle.reducer.specs.declared.steps.Move.{Move}
+use Rattle.reducer.specs.declared.steps.Move.the-variants as m
+use Rattle.engine.specs.declared.ends.Counts.{Counts}
+use Rattle.engine.specs.declared.ends.End.{End}
+use Rattle.engine.specs.declared.ends.End.the-variants as e
+use Rattle.engine.specs.declared.ends.Report.{Report}
+use Rattle.engine.specs.declared.ends.Choice.{Choice}
+use Rattle.engine.specs.declared.ends.Choice.the-variants.{Stop, Go}
+
+abbrev pub stopped : End → ℕ → Counts → ℕ → ℕ → Choice
+stopped x code made n wanted = Stop (record { end = x; code = code; made = made; left = n; wanted = wanted })
+
+-- One step more.
+abbrev pub oneMore : Counts → Counts
+oneMore made = record { steps = made .steps + 1 }
+
+-- "a value ends as value; steps made equal to the limit, as spent; a wrong whose turn it is, as error; a next term of more words than capacity,
+-- as full; else the step is made". No accepted recipe comes to a term that is stuck.
+abbrev pub chosen : Move → ℕ → ℕ → Counts → ℕ → Choice
+chosen m.Value n cap made limit = stopped e.Value 0 made n 0
+chosen (m.Raised c) n cap made limit = cond (eqb (made .steps) limit) (stopped e.Spent 0 made n 0) (stopped e.Error c (oneMore made) 0 0)
+chosen (m.Next x) n cap made limit =
+    cond (eqb (made .steps) limit) (stopped e.Spent 0 made n 0)
+    (cond (leb (x .size) cap) (Go (x .size) (oneMore made)) (stopped e.Full 0 made n (x .size)))
+chosen m.Stuck n cap made limit = stopped e.Spent 0 made n 0

@@ -1,0 +1,5 @@
+pub mod Buffered
+pub mod Decided
+pub mod Ran
+pub mod Answered
+pub mod Demands

@@ -1,0 +1,68 @@
+-- A run in two buffers: the numbers of a result, and what the loop leaves.
+use Prim.Native.Nat.{ℕ, _≤_}
+use mathlib.Core.Bool.{Bool, not}
+use mathlib.Core.List.{List, []}
+use mathlib.Core.Path.{_≡_}
+use lib.ListN.{length, take}
+use Rattle.calculus.specs.Trees.{Ty, ml, Term}
+use Rattle.calculus.specs.Words.{words}
+use Rattle.calculus.specs.Limits.{InRange}
+use Rattle.calculus.specs.Typing.{Typed}
+use Rattle.calculus.specs.Run as spec
+use Rattle.reducer.specs.declared.steps.Move.{Move}
+use Rattle.reducer.specs.Moves.{Steps}
+use Rattle.engine.specs.declared.ends.Counts.{Counts}
+use Rattle.engine.specs.declared.ends.End.{End}
+use Rattle.engine.specs.declared.ends.End.the-variants.{Value, Spent, Error, Full}
+use Rattle.engine.specs.declared.ends.Report.{Report}
+use Rattle.engine.specs.declared.turns.Halt.{Halt}
+use Rattle.engine.specs.Buffered.{held, Settled}
+
+-- "The result: end, code, steps made, words left, words wanted", as numbers.
+pub record Line : Type 0 where
+  pub end : spec.End
+  pub code : ℕ
+  pub made : spec.Counts
+  pub left : ℕ
+  pub wanted : ℕ
+
+-- The numbers of a result, and those that a report stands for.
+abbrev pub lineOf : spec.Result → Line
+lineOf r = record { end = r .end; code = r .code; made = r .made; left = length (r .left); wanted = r .wanted }
+
+abbrev pub endOf : End → spec.End
+endOf Value = spec.valued
+endOf Spent = spec.spent
+endOf Error = spec.error
+endOf Full = spec.full
+
+abbrev pub countsOf : Counts → spec.Counts
+countsOf made = record { steps = made .steps }
+
+abbrev pub told : Report → Line
+told x = record { end = endOf (x .end); code = x .code; made = countsOf (x .made); left = x .left; wanted = x .wanted }
+
+-- A term that the engine reduces: in range, and of some type.
+pub record Good (e : Term ml) : Type 0 where
+  pub ranged : InRange e
+  pub type : Ty
+  pub typed : Typed [] e type
+
+-- A step of the first n words of the buffer that holds the term, into the other.
+pub record Advanced (front : Bool) (n : ℕ) (first second : List ℕ) (r : Move) (first′ second′ : List ℕ) : Type 0 where
+  pub kept : held front first′ second′ ≡ held front first second
+  pub stepped : Steps (take n (held front first second)) (held (not front) first second) r (held (not front) first′ second′)
+
+-- Where the loop halts: the report and the term left are the run's.
+pub record Halted (r : spec.Result) (h : Halt) (first′ second′ : List ℕ) : Type 0 where
+  pub told-is : told (h .report) ≡ lineOf r
+  pub left-is : take (h .report .left) (held (h .front) first′ second′) ≡ r .left
+
+pub record Ran (limit cap : ℕ) (ws : List ℕ) (h : Halt) (first′ second′ : List ℕ) : Type 0 where
+  pub short : h .report .left ≤ cap
+  pub of : (e : Term ml) → ws ≡ words e → Good e → Halted (spec.run limit cap spec.uncounted e) h first′ second′
+
+-- A run of the term whose words ws stand first in the first buffer: the report, and both buffers.
+pub record Reduced (limit cap : ℕ) (ws : List ℕ) (x : Report) (first second first′ second′ : List ℕ) : Type 0 where
+  pub of : (e : Term ml) → ws ≡ words e → Good e
+      → (told x ≡ lineOf (spec.run limit cap spec.uncounted e)) × Settled (spec.run limit cap spec.uncounted e .left) first second first′ second′

@@ -1,0 +1,43 @@
+// What a run leaves in the two buffers.
+
+ghost use mathlib.Core.Path.{_≡_};
+ghost use mathlib.Core.List.{[]};
+ghost use Prim.Native.Nat.{_≤_};
+ghost use lib.ListN.{length, take};
+ghost use Rattle.calculus.specs.File.{padded};
+ghost use Rattle.engine.specs.Buffered.{held, Settled};
+
+// The first n words stay; the others become zero.
+fn clear(buffer: &mut [u32], n: usize)
+    requires { ⌜ n ≤ length (now buffer) ⌝ }
+    ensures { λ _. ⌜ now (buffer .exit) ≡ padded (length (now (buffer .entry))) (take n (now (buffer .entry))) ⌝ }
+{
+    let mut i = n;
+    while i < buffer.len() {
+        buffer[i] = 0;
+        i += 1;
+    }
+}
+
+// Both buffers all zero.
+pub fn wipe(first: &mut [u32], second: &mut [u32])
+    ensures { λ _. ⌜ Settled [] (now (first .entry)) (now (second .entry)) (now (first .exit)) (now (second .exit)) ⌝ }
+{
+    clear(first, 0);
+    clear(second, 0);
+}
+
+// The first n words of the buffer that holds the term stand first in the first buffer; every other word of both becomes zero.
+pub fn settle(front: bool, first: &mut [u32], second: &mut [u32], n: usize)
+    requires { ⌜ (n ≤ length (now first)) × (n ≤ length (now second)) × (n ≤ 16384) ⌝ }
+    ensures { λ _. ⌜ Settled (take n (held front (now (first .entry)) (now (second .entry)))) (now (first .entry)) (now (second .entry)) (now (first .exit)) (now (second .exit)) ⌝ }
+{
+    if front {
+        clear(first, n);
+        clear(second, 0);
+        return;
+    }
+    writing::copy(&second[..n], first, 0);
+    clear(first, n);
+    clear(second, 0);
+}

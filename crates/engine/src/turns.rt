@@ -1,0 +1,77 @@
+// The loop: a term is reduced, step by step, until its run ends. The buffers take turns, and a flag says which of them holds the term.
+
+use crate::ends::Choice;
+use crate::ends::Counts;
+use crate::ends::Report;
+use crate::ends::decide;
+use reducer::steps::Move;
+use reducer::steps::step;
+ghost use mathlib.Core.Path.{_≡_};
+ghost use Prim.Native.Nat.{_≤_};
+ghost use lib.ListN.{length, take};
+ghost use Rattle.calculus.specs.Run.{capacity};
+ghost use Rattle.nodes.specs.Table.{kinds};
+ghost use Rattle.engine.specs.Ran.{Advanced, Ran, Reduced};
+
+// A report, and whether the term stands in the first buffer.
+pub struct Halt {
+    pub report: Report,
+    pub front: bool,
+}
+
+// One step, from the buffer that holds the term into the other.
+fn advance(table: &[u64; 48], front: bool, first: &mut [u32], second: &mut [u32], n: usize) -> Move
+    requires { ⌜ (now table ≡ kinds) × (n ≤ length (now first)) × (n ≤ length (now second)) × (n ≤ 16384) ⌝ }
+    ensures { λ r. ⌜ Advanced front n (now (first .entry)) (now (second .entry)) r (now (first .exit)) (now (second .exit)) ⌝ }
+{
+    if front {
+        return step(table, &first[..n], second);
+    }
+    step(table, &second[..n], first)
+}
+
+// Steps until the run ends.
+fn turns(
+    table: &[u64; 48],
+    first: &mut [u32],
+    second: &mut [u32],
+    count: usize,
+    cap: usize,
+    limit: u32,
+) -> Halt
+    requires { ⌜ (now table ≡ kinds) × (count ≤ cap) × (cap ≤ length (now first)) × (cap ≤ length (now second)) × (cap ≤ 16384) ⌝ }
+    ensures { λ r. ⌜ Ran limit cap (take count (now (first .entry))) r (now (first .exit)) (now (second .exit)) ⌝ }
+{
+    let mut n = count;
+    let mut made = Counts { steps: 0 };
+    let mut front = true;
+    loop {
+        let moved = advance(table, front, first, second, n);
+        match decide(moved, n, cap, made, limit) {
+            Choice::Stop(report) => {
+                return Halt {
+                    report: report,
+                    front: front,
+                };
+            }
+            Choice::Go(size, more) => {
+                n = size;
+                made = more;
+                front = !front;
+            }
+        }
+    }
+}
+
+// A run of the term whose words are the first `count` of the first buffer, in the capacity of both. For the operations that lend buffers.
+pub fn reduce(first: &mut [u32], second: &mut [u32], count: usize, limit: u32) -> Report
+    requires { ⌜ count ≤ capacity (length (now first)) (length (now second)) ⌝ }
+    ensures { λ r. ⌜ Reduced limit (capacity (length (now (first .entry))) (length (now (second .entry)))) (take count (now (first .entry))) r (now (first .entry)) (now (second .entry)) (now (first .exit)) (now (second .exit)) ⌝ }
+{
+    let table = nodes::kinds::KINDS;
+    let cap = crate::ends::capacity(first.len(), second.len());
+    let halt = turns(&table, first, second, count, cap, limit);
+    let report = halt.report;
+    crate::buffers::settle(halt.front, first, second, report.left);
+    report
+}
