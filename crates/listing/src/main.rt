@@ -1,0 +1,7 @@
+// The listing program: it reads a recipe file from standard input and prints what its run comes to. One byte more than a file may have is
+// read, so that a longer input is refusal 1.
+fn main() {
+    let mut file = [0u8; 16385];
+    let n = io::read_full(0, &mut file);
+    lister::list(&file[..n]);
+}
