@@ -1,5 +1,7 @@
 // The functions that a C program calls; include/recipe.h declares them.
 
+pub mod runs;
+
 use checker::Checked;
 use nodes::refusals::Refusal;
 ghost use mathlib.Core.Path.{_≡_};

@@ -1,0 +1,17 @@
+-- `exports::runs::refused` meets its contract. Assumes nothing.
+use borrow.Author.Needs.{needs}
+use borrow.Author.Needs.{needs}
+use Rattle.exports.proofs.runs.refused.Statement.{statement}
+use Rattle.exports.proofs.runs.refused.Tie as tie
+use Rattle.exports.proofs.runs.refused.Reads as reads
+use Rattle.exports.proofs.runs.refused.Lts as lts
+use Rattle.exports.proofs.runs.narrow.Reads as narrow-reads
+
+narrow-requires : tie.Need-narrow-requires
+narrow-requires c κs = search needs
+
+returns : tie.Need-returns
+returns c = rw (c .narrow .ensures)
+
+pub refused-spec : {M : Type 1} → statement M
+refused-spec = tie.close (tie.spec narrow-requires returns)

@@ -1,0 +1,108 @@
+// A run for a C program. A number of words over 4,294,967,295 would be given as that; the terms of no recipe come near it.
+
+use engine::ends::End;
+use engine::ends::Report;
+use engine::runs::Answer;
+use engine::runs::run;
+use nodes::refusals::Refusal;
+ghost use mathlib.Core.Path.{_≡_};
+ghost use lib.ListN.{length};
+ghost use Rattle.calculus.specs.Verdicts.{passed, andThen};
+ghost use Rattle.calculus.specs.File.{operate, firstAfter, secondAfter};
+ghost use Rattle.nodes.specs.Refusals.{refusal};
+ghost use Rattle.engine.specs.Ran.{lineOf};
+ghost use Rattle.exports.specs.Numbers.{narrowed, endNumber, refusedNumbers, endedNumbers, runNumbers};
+
+#[repr(C)]
+pub struct RecipeRun {
+    pub refusal: u32,
+    pub place: u32,
+    pub end: u32,
+    pub code: u32,
+    pub steps: u32,
+    pub left: u32,
+    pub wanted: u32,
+}
+
+fn narrow(n: usize) -> u32
+    ensures { λ r. ⌜ r ≡ narrowed n ⌝ }
+{
+    if n < 4294967295 {
+        return n as u32;
+    }
+    4294967295
+}
+
+fn refused(number: u32, place: usize) -> RecipeRun
+    ensures { λ r. ⌜ r ≡ refusedNumbers number place ⌝ }
+{
+    RecipeRun {
+        refusal: number,
+        place: narrow(place),
+        end: 0,
+        code: 0,
+        steps: 0,
+        left: 0,
+        wanted: 0,
+    }
+}
+
+fn refused_by(r: Refusal) -> RecipeRun
+    ensures { λ x. ⌜ x ≡ runNumbers (refusal r) ⌝ }
+{
+    match r {
+        Refusal::Bytes => refused(1, 0),
+        Refusal::Header => refused(2, 0),
+        Refusal::Word(p) => refused(3, p),
+        Refusal::Nesting(p) => refused(4, p),
+        Refusal::Variable(p) => refused(5, p),
+        Refusal::Untyped(p) => refused(6, p),
+        Refusal::Mistyped(p) => refused(7, p),
+        Refusal::Capacity => refused(8, 0),
+    }
+}
+
+fn end_number(e: End) -> u32
+    ensures { λ r. ⌜ r ≡ endNumber e ⌝ }
+{
+    match e {
+        End::Value => 0,
+        End::Spent => 1,
+        End::Error => 2,
+        End::Full => 3,
+    }
+}
+
+fn ended(x: Report) -> RecipeRun
+    ensures { λ r. ⌜ r ≡ endedNumbers x ⌝ }
+{
+    let e = x.end;
+    let made = x.made;
+    RecipeRun {
+        refusal: 0,
+        place: 0,
+        end: end_number(e),
+        code: x.code,
+        steps: made.steps,
+        left: narrow(x.left),
+        wanted: narrow(x.wanted),
+    }
+}
+
+// A run of a file, for every file, every limit and every pair of buffers.
+#[no_mangle]
+pub extern "C" fn recipe_run(
+    file: &[u8],
+    limit: u32,
+    first: &mut [u32],
+    second: &mut [u32],
+) -> RecipeRun
+    ensures answer { λ r. ⌜ r ≡ runNumbers (andThen (operate (now (file .entry)) limit (length (now (first .entry))) (length (now (second .entry)))) (λ x. passed (lineOf x))) ⌝ }
+    ensures first { λ r. ⌜ now (first .exit) ≡ firstAfter (length (now (first .entry))) (operate (now (file .entry)) limit (length (now (first .entry))) (length (now (second .entry)))) ⌝ }
+    ensures second { λ r. ⌜ now (second .exit) ≡ secondAfter (length (now (second .entry))) (operate (now (file .entry)) limit (length (now (first .entry))) (length (now (second .entry)))) ⌝ }
+{
+    match run(file, limit, first, second) {
+        Answer::Refused(r) => refused_by(r),
+        Answer::Ended(x) => ended(x),
+    }
+}
