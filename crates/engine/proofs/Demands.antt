@@ -110,8 +110,8 @@ grow l m g h x b i c p q a f =
     let r = passed-by v x (ap spoken (sym a) ∙ p .answer-is) in
     let t = ap (λ (y : Line). y .end) (r .2) in
     let o = subst (λ (bs : List ℕ). operate bs (m .limit) (length (m .first)) (length (m .second)) ≡ passed (r .0)) b
-      (demand-3 (l .bytes) .runs (l .limit) (length (l .first)) (length (l .second)) (m .limit) (length (m .first)) (length (m .second)) (r .0) i c (r .1)
-      (subst spec.Final t (final-of (x .end) f))) in
+    (demand-3 (l .bytes) .runs (l .limit) (length (l .first)) (length (l .second)) (m .limit) (length (m .first)) (length (m .second)) (r .0) i c (r .1)
+    (subst spec.Final t (final-of (x .end) f))) in
     let d = ended-by (h .answer) (lineOf (r .0)) (q .answer-is ∙ ap (λ (v : Verdict spec.Result). andThen v (λ y. passed (lineOf y))) o) in
     let n : x .left ≡ length (r .0 .left) = ap (λ (y : Line). y .left) (r .2) in
     record {
@@ -127,8 +127,8 @@ demands =
       finishes = λ l g h. finish l g (g .answer) refl h;
       accepts = check-iff;
       reduces = λ l g τ e h a s.
-        let r = spec.run (l .limit) (room l) spec.uncounted e in
-        reduce l g r e (operate-iff (l .bytes) (l .limit) (length (l .first)) (length (l .second)) r .1 (τ, e, a, s, refl)) refl h;
+          let r = spec.run (l .limit) (room l) spec.uncounted e in
+          reduce l g r e (operate-iff (l .bytes) (l .limit) (length (l .first)) (length (l .second)) r .1 (τ, e, a, s, refl)) refl h;
       safe = λ bytes. demand-3 bytes .accepted;
       grows = grow;
     }
