@@ -1,9 +1,9 @@
 -- Refusals 6 and 7: what the inference and the comparison answer. Assumes nothing.
-use Prim.Native.Nat.{ℕ, _+_, _<_, _≤_}
+use Prim.Native.Nat.{ℕ, _+_}
 use mathlib.Core.Bool.{Bool, true, false}
 use mathlib.Core.List.{List, []}
 use mathlib.Core.Option.{Option, none, some}
-use mathlib.Core.Path.{_≡_, refl, sym, ap, _∙_, subst}
+use mathlib.Core.Path.{_≡_, refl, sym, _∙_, subst}
 use lib.ListN.{length, drop}
 use native.Mathlib.Omega.{arith}
 use Rattle.calculus.specs.Trees.{Ty, ml, Term}
@@ -13,7 +13,7 @@ use Rattle.calculus.specs.Inference.{sameType, infer}
 use Rattle.calculus.specs.Faults.{fault}
 use Rattle.calculus.specs.File.{typed}
 use Rattle.nodes.specs.declared.refusals.Refusal.the-variants.{Untyped, Mistyped}
-use Rattle.types.specs.References.{Written, Means}
+use Rattle.types.specs.References.{Written}
 use Rattle.types.specs.Comparisons.{Equality}
 use Rattle.types.proofs.Meanings.{written-means}
 use Rattle.rules.specs.Answers.{Answers}
@@ -21,8 +21,8 @@ use Rattle.rules.specs.Variables.{Scope}
 use Rattle.rules.specs.declared.Inferred.{Inferred}
 use Rattle.rules.specs.declared.Inferred.the-variants.{Typed, Bad}
 use Rattle.inference.specs.Infers.{Infers}
-use Rattle.inference.proofs.Scoping.{Good, good-part, advanced}
-use Rattle.checker.specs.Checks.{checked, accepting, Decides}
+use Rattle.inference.proofs.Scoping.{good-part, advanced}
+use Rattle.checker.specs.Checks.{accepting, Decides}
 use Rattle.checker.specs.declared.Checked.the-variants.{Refused, Accepted}
 
 abbrev IsBad : Inferred → Type 0

@@ -1,6 +1,5 @@
 -- Refusals 3 to 7 in their order. Assumes nothing.
-use Prim.Native.Nat.{ℕ, _+_, _-_, _<_, _≤_}
-use mathlib.Core.Bool.{true}
+use Prim.Native.Nat.{ℕ, _+_, _-_}
 use mathlib.Core.List.{List, [], _∷_, _++_}
 use mathlib.Core.Path.{_≡_, refl, sym, ap, _∙_, subst}
 use lib.ListN.{length, take, drop, length-drop}
@@ -9,13 +8,12 @@ use borrow.Rule.Slice.PartAt.{part-to-end}
 use lib.ListN.{take-append-drop}
 use native.Mathlib.Omega.{arith}
 use Rattle.calculus.specs.Trees.{ml}
-use Rattle.calculus.specs.Words.{words}
 use Rattle.calculus.specs.Kinds.{type, term}
 use Rattle.calculus.proofs.Sizes.{tree-append}
-use Rattle.calculus.specs.Verdicts.{Verdict, refused, passed, andThen, unless}
+use Rattle.calculus.specs.Verdicts.{Verdict, refused, passed, andThen}
 use Rattle.calculus.specs.Reading.{later, walk, inOrder}
 use Rattle.calculus.specs.Scope.{scopeDue}
-use Rattle.calculus.specs.File.{isHeader, typeCount, typeWords, termWords, ordered, scoped, Recipe, typed, withTree, checkWords}
+use Rattle.calculus.specs.File.{typeCount, typeWords, termWords, Recipe, typed, withTree, checkWords}
 use Rattle.calculus.proofs.Nesting.{Ordered, passes-ordered}
 use Rattle.calculus.proofs.Walks.{later-passed}
 use Rattle.calculus.proofs.Verdicts.{then-passed}
@@ -27,7 +25,7 @@ use Rattle.file.proofs.Tests.{Fits, header-is}
 use Rattle.types.specs.References.{Written}
 use Rattle.checker.specs.Checks.{checked, accepting, Decides}
 use Rattle.checker.specs.declared.Checked.{Checked}
-use Rattle.checker.specs.declared.Checked.the-variants.{Refused, Accepted}
+use Rattle.checker.specs.declared.Checked.the-variants.{Refused}
 
 in-one : {A B : Type 0} (v w : Verdict A) (k : A → Verdict B) → andThen v (λ n. andThen w k) ≡ andThen (andThen v (λ n. w)) k
 in-one (refused n p) w k = refl

@@ -7,12 +7,12 @@ use lib.ListN.{length, take, drop}
 use lib.Seq.{sets-eq, take-at}
 use borrow.Author.Tests.{le-leb, lt-leb}
 use borrow.Rule.Slice.PartAt.{part-to-end}
-use Rattle.calculus.specs.Trees.{Ty, ml, Term}
+use Rattle.calculus.specs.Trees.{ml, Term}
 use Rattle.calculus.specs.Words.{words, size}
 use Rattle.calculus.specs.Kinds.{term}
 use Rattle.calculus.specs.Verdicts.{Verdict, refused, passed, andThen}
 use Rattle.calculus.specs.Run as spec
-use Rattle.calculus.specs.File.{wordsOf, typeCount, termWords, Recipe, checkWords, check, runIn, operate}
+use Rattle.calculus.specs.File.{typeCount, Recipe, checkWords, check, runIn, operate}
 use Rattle.calculus.proofs.Verdicts.{not-both, then-passed}
 use Rattle.calculus.proofs.Sizes.{tree-length}
 use Rattle.calculus.proofs.Checks.{passes-in-order}
@@ -26,7 +26,7 @@ use Rattle.engine.specs.declared.runs.Answer.{Answer}
 use Rattle.engine.specs.declared.runs.Answer.the-variants as a
 use Rattle.engine.specs.Buffered.{Settled}
 use Rattle.calculus.specs.File.{padded}
-use Rattle.engine.specs.Ran.{lineOf, told, Good, Reduced}
+use Rattle.engine.specs.Ran.{lineOf, told, Reduced}
 use Rattle.engine.specs.Answered.{Answered, started, Begun}
 use Rattle.engine.proofs.Bridge.{Judged}
 

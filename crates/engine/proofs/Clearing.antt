@@ -1,10 +1,9 @@
 -- A buffer cleared from a place on, and the two buffers after a run. Assumes nothing.
 use Prim.Native.Nat.{ℕ, _+_, _-_, _≤_}
 use mathlib.Core.List.{List, [], _∷_, _++_, append-nil}
-use mathlib.Core.Path.{_≡_, refl, sym, ap, _∙_}
-use native.Mathlib.Nat.{sub-zero}
+use mathlib.Core.Path.{_≡_, refl, ap, _∙_}
 use native.Mathlib.Omega.{arith}
-use lib.ListN.{length, take, drop, set, replicate, length-replicate, replicate-append-replicate, length-append, drop-of-length-le}
+use lib.ListN.{length, take, drop, set, replicate, length-replicate, replicate-append-replicate, drop-of-length-le}
 use lib.Seq.{sets, sets-eq, take-all, take-at, length-take-le}
 use Rattle.calculus.specs.File.{padded}
 use Rattle.writing.specs.Wrote.{Wrote}

@@ -3,14 +3,12 @@ use Prim.Native.Nat.{ℕ, _≤_}
 use mathlib.Core.List.{List, []}
 use mathlib.Core.Path.{_≡_, refl, sym, ap, _∙_, subst}
 use native.Mathlib.Omega.{arith}
-use lib.ListN.{length, take, replicate}
-use Rattle.calculus.specs.Trees.{Ty, ml, Term}
+use lib.ListN.{length, take}
+use Rattle.calculus.specs.Trees.{ml, Term}
 use Rattle.calculus.specs.Words.{size}
 use Rattle.calculus.specs.Verdicts.{Verdict, refused, passed, andThen}
 use Rattle.calculus.specs.Run as spec
-use Rattle.calculus.specs.File.{check, operate, padded, leftBy}
-use Rattle.calculus.specs.Accepted.{Accepted}
-use Rattle.calculus.specs.Demands.{Demand3}
+use Rattle.calculus.specs.File.{operate, padded, leftBy}
 use Rattle.calculus.proofs.Verdicts.{not-both, passed-injective}
 use Rattle.calculus.proofs.Checks.{check-iff, operate-iff}
 use Rattle.calculus.specs.Kinds.{term}
@@ -28,7 +26,7 @@ use Rattle.engine.specs.declared.ends.Report.{Report}
 use Rattle.engine.specs.declared.runs.Answer.{Answer}
 use Rattle.engine.specs.declared.runs.Answer.the-variants.{Refused, Ended}
 use Rattle.engine.specs.Ran.{Line, lineOf, endOf, told}
-use Rattle.engine.specs.Answered.{spoken, Answered}
+use Rattle.engine.specs.Answered.{spoken}
 use Rattle.engine.specs.Demands.{Lent, Given, room, Promised, Finishes, refuses, ends, Reduces, Final, Same, Demands}
 
 numbered : (x : Refusal) → (1 ≤ numberOf x) × (numberOf x ≤ 8)

@@ -1,12 +1,12 @@
 -- The loop's invariant: the run of the term it started with is the run of the term at hand, with the steps that are left. Assumes nothing.
-use Prim.Native.Nat.{ℕ, zero, suc, _+_, _-_, _≤_, _<_}
+use Prim.Native.Nat.{ℕ, _+_, _-_, _≤_}
 use mathlib.Core.Bool.{Bool, true, false, not}
 use mathlib.Core.List.{List, []}
 use mathlib.Core.Path.{_≡_, refl, sym, ap, _∙_, subst}
 use native.Mathlib.Nat.{sub-zero}
 use native.Mathlib.Omega.{arith}
 use lib.ListN.{length, take, drop}
-use lib.Seq.{sets, sets-eq, take-at, take-take, length-take-le}
+use lib.Seq.{sets-eq, take-at, take-take, length-take-le}
 use Rattle.calculus.specs.Trees.{ml, Term}
 use Rattle.calculus.specs.Words.{words, size}
 use Rattle.calculus.specs.Kinds.{term}
@@ -22,10 +22,10 @@ use Rattle.engine.specs.declared.ends.Choice.the-variants.{Stop, Go}
 use Rattle.engine.specs.declared.turns.Halt.{Halt}
 use Rattle.calculus.specs.File.{padded}
 use Rattle.engine.specs.Buffered.{held, Settled}
-use Rattle.engine.specs.Decided.{oneMore, chosen}
+use Rattle.engine.specs.Decided.{chosen}
 use Rattle.engine.specs.Ran.{lineOf, countsOf, told, Good, Advanced, Ran, Reduced}
 use Rattle.engine.proofs.Bridge.{moved}
-use Rattle.engine.proofs.Moving.{Moved, Finished, Going, by-outcome, run-by, stops, goes, go-fits, end-short}
+use Rattle.engine.proofs.Moving.{Moved, run-by, stops, goes, go-fits, end-short}
 
 -- A step keeps what the engine asks of a term.
 good-next : (e u : Term ml) → Good e → step e ≡ next u → Good u

@@ -6,15 +6,14 @@ use mathlib.Core.Path.{_≡_, refl, sym, ap, _∙_, subst}
 use native.Mathlib.Numerals.{add-one}
 use native.Mathlib.Omega.{arith}
 use lib.Dec.{eqb, leb}
-use lib.ListN.{length, take, drop}
-use lib.Seq.{sets, sets-eq, take-all, take-at}
-use borrow.Author.Tests.{eq-eqb, ne-eqb, eqb-true, eqb-false, leb-true}
+use lib.ListN.{length, take}
+use lib.Seq.{sets, take-all}
+use borrow.Author.Tests.{eq-eqb, ne-eqb, eqb-false, leb-true}
 use Rattle.calculus.specs.Trees.{ml, Term}
 use Rattle.calculus.specs.Words.{words, size}
 use Rattle.calculus.specs.Reduction.{Outcome, value, raised, next, stuck, step}
 use Rattle.calculus.specs.Run as spec
 use Rattle.calculus.specs.Kinds.{term}
-use Rattle.calculus.proofs.Sizes.{tree-length}
 use Rattle.reducer.specs.declared.steps.Change.{Change}
 use Rattle.reducer.specs.declared.steps.Move.{Move}
 use Rattle.reducer.specs.declared.steps.Move.the-variants as m
@@ -22,10 +21,9 @@ use Rattle.engine.specs.declared.ends.Counts.{Counts}
 use Rattle.engine.specs.declared.ends.End.{End}
 use Rattle.engine.specs.declared.ends.End.the-variants as ends
 use Rattle.engine.specs.declared.ends.Report.{Report}
-use Rattle.engine.specs.declared.ends.Choice.{Choice}
 use Rattle.engine.specs.declared.ends.Choice.the-variants.{Stop, Go}
 use Rattle.engine.specs.Decided.{stopped, oneMore, chosen}
-use Rattle.engine.specs.Ran.{Line, lineOf, endOf, countsOf, told}
+use Rattle.engine.specs.Ran.{lineOf, endOf, countsOf, told}
 
 -- A move is that of an outcome; the next term is put into the buffer b, which is b′ then.
 abbrev pub Moved : Outcome ml → List ℕ → Move → List ℕ → Type 0

@@ -1,10 +1,9 @@
 -- The numbers of a run's answer are those of the specification's. Assumes nothing.
-use Prim.Native.Nat.{ℕ}
 use mathlib.Core.Path.{_≡_, refl, sym, ap, _∙_}
 use Rattle.calculus.specs.Verdicts.{Verdict}
 use Rattle.nodes.specs.declared.refusals.Refusal.{Refusal}
 use Rattle.nodes.specs.Refusals.{refusal}
-use Rattle.engine.specs.Ran.{Line, endOf, told}
+use Rattle.engine.specs.Ran.{Line, endOf}
 use Rattle.engine.specs.Answered.{spoken}
 use Rattle.engine.specs.declared.ends.End.{End}
 use Rattle.engine.specs.declared.ends.End.the-variants.{Value, Spent, Error, Full}
@@ -12,7 +11,7 @@ use Rattle.engine.specs.declared.ends.Report.{Report}
 use Rattle.engine.specs.declared.runs.Answer.{Answer}
 use Rattle.engine.specs.declared.runs.Answer.the-variants.{Refused, Ended}
 use Rattle.exports.specs.declared.runs.RecipeRun.{RecipeRun}
-use Rattle.exports.specs.Numbers.{narrowed, endNumber, numberOfEnd, refusedNumbers, endedNumbers, runNumbers}
+use Rattle.exports.specs.Numbers.{endNumber, numberOfEnd, endedNumbers, runNumbers}
 
 pub end-is : (e : End) → endNumber e ≡ numberOfEnd (endOf e)
 end-is Value = refl

@@ -5,13 +5,13 @@ use mathlib.Core.List.{List}
 use mathlib.Core.Path.{_≡_, refl, sym, ap, _∙_, subst}
 use lib.ListN.{length}
 use native.Mathlib.Omega.{arith}
-use Rattle.calculus.specs.Verdicts.{Verdict, refused, passed, andThen, unless}
+use Rattle.calculus.specs.Verdicts.{Verdict, refused, passed, unless}
 use Rattle.calculus.specs.File.{wordsOf, isSize, checkWords, check, Recipe}
 use Rattle.calculus.proofs.Refusing.{Within, words-within}
 use Rattle.calculus.proofs.Files.{size-iff}
 use Rattle.file.proofs.Bytes.{words-length}
 use Rattle.nodes.specs.declared.refusals.Refusal.{Refusal}
-use Rattle.nodes.specs.Refusals.{numberOf, placeOf, refusal}
+use Rattle.nodes.specs.Refusals.{numberOf, placeOf}
 use Rattle.checker.specs.Checks.{checked, accepting}
 use Rattle.checker.specs.declared.Checked.{Checked}
 use Rattle.checker.specs.declared.Checked.the-variants.{Refused, Accepted}

@@ -3,17 +3,17 @@ use Prim.Native.Nat.{ℕ, _+_, _<_, _≤_}
 use mathlib.Core.Bool.{Bool, true, false, cond}
 use mathlib.Core.List.{List}
 use mathlib.Core.Option.{Option, none, some}
-use mathlib.Core.Path.{_≡_, refl, sym, ap, _∙_, subst}
+use mathlib.Core.Path.{_≡_, refl, sym, subst}
 use borrow.Author.Tests.{eq-eqb, ne-eqb}
 use lib.Dec.{eqb}
 use lib.ListN.{length}
 use native.Mathlib.Omega.{arith}
 use Rattle.calculus.specs.Trees.{Ty, Lang, ml, sc, Static, Op1, head, tail, testing, Op2, apply, plus, minus, pair}
-use Rattle.calculus.specs.Inference.{sameType, result1, result2, result3}
+use Rattle.calculus.specs.Inference.{result1, result2, result3}
 use Rattle.calculus.specs.Words.{word1, word2}
 use Rattle.calculus.specs.Kinds.{term}
 use Rattle.nodes.specs.Table.{sortNumber}
-use Rattle.types.specs.References.{shapeAt, Written, Means}
+use Rattle.types.specs.References.{shapeAt, Written}
 use Rattle.types.proofs.Meanings.{means-in, written-means}
 use Rattle.rules.specs.Answers.{Refers, Passes, Answers, conclusion, Embedded}
 use Rattle.rules.specs.Operators.{Found, Result1, Result2, Result3}

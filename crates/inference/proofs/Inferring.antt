@@ -1,18 +1,18 @@
 -- The ways out of the inference, node by node. Assumes nothing.
 use Prim.Native.Nat.{ℕ, suc, _+_, _/_, _%_, _≤_, _<_}
 use mathlib.Core.Bool.{cond}
-use mathlib.Core.List.{List, [], _∷_}
+use mathlib.Core.List.{List, _∷_}
 use mathlib.Core.Logic.{_⊎_, inl, inr}
-use mathlib.Core.Option.{Option, none, some}
+use mathlib.Core.Option.{none, some}
 use mathlib.Core.Path.{_≡_, refl, sym, ap, _∙_, subst}
-use lib.ListN.{length, getD, drop, length-drop}
+use lib.ListN.{length, getD, drop}
 use lib.Seq.{getD-drop}
 use native.Mathlib.Nat.{add-zero}
 use native.Mathlib.Omega.{arith}
-use Rattle.calculus.specs.Trees.{Ty, Lang, ml, sc, Static, numbers, lists, functions, Term, var, num, lam, op1, op2, if0, nil, wrong, ms, sm}
+use Rattle.calculus.specs.Trees.{Lang, ml, sc, Static, numbers, lists, functions, Term, var, num, lam, op1, op2, if0, nil, wrong, ms, sm}
 use Rattle.calculus.specs.Verdicts.{found}
 use Rattle.calculus.specs.Words.{word, by as by-language, put, size, sizeTy, sizeStatic}
-use Rattle.calculus.specs.Kinds.{type, term, Tree, putTree}
+use Rattle.calculus.specs.Kinds.{type, term}
 use Rattle.calculus.specs.Typing.{of, Lambdas}
 use Rattle.calculus.specs.Inference.{infer, typeAt, sameType, result1, result2, result3}
 use Rattle.calculus.specs.Faults.{fault}
@@ -21,14 +21,14 @@ use Rattle.calculus.proofs.Views.{view, sized}
 use Rattle.nodes.specs.declared.kinds.Row as code
 use Rattle.nodes.specs.Table.{sortNumber, shapeNumber, rowOf}
 use Rattle.nodes.proofs.Shapes.{sort-first, shape-first}
-use Rattle.types.specs.References.{shapeAt, former, Written, Means}
+use Rattle.types.specs.References.{shapeAt, former, Means}
 use Rattle.types.proofs.Meanings.{shape-of, written-means, means-in}
 use Rattle.types.proofs.Frames.{means-widen, means-frame}
-use Rattle.rules.specs.Answers.{Refers, Passes, Answers}
+use Rattle.rules.specs.Answers.{Refers, Answers}
 use Rattle.rules.specs.Variables.{Binds, Scope, Variable}
 use Rattle.rules.specs.declared.Inferred.{Inferred}
 use Rattle.rules.specs.declared.Inferred.the-variants.{Typed, Bad}
-use Rattle.inference.specs.Parts.{leadStatic, lead, leadSize, PartsStart, Kept, Linked, Entered, Function}
+use Rattle.inference.specs.Parts.{leadStatic, leadSize, PartsStart, Kept, Entered, Function}
 use Rattle.inference.specs.Conclusions.{Crossed, Concluded1, Concluded2, Concluded3}
 use Rattle.inference.specs.Infers.{Advances, Infers}
 use Rattle.inference.proofs.Leading.{lead-written}

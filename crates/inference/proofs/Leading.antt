@@ -1,5 +1,5 @@
 -- The type that a node begins with is told by the node's language and shape. Assumes nothing.
-use Prim.Native.Nat.{ℕ, _+_, _<_, _≤_}
+use Prim.Native.Nat.{ℕ, _+_, _<_}
 use mathlib.Core.Bool.{Bool, true, false, cond}
 use mathlib.Core.List.{List}
 use mathlib.Core.Option.{Option, none, some, Option·none-ne-some, Option·some-injective}
@@ -8,15 +8,15 @@ use borrow.Author.Tests.{eq-eqb, ne-eqb}
 use lib.Dec.{T, eqb}
 use lib.ListN.{length, drop}
 use native.Mathlib.Omega.{arith}
-use Rattle.calculus.specs.Trees.{Ty, Lang, ml, sc, Static, Term, var, num, lam, op1, op2, if0, nil, wrong, ms, sm}
+use Rattle.calculus.specs.Trees.{Ty, Lang, ml, sc, Term, var, num, lam, op1, op2, if0, nil, wrong, ms, sm}
 use Rattle.calculus.specs.Verdicts.{found}
-use Rattle.calculus.specs.Words.{word, putTy, put, sizeTy}
+use Rattle.calculus.specs.Words.{putTy, put, sizeTy}
 use Rattle.calculus.specs.Kinds.{term}
 use Rattle.calculus.proofs.Sizes.{past-word}
 use Rattle.nodes.specs.Table.{sortNumber, shapeNumber}
 use Rattle.types.specs.References.{Written}
 use Rattle.types.specs.Comparisons.{Ends}
-use Rattle.inference.specs.Parts.{lead, leadSize, PartsStart}
+use Rattle.inference.specs.Parts.{lead, PartsStart}
 
 clash : true ≡ false → ⊥
 clash q = subst T q tt

@@ -1,23 +1,20 @@
 -- The lambdas around a place, and the types that references mean, hang on links before the places that come later. Assumes nothing.
-use Prim.Native.Nat.{ℕ, _+_, _%_, _≤_, _<_}
+use Prim.Native.Nat.{ℕ, _+_, _≤_, _<_}
 use mathlib.Core.List.{List, [], _∷_}
-use mathlib.Core.Option.{Option, none, some, Option·none-ne-some, Option·some-injective}
+use mathlib.Core.Option.{Option, none, some}
 use mathlib.Core.Path.{_≡_, refl, sym, ap, _∙_, subst}
-use lib.ListN.{length, getD, drop}
+use lib.ListN.{getD, drop}
 use native.Mathlib.Omega.{arith}
-use Rattle.calculus.specs.Trees.{Ty, Lang, ml, sc, Static, Term, lam}
+use Rattle.calculus.specs.Trees.{Lang, ml, sc, Static, Term, lam}
 use Rattle.calculus.specs.Verdicts.{found}
 use Rattle.calculus.specs.Words.{put}
-use Rattle.calculus.specs.Kinds.{term}
-use Rattle.calculus.specs.Typing.{Entry, of, Lambdas}
-use Rattle.nodes.specs.Table.{sortNumber, rowOf}
-use Rattle.types.specs.References.{Written, Means}
+use Rattle.calculus.specs.Typing.{of, Lambdas}
 use Rattle.types.proofs.Frames.{means-widen, means-frame}
 use Rattle.rules.specs.Answers.{Refers, WrittenStatic, Passes, Answers}
 use Rattle.rules.specs.Variables.{Binds, Scope}
 use Rattle.rules.specs.declared.Inferred.{Inferred}
 use Rattle.rules.specs.declared.Inferred.the-variants.{Typed, Bad}
-use Rattle.inference.specs.Parts.{lead, Kept, Linked, Entered}
+use Rattle.inference.specs.Parts.{Kept, Linked}
 use Rattle.inference.specs.Infers.{Advances}
 use Rattle.inference.proofs.Leading.{lead-written}
 

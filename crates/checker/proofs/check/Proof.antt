@@ -1,10 +1,10 @@
 -- `checker::check` meets its contract, for every file. Assumes nothing.
 use borrow.Author.Needs.{needs}
-use mathlib.Core.Path.{refl, sym, ap, _∙_, subst}
+use mathlib.Core.Path.{sym, ap, _∙_}
 use native.Mathlib.Omega.{arith}
 use Prim.Native.Nat.{ℕ}
 use mathlib.Core.List.{List}
-use Rattle.calculus.specs.File.{checkWords, check}
+use Rattle.calculus.specs.File.{checkWords}
 use Rattle.file.proofs.Opening.{Opens, opens, check-refused}
 use Rattle.file.specs.Opening.{opened}
 use Rattle.checker.specs.Checks.{accepting}

@@ -1,17 +1,11 @@
 -- `checker::judge` meets its contract: each way out is one law of Judging. Assumes nothing.
 use borrow.Author.Needs.{needs}
-use mathlib.Core.Path.{refl, sym, ap, _∙_}
-use native.Mathlib.Omega.{arith}
+use mathlib.Core.Path.{sym, ap, _∙_}
 use Rattle.checker.proofs.Judging.{not-ordered, not-closed, decided, ordered-is, closing-is, decides-is}
 use Rattle.nodes.specs.Walks.{walked}
 use borrow.Author.Needs.{needs}
 use Rattle.checker.proofs.judge.Statement.{statement}
 use Rattle.checker.proofs.judge.Tie as tie
-use Rattle.checker.proofs.judge.Reads as reads
-use Rattle.checker.proofs.judge.Lts as lts
-use Rattle.checker.proofs.typed.Reads as typed-reads
-use Rattle.nodes.proofs.scopes.scoped.Reads as scoped-reads
-use Rattle.nodes.proofs.walks.ordered.Reads as ordered-reads
 
 add-start : tie.Need-add-start
 add-start c = search needs

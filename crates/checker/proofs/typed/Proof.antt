@@ -1,16 +1,11 @@
 -- `checker::typed` meets its contract. Assumes nothing.
 use borrow.Author.Needs.{needs}
-use mathlib.Core.Path.{refl, sym, _∙_}
-use native.Mathlib.Omega.{arith}
-use lib.ListN.{length, take, replicate, length-replicate}
+use mathlib.Core.Path.{refl, sym}
 use lib.Seq.{length-take-le}
 use Rattle.nodes.specs.Table.{rowOf, kinds}
 use borrow.Author.Needs.{needs}
 use Rattle.checker.proofs.typed.Statement.{statement}
 use Rattle.checker.proofs.typed.Tie as tie
-use Rattle.checker.proofs.typed.Reads as reads
-use Rattle.checker.proofs.typed.Lts as lts
-use Rattle.checker.proofs.typed_by.Reads as typed-by-reads
 
 array-borrow-prefix-link : tie.Need-array-borrow-prefix-link
 array-borrow-prefix-link c = search needs

@@ -1,15 +1,11 @@
 -- `checker::typed_by` meets its contract: each way out is one law of Deciding. Assumes nothing.
 use borrow.Author.Needs.{needs}
-use mathlib.Core.Path.{refl, sym, _∙_}
+use mathlib.Core.Path.{_∙_}
 use borrow.Rule.Slice.PartAt.{part-to-end}
 use Rattle.checker.proofs.Deciding.{no-type, declared-one, other-one}
 use borrow.Author.Needs.{needs}
 use Rattle.checker.proofs.typed_by.Statement.{statement}
 use Rattle.checker.proofs.typed_by.Tie as tie
-use Rattle.checker.proofs.typed_by.Reads as reads
-use Rattle.checker.proofs.typed_by.Lts as lts
-use Rattle.inference.proofs.infer.Reads as infer-reads
-use Rattle.types.proofs.same.Reads as same-reads
 
 mul-infer : tie.Need-mul-infer
 mul-infer c = search needs

@@ -1,15 +1,13 @@
 -- `exports::packed` meets its contract: a place of at most 4,096 leaves room. Assumes nothing.
 use borrow.Author.Needs.{needs}
-use Prim.Native.Nat.{ℕ, _+_, _*_, _≤_}
-use mathlib.Core.Path.{_≡_, sym, ap, subst}
+use Prim.Native.Nat.{_+_, _*_, _≤_}
+use mathlib.Core.Path.{sym, ap, subst}
 use native.Mathlib.Omega.{arith}
 use Rattle.nodes.specs.declared.refusals.Refusal.{Refusal}
 use Rattle.nodes.specs.Refusals.{numberOf, placeOf}
 use borrow.Author.Needs.{needs}
 use Rattle.exports.proofs.packed.Statement.{statement}
 use Rattle.exports.proofs.packed.Tie as tie
-use Rattle.exports.proofs.packed.Reads as reads
-use Rattle.exports.proofs.packed.Lts as lts
 
 enum-told : tie.Need-enum-told
 enum-told c = search needs

@@ -4,10 +4,6 @@ use Rattle.exports.proofs.Packing.{refused-place, refused-number, accep
 use borrow.Author.Needs.{needs}
 use Rattle.exports.proofs.recipe_check.Statement.{statement}
 use Rattle.exports.proofs.recipe_check.Tie as tie
-use Rattle.exports.proofs.recipe_check.Reads as reads
-use Rattle.exports.proofs.recipe_check.Lts as lts
-use Rattle.checker.proofs.check.Reads as check-reads
-use Rattle.exports.proofs.packed.Reads as packed-reads
 
 check-requires : tie.Need-check-requires
 check-requires c κs = search needs

@@ -3,10 +3,6 @@ use Prim.Native.Nat.{_≤_, _-_}
 use borrow.Author.Needs.{needs}
 use Rattle.lister.proofs.words.Statement.{statement}
 use Rattle.lister.proofs.words.Tie as tie
-use Rattle.lister.proofs.words.Reads as reads
-use Rattle.lister.proofs.words.Lts as lts
-use Rattle.io.proofs.write_all.Reads as write-all-reads
-use Rattle.lister.proofs.word.Reads as word-reads
 
 abbrev Inv-loop : tie.InvT-loop
 Inv-loop buffer n i₀ t4 t5 i = i ≤ n

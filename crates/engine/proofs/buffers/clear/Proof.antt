@@ -1,6 +1,6 @@
 -- `engine::buffers::clear` meets its contract: the words from n up to i are zero. Assumes nothing.
 use Prim.Native.Nat.{_≤_, _-_}
-use mathlib.Core.Path.{_≡_, refl, ap, _∙_}
+use mathlib.Core.Path.{_≡_, refl, _∙_}
 use native.Mathlib.Omega.{arith}
 use lib.ListN.{length, length-set}
 use lib.Seq.{sets}
@@ -8,8 +8,6 @@ use borrow.Author.Needs.{needs}
 use Rattle.engine.proofs.Clearing.{zeros, cleared-more, cleared-all}
 use Rattle.engine.proofs.buffers.clear.Statement.{statement}
 use Rattle.engine.proofs.buffers.clear.Tie as tie
-use Rattle.engine.proofs.buffers.clear.Reads as reads
-use Rattle.engine.proofs.buffers.clear.Lts as lts
 
 abbrev Inv-loop : tie.InvT-loop
 Inv-loop buffer₀ n i₀ buffer i = (n ≤ i) × (i ≤ length buffer) × (length buffer ≡ length buffer₀) × (buffer ≡ sets buffer₀ n (zeros n i))

@@ -1,6 +1,5 @@
 -- `engine::buffers::settle` meets its contract. Assumes nothing.
 use Prim.Native.Nat.{ℕ}
-use mathlib.Core.List.{List}
 use mathlib.Core.Path.{sym, ap, _∙_}
 use native.Mathlib.Omega.{arith}
 use lib.ListN.{length, take}
@@ -10,10 +9,6 @@ use Rattle.engine.proofs.Clearing.{front-copied}
 use borrow.Author.Needs.{needs}
 use Rattle.engine.proofs.buffers.settle.Statement.{statement}
 use Rattle.engine.proofs.buffers.settle.Tie as tie
-use Rattle.engine.proofs.buffers.settle.Reads as reads
-use Rattle.engine.proofs.buffers.settle.Lts as lts
-use Rattle.engine.proofs.buffers.clear.Reads as clear-reads
-use Rattle.writing.proofs.copy.Reads as copy-reads
 
 clear-requires : tie.Need-clear-requires
 clear-requires c κs = search needs

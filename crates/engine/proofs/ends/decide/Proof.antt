@@ -1,16 +1,10 @@
 -- `engine::ends::decide` meets its contract. Assumes nothing.
-use native.Mathlib.Omega.{arith}
 use borrow.Author.Tests.{eq-eqb, ne-eqb, le-leb, lt-leb}
 use mathlib.Core.Path.{ap}
-use Rattle.engine.specs.declared.ends.Counts.{Counts}
 use Rattle.engine.specs.declared.ends.Choice.the-variants.{Go}
 use borrow.Author.Needs.{needs}
 use Rattle.engine.proofs.ends.decide.Statement.{statement}
 use Rattle.engine.proofs.ends.decide.Tie as tie
-use Rattle.engine.proofs.ends.decide.Reads as reads
-use Rattle.engine.proofs.ends.decide.Lts as lts
-use Rattle.engine.proofs.ends.counted.Reads as counted-reads
-use Rattle.engine.proofs.ends.stop.Reads as stop-reads
 
 enum-told : tie.Need-enum-told
 enum-told c = search needs

@@ -5,12 +5,6 @@ use Rattle.engine.proofs.Answering.{begun-refused, begun-ended}
 use borrow.Author.Needs.{needs}
 use Rattle.engine.proofs.runs.begin.Statement.{statement}
 use Rattle.engine.proofs.runs.begin.Tie as tie
-use Rattle.engine.proofs.runs.begin.Reads as reads
-use Rattle.engine.proofs.runs.begin.Lts as lts
-use Rattle.engine.proofs.ends.capacity.Reads as capacity-reads
-use Rattle.engine.proofs.runs.refused.Reads as refused-reads
-use Rattle.engine.proofs.turns.reduce.Reads as reduce-reads
-use Rattle.writing.proofs.copy.Reads as copy-reads
 
 capacity-requires : tie.Need-capacity-requires
 capacity-requires c κs = search needs

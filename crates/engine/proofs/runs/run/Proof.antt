@@ -1,7 +1,6 @@
 -- `engine::runs::run` meets its contract, for every file, every limit and every pair of buffers. Assumes nothing.
-use mathlib.Core.Path.{refl, sym, ap, _∙_, subst}
+use mathlib.Core.Path.{sym, ap, _∙_}
 use native.Mathlib.Omega.{arith}
-use Rattle.calculus.specs.File.{typeCount}
 use Rattle.file.proofs.Opening.{Opens, opens, check-refused}
 use Rattle.file.specs.Opening.{opened}
 use Rattle.engine.proofs.Answering.{run-refused, run-started}

@@ -1,17 +1,11 @@
 -- `engine::runs::start` meets its contract. Assumes nothing.
 use Prim.Native.Nat.{ℕ, _+_}
 use mathlib.Core.Path.{ap, subst}
-use native.Mathlib.Omega.{arith}
 use Rattle.engine.proofs.Bridge.{Judged}
 use Rattle.engine.proofs.Answering.{started-refused, started-begun}
 use borrow.Author.Needs.{needs}
 use Rattle.engine.proofs.runs.start.Statement.{statement}
 use Rattle.engine.proofs.runs.start.Tie as tie
-use Rattle.engine.proofs.runs.start.Reads as reads
-use Rattle.engine.proofs.runs.start.Lts as lts
-use Rattle.checker.proofs.judge.Reads as judge-reads
-use Rattle.engine.proofs.runs.begin.Reads as begin-reads
-use Rattle.engine.proofs.runs.refused.Reads as refused-reads
 
 judge-requires : tie.Need-judge-requires
 judge-requires c κs = search needs

@@ -5,9 +5,6 @@ use lib.Seq.{length-take-le}
 use borrow.Author.Needs.{needs}
 use Rattle.engine.proofs.turns.advance.Statement.{statement}
 use Rattle.engine.proofs.turns.advance.Tie as tie
-use Rattle.engine.proofs.turns.advance.Reads as reads
-use Rattle.engine.proofs.turns.advance.Lts as lts
-use Rattle.reducer.proofs.steps.step.Reads as step-reads
 
 slice-reshare-prefix-step : tie.Need-slice-reshare-prefix-step
 slice-reshare-prefix-step c = search needs

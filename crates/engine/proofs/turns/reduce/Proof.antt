@@ -1,16 +1,11 @@
 -- `engine::turns::reduce` meets its contract. Assumes nothing.
-use mathlib.Core.Path.{refl, sym, ap, _∙_}
+use mathlib.Core.Path.{refl}
 use native.Mathlib.Omega.{arith}
 use Rattle.nodes.specs.Table.{rowOf, kinds}
 use Rattle.engine.proofs.Looping.{reduced}
 use borrow.Author.Needs.{needs}
 use Rattle.engine.proofs.turns.reduce.Statement.{statement}
 use Rattle.engine.proofs.turns.reduce.Tie as tie
-use Rattle.engine.proofs.turns.reduce.Reads as reads
-use Rattle.engine.proofs.turns.reduce.Lts as lts
-use Rattle.engine.proofs.buffers.settle.Reads as settle-reads
-use Rattle.engine.proofs.ends.capacity.Reads as capacity-reads
-use Rattle.engine.proofs.turns.turns.Reads as turns-reads
 
 capacity-requires : tie.Need-capacity-requires
 capacity-requires c κs = search needs

@@ -7,10 +7,6 @@ use Rattle.engine.proofs.Moving.{go-fits}
 use Rattle.engine.proofs.Looping.{Running, running-start, running-next, running-end}
 use Rattle.engine.proofs.turns.turns.Statement.{statement}
 use Rattle.engine.proofs.turns.turns.Tie as tie
-use Rattle.engine.proofs.turns.turns.Reads as reads
-use Rattle.engine.proofs.turns.turns.Lts as lts
-use Rattle.engine.proofs.ends.decide.Reads as decide-reads
-use Rattle.engine.proofs.turns.advance.Reads as advance-reads
 
 abbrev Inv-loop : tie.InvT-loop
 Inv-loop table first₀ second₀ count cap limit n₀ made₀ front₀ first second n made front = Running first₀ second₀ count cap limit first second n made front

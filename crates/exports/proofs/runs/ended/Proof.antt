@@ -4,10 +4,6 @@ use Rattle.exports.proofs.Numbering.{end-is}
 use borrow.Author.Needs.{needs}
 use Rattle.exports.proofs.runs.ended.Statement.{statement}
 use Rattle.exports.proofs.runs.ended.Tie as tie
-use Rattle.exports.proofs.runs.ended.Reads as reads
-use Rattle.exports.proofs.runs.ended.Lts as lts
-use Rattle.exports.proofs.runs.end_number.Reads as end-number-reads
-use Rattle.exports.proofs.runs.narrow.Reads as narrow-reads
 
 end-number-requires : tie.Need-end-number-requires
 end-number-requires c κs = search needs

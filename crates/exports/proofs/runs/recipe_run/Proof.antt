@@ -4,11 +4,6 @@ use Rattle.exports.proofs.Numbering.{answer-refused, answer-ended}
 use borrow.Author.Needs.{needs}
 use Rattle.exports.proofs.runs.recipe_run.Statement.{statement}
 use Rattle.exports.proofs.runs.recipe_run.Tie as tie
-use Rattle.exports.proofs.runs.recipe_run.Reads as reads
-use Rattle.exports.proofs.runs.recipe_run.Lts as lts
-use Rattle.engine.proofs.runs.run.Reads as run-reads
-use Rattle.exports.proofs.runs.ended.Reads as ended-reads
-use Rattle.exports.proofs.runs.refused_by.Reads as refused-by-reads
 
 run-requires : tie.Need-run-requires
 run-requires c κs = search needs

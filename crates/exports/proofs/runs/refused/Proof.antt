@@ -3,9 +3,6 @@ use borrow.Author.Needs.{needs}
 use borrow.Author.Needs.{needs}
 use Rattle.exports.proofs.runs.refused.Statement.{statement}
 use Rattle.exports.proofs.runs.refused.Tie as tie
-use Rattle.exports.proofs.runs.refused.Reads as reads
-use Rattle.exports.proofs.runs.refused.Lts as lts
-use Rattle.exports.proofs.runs.narrow.Reads as narrow-reads
 
 narrow-requires : tie.Need-narrow-requires
 narrow-requires c κs = search needs

@@ -5,9 +5,6 @@ use Rattle.exports.proofs.Numbering.{refused-as}
 use borrow.Author.Needs.{needs}
 use Rattle.exports.proofs.runs.refused_by.Statement.{statement}
 use Rattle.exports.proofs.runs.refused_by.Tie as tie
-use Rattle.exports.proofs.runs.refused_by.Reads as reads
-use Rattle.exports.proofs.runs.refused_by.Lts as lts
-use Rattle.exports.proofs.runs.refused.Reads as refused-reads
 
 enum-told : tie.Need-enum-told
 enum-told c = search needs

@@ -4,9 +4,6 @@ use Rattle.inference.proofs.Concluding.{ms-crossed, sm-crossed}
 use borrow.Author.Needs.{needs}
 use Rattle.inference.proofs.parts.crossed.Statement.{statement}
 use Rattle.inference.proofs.parts.crossed.Tie as tie
-use Rattle.inference.proofs.parts.crossed.Reads as reads
-use Rattle.inference.proofs.parts.crossed.Lts as lts
-use Rattle.rules.proofs.embedded.Reads as embedded-reads
 
 add-t9 : tie.Need-add-t9
 add-t9 c = search needs

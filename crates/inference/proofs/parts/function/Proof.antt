@@ -4,9 +4,6 @@ use Rattle.inference.proofs.Linking.{linked}
 use borrow.Author.Needs.{needs}
 use Rattle.inference.proofs.parts.function.Statement.{statement}
 use Rattle.inference.proofs.parts.function.Tie as tie
-use Rattle.inference.proofs.parts.function.Reads as reads
-use Rattle.inference.proofs.parts.function.Lts as lts
-use Rattle.inference.proofs.parts.link_to.Reads as link-to-reads
 
 link-to-requires : tie.Need-link-to-requires
 link-to-requires c κs = search needs

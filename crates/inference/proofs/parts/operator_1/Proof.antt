@@ -4,10 +4,6 @@ use Rattle.inference.proofs.Concluding.{scheme1, ml1}
 use borrow.Author.Needs.{needs}
 use Rattle.inference.proofs.parts.operator_1.Statement.{statement}
 use Rattle.inference.proofs.parts.operator_1.Tie as tie
-use Rattle.inference.proofs.parts.operator_1.Reads as reads
-use Rattle.inference.proofs.parts.operator_1.Lts as lts
-use Rattle.rules.proofs.concluded.Reads as concluded-reads
-use Rattle.rules.proofs.result_1.Reads as result-1-reads
 
 returns : tie.Need-returns
 returns c = let a = c .before .before .before .args in scheme1 (a .all .now) (a .link .now) (a .sort) (a .at) (a .t) (a .next) (a .w) (c .if1 .taken)

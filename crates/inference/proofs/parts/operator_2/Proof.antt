@@ -4,10 +4,6 @@ use Rattle.inference.proofs.Concluding.{scheme2, ml2}
 use borrow.Author.Needs.{needs}
 use Rattle.inference.proofs.parts.operator_2.Statement.{statement}
 use Rattle.inference.proofs.parts.operator_2.Tie as tie
-use Rattle.inference.proofs.parts.operator_2.Reads as reads
-use Rattle.inference.proofs.parts.operator_2.Lts as lts
-use Rattle.rules.proofs.concluded.Reads as concluded-reads
-use Rattle.rules.proofs.result_2.Reads as result-2-reads
 
 returns : tie.Need-returns
 returns c = let a = c .before .before .before .args in scheme2 (a .all .now) (a .link .now) (a .sort) (a .at) (a .t) (a .next) (a .w) (a .u) (c .if1 .taken)

@@ -4,10 +4,6 @@ use Rattle.inference.proofs.Concluding.{scheme3, ml3}
 use borrow.Author.Needs.{needs}
 use Rattle.inference.proofs.parts.operator_3.Statement.{statement}
 use Rattle.inference.proofs.parts.operator_3.Tie as tie
-use Rattle.inference.proofs.parts.operator_3.Reads as reads
-use Rattle.inference.proofs.parts.operator_3.Lts as lts
-use Rattle.rules.proofs.concluded.Reads as concluded-reads
-use Rattle.rules.proofs.result_3.Reads as result-3-reads
 
 returns : tie.Need-returns
 returns c = let a = c .before .before .before .args in scheme3 (a .all .now) (a .link .now) (a .sort) (a .at) (a .t) (a .next) (a .u) (a .v) (c .if1 .taken)

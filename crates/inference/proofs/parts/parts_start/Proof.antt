@@ -4,9 +4,6 @@ use Rattle.inference.proofs.Leading.{past-type, right-behind, boundary,
 use borrow.Author.Needs.{needs}
 use Rattle.inference.proofs.parts.parts_start.Statement.{statement}
 use Rattle.inference.proofs.parts.parts_start.Tie as tie
-use Rattle.inference.proofs.parts.parts_start.Reads as reads
-use Rattle.inference.proofs.parts.parts_start.Lts as lts
-use Rattle.types.proofs.type_end.Reads as type-end-reads
 
 add-first : tie.Need-add-first
 add-first c = search needs

@@ -4,9 +4,6 @@ use Rattle.inference.proofs.Linking.{entered, not-entered}
 use borrow.Author.Needs.{needs}
 use Rattle.inference.proofs.parts.scope_within.Statement.{statement}
 use Rattle.inference.proofs.parts.scope_within.Tie as tie
-use Rattle.inference.proofs.parts.scope_within.Reads as reads
-use Rattle.inference.proofs.parts.scope_within.Lts as lts
-use Rattle.inference.proofs.parts.link_to.Reads as link-to-reads
 
 returns : tie.Need-returns
 returns c = let a = c .before .before .args in not-entered (a .link .now) (a .at) (a .scope) (a .shape) (c .if1 .taken)
