@@ -19,6 +19,15 @@ fn well_typed_files_are_accepted() {
 }
 
 #[test]
+fn the_type_that_is_compared_again_and_again_is_accepted() {
+    on_large_stack(|| {
+        let file = edges::compared_again();
+        assert_eq!(file.len(), 4 * 4_093);
+        assert!(check(&file).is_ok(), "its types are not compared at all");
+    });
+}
+
+#[test]
 fn every_rule_is_reached() {
     on_large_stack(|| {
         let mut rules = RuleCounts::default();

@@ -142,14 +142,14 @@ fn large_types() -> Vec<Vec<u8>> {
         files.push(file(&wide(leaves), &[&[20, 18][..], &wide(leaves), &[16]].concat()));
         files.push(file(&wide(leaves), &[&[20, 18][..], &wide(leaves), &[17]].concat()));
     }
-    files.push(compared_again(900, 120));
+    files.push(compared_again());
     files
 }
 
-/// null? (fn t (cons v0 (cons v0 ... (nil t)))) applied to a wrong: the large type is compared at each cons.
-fn compared_again(leaves: usize, count: usize) -> Vec<u8> {
-    let wide = balanced(4, 1, leaves);
-    let body = [&chain(&[25, 16], count, &[24])[..], &wide].concat();
+/// null? (fn t (cons v0 (cons v0 ... (nil t)))) applied to a wrong, in 4,093 words: a type of 1,209 words is compared at each of 228 conses.
+pub fn compared_again() -> Vec<u8> {
+    let wide = balanced(4, 1, 605);
+    let body = [&chain(&[25, 16], 228, &[24])[..], &wide].concat();
     file(&[1], &[&[19, 18][..], &wide, &[28], &body, &[29 + 256], &wide].concat())
 }
 

@@ -1,7 +1,7 @@
 //! Files to compare on: random well-typed recipes, damaged files, edges, and every small term.
 
 mod damage;
-mod edges;
+pub mod edges;
 mod every;
 mod forms;
 mod ml;
