@@ -13,6 +13,11 @@ use Rattle.contraction.specs.declared.rules.Rule.{Rule}
 use Rattle.contraction.specs.Forms.{formAt, isScheme}
 use Rattle.contraction.specs.Told.{Gives, Tells, part, from, converted}
 
+-- Where the words of a node of n parts end.
+pub record Ends (n : ℕ) (ws : List ℕ) (end : ℕ) : Type 0 where
+  pub is : end ≡ 1 + span (drop 1 ws) n
+  pub most : end ≤ length ws
+
 -- What is known of a node's first part: its form, and where its words end.
 pub record FirstPart (ws : List ℕ) (form end : ℕ) : Type 0 where
   pub form-is : form ≡ formAt (drop 1 ws)

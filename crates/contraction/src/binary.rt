@@ -12,7 +12,7 @@ ghost use lib.ListN.{length};
 ghost use Rattle.nodes.specs.Table.{kinds};
 ghost use Rattle.contraction.specs.Forms.{operator2};
 ghost use Rattle.contraction.specs.Told.{Placed, numberRule, sumRule};
-ghost use Rattle.contraction.specs.Chosen.{TwoParts, OfApply, OfTwo, OfIf};
+ghost use Rattle.contraction.specs.Chosen.{Ends, TwoParts, OfApply, OfTwo, OfIf};
 
 const APPLY: u64 = 0;
 
@@ -92,9 +92,9 @@ fn of_apply(
     Rule::Substituted(16, body, middle, end)
 }
 
-// The operators of two parts.
-pub fn of_two(table: &[u64; 48], words: &[u32]) -> Rule
-    requires { ⌜ (now table ≡ kinds) × (length (now words) ≤ 1048576) × (1 ≤ length (now words)) ⌝ }
+// The operators of two parts. The node's words end at `end`.
+pub fn of_two(table: &[u64; 48], words: &[u32], end: usize) -> Rule
+    requires { ⌜ (now table ≡ kinds) × (length (now words) ≤ 1048576) × (1 ≤ length (now words)) × Ends 2 (now words) end ⌝ }
     ensures placed { λ r. ⌜ Placed (length (now (words .entry))) r ⌝ }
     ensures told { λ r. ⌜ OfTwo (now (words .entry)) r ⌝ }
 {
@@ -102,7 +102,6 @@ pub fn of_two(table: &[u64; 48], words: &[u32]) -> Rule
     if middle < 2 {
         return Rule::Stuck;
     }
-    let end = middle + skip(table, &words[middle..], 1);
     let form = form_at(table, &words[1..]);
     let w = words[0];
     let op = operator(w);
@@ -127,15 +126,14 @@ pub fn of_two(table: &[u64; 48], words: &[u32]) -> Rule
     numbered(scheme, difference(a, b))
 }
 
-// if0
-pub fn of_if(table: &[u64; 48], words: &[u32]) -> Rule
-    requires { ⌜ (now table ≡ kinds) × (length (now words) ≤ 1048576) × (1 ≤ length (now words)) ⌝ }
+// if0. The node's words end at `end`.
+pub fn of_if(table: &[u64; 48], words: &[u32], end: usize) -> Rule
+    requires { ⌜ (now table ≡ kinds) × (length (now words) ≤ 1048576) × (1 ≤ length (now words)) × Ends 3 (now words) end ⌝ }
     ensures placed { λ r. ⌜ Placed (length (now (words .entry))) r ⌝ }
     ensures told { λ r. ⌜ OfIf (now (words .entry)) r ⌝ }
 {
     let second = 1 + skip(table, &words[1..], 1);
     let third = second + skip(table, &words[second..], 1);
-    let end = third + skip(table, &words[third..], 1);
     if form_at(table, &words[1..]) != crate::forms::NUMBER {
         if words[0] == 38 {
             return Rule::Part(third, end);

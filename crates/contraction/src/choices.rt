@@ -10,12 +10,13 @@ ghost use mathlib.Core.Path.{_≡_};
 ghost use Prim.Native.Nat.{_≤_};
 ghost use lib.ListN.{length};
 ghost use Rattle.nodes.specs.Table.{kinds};
+ghost use Rattle.writing.specs.Spans.{span};
 ghost use Rattle.contraction.specs.Told.{Placed};
 ghost use Rattle.contraction.specs.Chosen.{OfNode};
 
-// What the node that the words start with becomes. The words may be 2^20.
-pub fn chosen(table: &[u64; 48], words: &[u32]) -> Rule
-    requires { ⌜ (now table ≡ kinds) × (length (now words) ≤ 1048576) ⌝ }
+// What the node that the words start with becomes, whose words end at `end`. The words may be 2^20.
+pub fn chosen(table: &[u64; 48], words: &[u32], end: usize) -> Rule
+    requires { ⌜ (now table ≡ kinds) × (length (now words) ≤ 1048576) × (end ≡ span (now words) 1) ⌝ }
     ensures placed { λ r. ⌜ Placed (length (now (words .entry))) r ⌝ }
     ensures told { λ r. ⌜ OfNode (now (words .entry)) r ⌝ }
 {
@@ -28,16 +29,16 @@ pub fn chosen(table: &[u64; 48], words: &[u32]) -> Rule
         return Rule::Raised(w / 256);
     }
     if shape == nodes::kinds::OPERATOR_1 {
-        return of_one(table, words);
+        return of_one(table, words, end);
     }
     if shape == nodes::kinds::OPERATOR_2 {
-        return of_two(table, words);
+        return of_two(table, words, end);
     }
     if shape == nodes::kinds::IF0 {
-        return of_if(table, words);
+        return of_if(table, words, end);
     }
     if shape == nodes::kinds::BOUNDARY {
-        return of_boundary(table, words);
+        return of_boundary(table, words, end);
     }
     Rule::Stuck
 }

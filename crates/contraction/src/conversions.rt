@@ -11,7 +11,7 @@ ghost use lib.ListN.{length};
 ghost use Rattle.calculus.specs.Trees.{N, L};
 ghost use Rattle.nodes.specs.Table.{kinds};
 ghost use Rattle.contraction.specs.Told.{Placed, refusedRule};
-ghost use Rattle.contraction.specs.Chosen.{Value, AtType, AtList, AtFunction, OfBoundary};
+ghost use Rattle.contraction.specs.Chosen.{Ends, Value, AtType, AtList, AtFunction, OfBoundary};
 
 // A value that has not the type, whose words end at `value`: a wrong in ML.
 fn refused(scheme: bool, code: u32, value: usize) -> Rule
@@ -112,9 +112,9 @@ fn at_function(
     Rule::IntoML(second, value, end)
 }
 
-// ms or sm of a value.
-pub fn of_boundary(table: &[u64; 48], words: &[u32]) -> Rule
-    requires { ⌜ (now table ≡ kinds) × (length (now words) ≤ 1048576) × (1 ≤ length (now words)) ⌝ }
+// ms or sm of a value. The node's words end at `end`.
+pub fn of_boundary(table: &[u64; 48], words: &[u32], end: usize) -> Rule
+    requires { ⌜ (now table ≡ kinds) × (length (now words) ≤ 1048576) × (1 ≤ length (now words)) × Ends 2 (now words) end ⌝ }
     ensures placed { λ r. ⌜ Placed (length (now (words .entry))) r ⌝ }
     ensures told { λ r. ⌜ OfBoundary (now (words .entry)) r ⌝ }
 {
@@ -122,7 +122,6 @@ pub fn of_boundary(table: &[u64; 48], words: &[u32]) -> Rule
     if value < 2 {
         return Rule::Stuck;
     }
-    let end = value + skip(table, &words[value..], 1);
     if end < value + 1 {
         return Rule::Stuck;
     }

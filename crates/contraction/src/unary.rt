@@ -10,7 +10,7 @@ ghost use lib.ListN.{length};
 ghost use Rattle.nodes.specs.Table.{kinds};
 ghost use Rattle.contraction.specs.Forms.{answerBy, operator1};
 ghost use Rattle.contraction.specs.Told.{Placed, nullRule};
-ghost use Rattle.contraction.specs.Chosen.{FirstPart, OfFix, OfList, OfOne};
+ghost use Rattle.contraction.specs.Chosen.{Ends, FirstPart, OfFix, OfList, OfOne};
 
 const HEAD: u64 = 0;
 
@@ -135,13 +135,12 @@ fn of_list(
     Rule::Led2(1053, 3, 2, end)
 }
 
-// The operators of one part.
-pub fn of_one(table: &[u64; 48], words: &[u32]) -> Rule
-    requires { ⌜ (now table ≡ kinds) × (length (now words) ≤ 1048576) × (1 ≤ length (now words)) ⌝ }
+// The operators of one part. The node's words end at `end`.
+pub fn of_one(table: &[u64; 48], words: &[u32], end: usize) -> Rule
+    requires { ⌜ (now table ≡ kinds) × (length (now words) ≤ 1048576) × (1 ≤ length (now words)) × Ends 1 (now words) end ⌝ }
     ensures placed { λ r. ⌜ Placed (length (now (words .entry))) r ⌝ }
     ensures told { λ r. ⌜ OfOne (now (words .entry)) r ⌝ }
 {
-    let end = 1 + skip(table, &words[1..], 1);
     if end < 2 {
         return Rule::Stuck;
     }

@@ -1,0 +1,61 @@
+-- Laws of spans of any words: what is due may be walked in parts, and a node's parts stand behind its word. Assumes nothing.
+use Prim.Native.Nat.{ℕ, zero, suc, _+_, _%_, _≤_, _<_}
+use mathlib.Core.Bool.{Bool, true, false, cond}
+use mathlib.Core.List.{List, [], _∷_}
+use mathlib.Core.Path.{_≡_, refl, sym, ap, _∙_}
+use lib.Dec.{eqb, ltb}
+use lib.ListN.{length, getD, drop}
+use lib.Seq.{drop-drop}
+use borrow.Author.Tests.{eq-eqb, ltb-true, ltb-false}
+use native.Mathlib.Omega.{arith}
+use Rattle.calculus.specs.Scope.{partCount}
+use Rattle.nodes.specs.Table.{rowOf}
+use Rattle.nodes.specs.Walks.{sortsOf}
+use Rattle.nodes.proofs.Table.{same-list, past}
+use Rattle.nodes.proofs.Lambdas.{part-count}
+use Rattle.writing.specs.Spans.{span}
+
+pub span-within : (ws : List ℕ) (due : ℕ) → span ws due ≤ length ws
+unfolding span
+span-within [] due = omega arith
+span-within (w ∷ ws) zero = omega arith
+span-within (w ∷ ws) (suc due) = omega (arith, span-within ws (due + partCount w))
+
+-- Some nodes, and then some more.
+span-split : (ws : List ℕ) (a b : ℕ) → span ws (a + b) ≡ span ws a + span (drop (span ws a) ws) b
+unfolding span
+span-split [] a b = refl
+span-split (w ∷ ws) zero b = let e : 0 + b ≡ b = omega arith in ap (span (w ∷ ws)) e ∙ sym (omega arith)
+span-split (w ∷ ws) (suc a) b =
+    let e : suc a + b ≡ suc (a + b) = omega arith in
+    let f : a + b + partCount w ≡ a + partCount w + b = omega arith in
+    ap (span (w ∷ ws)) e ∙ ap (λ (n : ℕ). suc (span ws n)) f ∙ ap suc (span-split ws (a + partCount w) b) ∙ sym (omega arith)
+
+-- From the place a on one node ends at m and n more at e: these stand from m on.
+pub span-next : (ws : List ℕ) (a m e n : ℕ) → m ≡ a + span (drop a ws) 1 → e ≡ a + span (drop a ws) (1 + n) → e ≡ m + span (drop m ws) n
+span-next ws a m e n h g =
+    let d : drop (span (drop a ws) 1) (drop a ws) ≡ drop m ws = drop-drop (span (drop a ws) 1) a ws ∙ ap (λ (j : ℕ). drop j ws) (sym h) in
+    omega (arith, g, h, span-split (drop a ws) 1 n, ap (λ (v : List ℕ). span v n) d)
+
+-- A node's parts stand behind its word.
+pub span-parts : (ws : List ℕ) (n : ℕ) → 1 ≤ length ws → partCount (getD ws 0 0) ≡ n → span ws 1 ≡ 1 + span (drop 1 ws) n
+unfolding span
+span-parts [] n h e = absurd (omega (arith, h))
+span-parts (w ∷ ws) n h e = let z : 0 + partCount w ≡ n = omega (arith, e) in omega (arith, ap (span ws) z)
+
+-- How many parts a kind has, by its shape: operators of one part and of two, if0, and ms and sm.
+abbrev partsBy : ℕ → ℕ → ℕ
+partsBy shape n = cond (eqb shape 4) 1 (cond (eqb shape 5) 2 (cond (eqb shape 6) 3 (cond (eqb shape 9) 2 n)))
+
+parts-by : (k : ℕ) → length (sortsOf (rowOf k .parts)) ≡ partsBy (rowOf k .shape) (length (sortsOf (rowOf k .parts)))
+unfolding rowOf sortsOf
+parts-by k = by (ltb k 48) refl
+  where
+    by : (t : Bool) → ltb k 48 ≡ t → length (sortsOf (rowOf k .parts)) ≡ partsBy (rowOf k .shape) (length (sortsOf (rowOf k .parts)))
+    by true g =
+        same-list (λ j. length (sortsOf (rowOf j .parts))) (λ j. partsBy (rowOf j .shape) (length (sortsOf (rowOf j .parts)))) 48 refl k (ltb-true k 48 g)
+    by false g = rw (past k (ltb-false k 48 g))
+
+pub shape-parts : (w shape : ℕ) → rowOf (w % 256) .shape ≡ shape → (n : ℕ) → partsBy shape (partCount w) ≡ n → partCount w ≡ n
+shape-parts w shape e n h =
+    part-count w ∙ parts-by (w % 256) ∙ ap (λ (m : ℕ). partsBy (rowOf (w % 256) .shape) m) (sym (part-count w)) ∙ ap (λ (s : ℕ). partsBy s (partCount w)) e ∙ h
