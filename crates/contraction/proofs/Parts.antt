@@ -1,15 +1,18 @@
 -- A tree that stands in the words from a place to another: its size, its words, and what follows it. Assumes nothing.
-use Prim.Native.Nat.{ℕ, _+_, _-_}
+use Prim.Native.Nat.{ℕ, _+_, _-_, _≤_}
 use mathlib.Core.List.{List, []}
 use mathlib.Core.Path.{_≡_, sym, ap, _∙_}
-use lib.ListN.{take, drop}
+use lib.ListN.{length, getD, take, drop}
 use lib.Seq.{drop-drop}
 use native.Mathlib.Omega.{arith}
+use Rattle.calculus.specs.Scope.{partCount}
 use Rattle.calculus.specs.Kinds.{Sort, Tree, putTree}
 use Rattle.calculus.proofs.Sizes.{sizeTree, take-tree, drop-tree}
 use Rattle.writing.specs.Spans.{span}
 use Rattle.writing.proofs.Measures.{span-tree}
+use Rattle.writing.proofs.Lengths.{span-parts, span-within}
 use Rattle.contraction.specs.Told.{stretch}
+use Rattle.contraction.specs.Chosen.{Ends}
 
 pub record Stands (s : Sort) (t : Tree s) (k ws : List ℕ) (a e : ℕ) : Type 0 where
   pub end : e ≡ a + sizeTree s t
@@ -28,3 +31,7 @@ sized s t k ws a e q h =
 
 pub stands : (s : Sort) (t : Tree s) (k ws : List ℕ) (a e : ℕ) → drop a ws ≡ putTree s t k → e ≡ a + span (drop a ws) 1 → Stands s t k ws a e
 stands s t k ws a e q h = sized s t k ws a e q (omega (arith, h, span-tree s t k (drop a ws) q))
+
+-- The end of a node, by its parts.
+pub node-ends : (ws : List ℕ) (end n : ℕ) → 1 ≤ length ws → end ≡ span ws 1 → partCount (getD ws 0 0) ≡ n → Ends n ws end
+node-ends ws end n h e c = record { is = e ∙ span-parts ws n h c; most = omega (arith, e, span-within ws 1) }

@@ -8,46 +8,46 @@ use borrow.Rule.Slice.PartAt.{part-to-end}
 use native.Mathlib.Omega.{arith}
 use Rattle.nodes.proofs.Ways.{part-length}
 use Rattle.writing.specs.Spans.{span}
+use Rattle.writing.proofs.Lengths.{span-next}
 use Rattle.contraction.specs.Forms.{formAt}
 use Rattle.contraction.proofs.Choice.{if-scheme, if-ml, if-zero, if-more}
-use borrow.Author.Needs.{needs}
 use Rattle.contraction.proofs.binary.of_if.Statement.{statement}
 use Rattle.contraction.proofs.binary.of_if.Tie as tie
 
 -- Where the parts start and end.
 module _ (c : tie.After-form-at) where
   abbrev ws : List ℕ
-  ws = c .before .before .before .before .before .before .before .before .before .args .words .now
+  ws = c .before .before .before .before .before .before .before .args .words .now
 
   abbrev x : ℕ
-  x = 1 + c .before .before .before .before .before .before .skip .result
+  x = 1 + c .before .before .before .before .skip .result
 
   abbrev y : ℕ
-  y = x + c .before .before .before .before .skip2 .result
+  y = x + c .before .before .skip2 .result
 
   abbrev z : ℕ
-  z = y + c .before .before .skip3 .result
+  z = c .before .before .before .before .before .before .before .args .end
 
   form-is : c .form-at .result ≡ formAt (drop 1 ws)
   form-is = c .form-at .ensures ∙ ap formAt (part-to-end ws 1)
 
   x-is : x ≡ 1 + span (drop 1 ws) 1
-  x-is = ap (λ (n : ℕ). 1 + n) (c .before .before .before .before .before .before .skip .ensures .1 ∙ ap (λ (v : List ℕ). span v 1) (part-to-end ws 1))
+  x-is = ap (λ (n : ℕ). 1 + n) (c .before .before .before .before .skip .ensures .1 ∙ ap (λ (v : List ℕ). span v 1) (part-to-end ws 1))
 
   y-is : y ≡ x + span (drop x ws) 1
-  y-is = ap (λ (n : ℕ). x + n) (c .before .before .before .before .skip2 .ensures .1 ∙ ap (λ (v : List ℕ). span v 1) (part-to-end ws x))
+  y-is = ap (λ (n : ℕ). x + n) (c .before .before .skip2 .ensures .1 ∙ ap (λ (v : List ℕ). span v 1) (part-to-end ws x))
 
   z-is : z ≡ y + span (drop y ws) 1
-  z-is = ap (λ (n : ℕ). y + n) (c .before .before .skip3 .ensures .1 ∙ ap (λ (v : List ℕ). span v 1) (part-to-end ws y))
+  z-is = span-next ws x y z 1 y-is (span-next ws 1 x z 2 x-is (c .before .before .before .before .before .before .before .pre .3 .is))
 
   x-in : x ≤ length ws
-  x-in = omega (arith, c .before .before .before .before .before .before .skip .ensures .0, part-length ws 1, c .before .before .before .before .before .before .before .before .before .pre .2)
+  x-in = omega (arith, c .before .before .before .before .skip .ensures .0, part-length ws 1, c .before .before .before .before .before .before .before .pre .2)
 
   y-in : y ≤ length ws
-  y-in = omega (arith, x-in, c .before .before .before .before .skip2 .ensures .0, part-length ws x)
+  y-in = omega (arith, x-in, c .before .before .skip2 .ensures .0, part-length ws x)
 
   z-in : z ≤ length ws
-  z-in = omega (arith, y-in, c .before .before .skip3 .ensures .0, part-length ws y)
+  z-in = c .before .before .before .before .before .before .before .pre .3 .most
 
 sub-skip : tie.Need-sub-skip
 sub-skip c = search needs
@@ -82,24 +82,6 @@ skip-requires-2 c κs = search needs
 add-third : tie.Need-add-third
 add-third c = search needs
 
-mul-skip-2 : tie.Need-mul-skip-2
-mul-skip-2 c = search needs
-
-sub-skip-3 : tie.Need-sub-skip-3
-sub-skip-3 c = search needs
-
-part-skip-start-3 : tie.Need-part-skip-start-3
-part-skip-start-3 c = search needs
-
-part-skip-end-3 : tie.Need-part-skip-end-3
-part-skip-end-3 c = search needs
-
-skip-requires-3 : tie.Need-skip-requires-3
-skip-requires-3 c κs = search needs
-
-add-end : tie.Need-add-end
-add-end c = search needs
-
 sub-form-at : tie.Need-sub-form-at
 sub-form-at c = search needs
 
@@ -118,7 +100,7 @@ shared-slice-read-if2 c = search needs
 returns : tie.Need-returns
 returns c =
     let f = c .before .before .before in
-    ((omega arith, z-in f), if-scheme _ _ _ _ _ (form-is f) (x-is f) (y-is f) (z-is f) (c .if2 .taken) (c .before .before .if1 .taken))
+    ((omega (arith, z-is f), z-in f), if-scheme _ _ _ _ _ (form-is f) (x-is f) (y-is f) (z-is f) (c .if2 .taken) (c .before .before .if1 .taken))
 
 returns-2 : tie.Need-returns-2
 returns-2 c = let f = c .before .before .before in (tt, if-ml _ _ _ _ _ (form-is f) (x-is f) (y-is f) (z-is f) (c .if2 .left) (c .before .before .if1 .taken))
@@ -147,7 +129,7 @@ returns-4 c =
     let f = c .before .before .before .before in
     let n = c .before .number-at in
     let e = n .ensures .0 ∙ ap (λ (v : List ℕ). getD v 0 0 / 256) (part-to-end (ws f) 1) in
-    ((omega arith, z-in f), if-more _ _ _ _ _ (form-is f) (x-is f) (y-is f) (z-is f) (c .before .before .before .if1 .left) _ e (c .if3 .left))
+    ((omega (arith, z-is f), z-in f), if-more _ _ _ _ _ (form-is f) (x-is f) (y-is f) (z-is f) (c .before .before .before .if1 .left) _ e (c .if3 .left))
 
 pub of-if-spec : {M : Type 1} → statement M
 of-if-spec =
@@ -164,12 +146,6 @@ of-if-spec =
     part-skip-end-2
     skip-requires-2
     add-third
-    mul-skip-2
-    sub-skip-3
-    part-skip-start-3
-    part-skip-end-3
-    skip-requires-3
-    add-end
     sub-form-at
     part-form-at-start
     part-form-at-end

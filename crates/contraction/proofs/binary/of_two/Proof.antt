@@ -9,11 +9,11 @@ use borrow.Rule.Slice.PartAt.{part-to-end}
 use native.Mathlib.Omega.{arith}
 use Rattle.nodes.proofs.Ways.{part-length}
 use Rattle.writing.specs.Spans.{span}
+use Rattle.writing.proofs.Lengths.{span-next}
 use Rattle.contraction.specs.Forms.{formAt}
 use Rattle.contraction.specs.Chosen.{TwoParts}
 use Rattle.contraction.proofs.Looks.{amiss-placed, number-placed, sum-placed}
 use Rattle.contraction.proofs.TwoPart.{two-none, two-apply, two-cons, two-no-number, two-no-second, two-plus, two-minus}
-use borrow.Author.Needs.{needs}
 use Rattle.contraction.proofs.binary.of_two.Statement.{statement}
 use Rattle.contraction.proofs.binary.of_two.Tie as tie
 
@@ -27,21 +27,22 @@ module _ (c : tie.After-skip) where
 -- What is known of the parts.
 module _ (c : tie.After-form-at) where
   abbrev ws : List ℕ
-  ws = c .before .before .before .before .before .before .before .before .args .words .now
+  ws = c .before .before .before .before .before .before .args .words .now
 
   abbrev middle : ℕ
-  middle = 1 + c .before .before .before .before .before .skip .result
+  middle = 1 + c .before .before .before .skip .result
 
-  known : TwoParts ws (c .form-at .result) middle (middle + c .before .before .skip2 .result)
+  known : TwoParts ws (c .form-at .result) middle (c .before .before .before .before .before .before .args .end)
   known =
-      let s = c .before .before .skip2 in
+      let e = c .before .before .before .before .before .before .pre .3 in
+      let n = span-next ws 1 middle (c .before .before .before .before .before .before .args .end) 1 (middle-is (c .before .before .before)) (e .is) in
       record {
         form-is = c .form-at .ensures ∙ ap formAt (part-to-end ws 1);
-        middle-is = middle-is (c .before .before .before .before .before);
-        end-is = ap (λ (n : ℕ). middle + n) (s .ensures .1 ∙ ap (λ (v : List ℕ). span v 1) (part-to-end ws middle));
-        least = omega (arith, c .before .before .before .before .if1 .left);
-        order = omega arith;
-        most = omega (arith, s .ensures .0, part-length ws middle, middle-in (c .before .before .before .before .before));
+        middle-is = middle-is (c .before .before .before);
+        end-is = n;
+        least = omega (arith, c .before .before .if1 .left);
+        order = omega (arith, n);
+        most = e .most;
       }
 
 sub-skip : tie.Need-sub-skip
@@ -62,24 +63,6 @@ add-middle c = search needs
 returns : tie.Need-returns
 returns c = (tt, two-none _ _ (middle-is (c .before)) (c .if1 .taken))
 
-mul-skip : tie.Need-mul-skip
-mul-skip c = search needs
-
-sub-skip-2 : tie.Need-sub-skip-2
-sub-skip-2 c = middle-in (c .before)
-
-part-skip-start-2 : tie.Need-part-skip-start-2
-part-skip-start-2 c = middle-in (c .before)
-
-part-skip-end-2 : tie.Need-part-skip-end-2
-part-skip-end-2 c = search needs
-
-skip-requires-2 : tie.Need-skip-requires-2
-skip-requires-2 c κs = search needs
-
-add-end : tie.Need-add-end
-add-end c = search needs
-
 sub-form-at : tie.Need-sub-form-at
 sub-form-at c = search needs
 
@@ -99,7 +82,7 @@ operator-requires : tie.Need-operator-requires
 operator-requires c κs = search needs
 
 of-apply-requires : tie.Need-of-apply-requires
-of-apply-requires c κs = (c .before .before .before .before .before .before .before .before .before .before .before .pre .0, c .before .before .before .before .before .before .before .before .before .before .before .pre .1, known (c .before .before .before))
+of-apply-requires c κs = (c .before .before .before .before .before .before .before .before .before .pre .0, c .before .before .before .before .before .before .before .before .before .pre .1, known (c .before .before .before))
 
 returns-2 : tie.Need-returns-2
 returns-2 c =
@@ -124,10 +107,10 @@ mul-form-at : tie.Need-mul-form-at
 mul-form-at c = search needs
 
 sub-form-at-2 : tie.Need-sub-form-at-2
-sub-form-at-2 c = middle-in (c .before .before .before .before .before .before .before .before .before .before)
+sub-form-at-2 c = middle-in (c .before .before .before .before .before .before .before .before)
 
 part-form-at-start-2 : tie.Need-part-form-at-start-2
-part-form-at-start-2 c = middle-in (c .before .before .before .before .before .before .before .before .before .before)
+part-form-at-start-2 c = middle-in (c .before .before .before .before .before .before .before .before)
 
 part-form-at-end-2 : tie.Need-part-form-at-end-2
 part-form-at-end-2 c = search needs
@@ -142,9 +125,10 @@ returns-5 : tie.Need-returns-5
 returns-5 c =
     let g = c .amiss2 .ensures in
     let f = c .before .before .before .before .before .before .before .before .before in
-    let h = c .before .before .form-at2 .ensures ∙ ap formAt (part-to-end (ws f) (middle f)) in (
+    let h = c .before .before .form-at2 .ensures ∙ ap formAt (part-to-end (ws f) (middle f)) in
+    let o = c .before .before .before .before .before .before .before .operator .ensures in (
       rw g (amiss-placed (length (ws f)) (leb 32 (getD (ws f) 0 0)) 1),
-      rw g (two-no-second _ _ _ _ (known f) _ (c .before .before .before .before .before .before .before .operator .ensures) (c .before .before .before .before .before .before .if2 .left) (c .before .before .before .before .before .if3 .left) (c .before .before .before .before .if4 .left) _ h (c .before .if5 .taken)),
+      rw g (two-no-second _ _ _ _ (known f) _ o (c .before .before .before .before .before .before .if2 .left) (c .before .before .before .before .before .if3 .left) (c .before .before .before .before .if4 .left) _ h (c .before .if5 .taken)),
     )
 
 sub-number-at : tie.Need-sub-number-at
@@ -163,10 +147,10 @@ mul-number-at : tie.Need-mul-number-at
 mul-number-at c = search needs
 
 sub-number-at-2 : tie.Need-sub-number-at-2
-sub-number-at-2 c = middle-in (c .before .before .before .before .before .before .before .before .before .before .before .before .before .before .before)
+sub-number-at-2 c = middle-in (c .before .before .before .before .before .before .before .before .before .before .before .before .before)
 
 part-number-at-start-2 : tie.Need-part-number-at-start-2
-part-number-at-start-2 c = middle-in (c .before .before .before .before .before .before .before .before .before .before .before .before .before .before .before)
+part-number-at-start-2 c = middle-in (c .before .before .before .before .before .before .before .before .before .before .before .before .before)
 
 part-number-at-end-2 : tie.Need-part-number-at-end-2
 part-number-at-end-2 c = search needs
@@ -183,11 +167,12 @@ returns-6 c =
     let f = c .before .before .before .before .before .before .before .before .before .before .before .before .before .before in
     let a = c .before .before .before .before .number-at in
     let b = c .before .before .number-at2 in
+    let o = c .before .before .before .before .before .before .before .before .before .before .before .before .operator .ensures in
     let h = c .before .before .before .before .before .before .before .form-at2 .ensures ∙ ap formAt (part-to-end (ws f) (middle f)) in
     let x = a .ensures .0 ∙ ap (λ (v : List ℕ). getD v 0 0 / 256) (part-to-end (ws f) 1) in
     let y = b .ensures .0 ∙ ap (λ (v : List ℕ). getD v 0 0 / 256) (part-to-end (ws f) (middle f)) in (
       rw g (sum-placed (length (ws f)) (leb 32 (getD (ws f) 0 0)) (a .result) (b .result)),
-      rw g (two-plus _ _ _ _ (known f) _ (c .before .before .before .before .before .before .before .before .before .before .before .before .operator .ensures) (c .before .before .before .before .before .before .before .before .before .before .before .if2 .left) (c .before .before .before .before .before .before .before .before .before .before .if3 .left) (c .before .before .before .before .before .before .before .before .before .if4 .left) _ h (c .before .before .before .before .before .before .if5 .left) _ _ x y (c .before .if6 .taken)),
+      rw g (two-plus _ _ _ _ (known f) _ o (c .before .before .before .before .before .before .before .before .before .before .before .if2 .left) (c .before .before .before .before .before .before .before .before .before .before .if3 .left) (c .before .before .before .before .before .before .before .before .before .if4 .left) _ h (c .before .before .before .before .before .before .if5 .left) _ _ x y (c .before .if6 .taken)),
     )
 
 difference-requires : tie.Need-difference-requires
@@ -203,11 +188,12 @@ returns-7 c =
     let f = c .before .before .before .before .before .before .before .before .before .before .before .before .before .before .before in
     let a = c .before .before .before .before .before .number-at in
     let b = c .before .before .before .number-at2 in
+    let o = c .before .before .before .before .before .before .before .before .before .before .before .before .before .operator .ensures in
     let h = c .before .before .before .before .before .before .before .before .form-at2 .ensures ∙ ap formAt (part-to-end (ws f) (middle f)) in
     let x = a .ensures .0 ∙ ap (λ (v : List ℕ). getD v 0 0 / 256) (part-to-end (ws f) 1) in
     let y = b .ensures .0 ∙ ap (λ (v : List ℕ). getD v 0 0 / 256) (part-to-end (ws f) (middle f)) in (
       rw (g, d) (number-placed (length (ws f)) (leb 32 (getD (ws f) 0 0)) (a .result - b .result) (omega (arith, a .ensures .1))),
-      rw (g, d) (two-minus _ _ _ _ (known f) _ (c .before .before .before .before .before .before .before .before .before .before .before .before .before .operator .ensures) (c .before .before .before .before .before .before .before .before .before .before .before .before .if2 .left) (c .before .before .before .before .before .before .before .before .before .before .before .if3 .left) (c .before .before .before .before .before .before .before .before .before .before .if4 .left) _ h (c .before .before .before .before .before .before .before .if5 .left) _ _ x y (c .before .before .if6 .left)),
+      rw (g, d) (two-minus _ _ _ _ (known f) _ o (c .before .before .before .before .before .before .before .before .before .before .before .before .if2 .left) (c .before .before .before .before .before .before .before .before .before .before .before .if3 .left) (c .before .before .before .before .before .before .before .before .before .before .if4 .left) _ h (c .before .before .before .before .before .before .before .if5 .left) _ _ x y (c .before .before .if6 .left)),
     )
 
 pub of-two-spec : {M : Type 1} → statement M
@@ -220,12 +206,6 @@ of-two-spec =
     skip-requires
     add-middle
     returns
-    mul-skip
-    sub-skip-2
-    part-skip-start-2
-    part-skip-end-2
-    skip-requires-2
-    add-end
     sub-form-at
     part-form-at-start
     part-form-at-end

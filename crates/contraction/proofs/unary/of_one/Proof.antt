@@ -1,53 +1,30 @@
 -- `contraction::unary::of_one` meets its contract. Assumes nothing.
 use borrow.Author.Needs.{needs}
-use mathlib.Core.List.{List}
 use mathlib.Core.Path.{_≡_, ap, _∙_}
-use Prim.Native.Nat.{ℕ, _+_}
-use lib.ListN.{length, drop}
+use Prim.Native.Nat.{_+_}
+use lib.ListN.{length}
 use borrow.Rule.Slice.PartAt.{part-to-end}
 use native.Mathlib.Omega.{arith}
-use Rattle.nodes.proofs.Ways.{part-length}
-use Rattle.writing.specs.Spans.{span}
 use Rattle.contraction.specs.Forms.{formAt}
 use Rattle.contraction.specs.Chosen.{FirstPart}
 use Rattle.contraction.proofs.Looks.{null-placed}
 use Rattle.contraction.proofs.OnePart.{one-fix, one-null, one-test, one-list, one-none}
-use borrow.Author.Needs.{needs}
 use Rattle.contraction.proofs.unary.of_one.Statement.{statement}
 use Rattle.contraction.proofs.unary.of_one.Tie as tie
 
-module _ (c : tie.After-skip) where
-  end-is : 1 + c .skip .result ≡ 1 + span (drop 1 (c .before .before .before .args .words .now)) 1
-  end-is = ap (λ (n : ℕ). 1 + n) (c .skip .ensures .1 ∙ ap (λ (v : List ℕ). span v 1) (part-to-end (c .before .before .before .args .words .now) 1))
-
 -- What is known of the part.
 module _ (c : tie.After-form-at) where
-  known : FirstPart (c .before .before .before .before .before .before .args .words .now) (c .form-at .result) (1 + c .before .before .before .skip .result)
+  known : FirstPart (c .before .before .before .before .args .words .now) (c .form-at .result) (c .before .before .before .before .args .end)
   known =
       record {
-        form-is = c .form-at .ensures ∙ ap formAt (part-to-end (c .before .before .before .before .before .before .args .words .now) 1);
-        end-is = end-is (c .before .before .before);
+        form-is = c .form-at .ensures ∙ ap formAt (part-to-end (c .before .before .before .before .args .words .now) 1);
+        end-is = c .before .before .before .before .pre .3 .is;
         least = omega (arith, c .before .before .if1 .left);
-        most = omega (arith, c .before .before .before .skip .ensures .0, part-length (c .before .before .before .before .before .before .args .words .now) 1, c .before .before .before .before .before .before .pre .2);
+        most = c .before .before .before .before .pre .3 .most;
       }
 
-sub-skip : tie.Need-sub-skip
-sub-skip c = search needs
-
-part-skip-start : tie.Need-part-skip-start
-part-skip-start c = search needs
-
-part-skip-end : tie.Need-part-skip-end
-part-skip-end c = search needs
-
-skip-requires : tie.Need-skip-requires
-skip-requires c κs = (c .before .before .pre .0, omega (arith, part-length (c .before .before .args .words .now) 1, c .before .before .pre .1))
-
-add-end : tie.Need-add-end
-add-end c = omega (arith, c .skip .ensures .0, part-length (c .before .before .before .args .words .now) 1, c .before .before .before .pre .1)
-
 returns : tie.Need-returns
-returns c = (tt, one-none _ _ (end-is (c .before)) (c .if1 .taken))
+returns c = (tt, one-none _ _ (c .before .before .pre .3 .is) (c .if1 .taken))
 
 sub-form-at : tie.Need-sub-form-at
 sub-form-at c = search needs
@@ -59,7 +36,7 @@ part-form-at-end : tie.Need-part-form-at-end
 part-form-at-end c = search needs
 
 form-at-requires : tie.Need-form-at-requires
-form-at-requires c κs = c .before .before .before .before .before .pre .0
+form-at-requires c κs = search needs
 
 shared-slice-read-w : tie.Need-shared-slice-read-w
 shared-slice-read-w c = search needs
@@ -68,7 +45,7 @@ operator-requires : tie.Need-operator-requires
 operator-requires c κs = search needs
 
 of-fix-requires : tie.Need-of-fix-requires
-of-fix-requires c κs = (c .before .before .before .before .before .before .before .before .before .pre .0, c .before .before .before .before .before .before .before .before .before .pre .1, known (c .before .before .before))
+of-fix-requires c κs = (c .before .before .before .before .before .before .before .pre .0, c .before .before .before .before .before .before .before .pre .1, known (c .before .before .before))
 
 returns-2 : tie.Need-returns-2
 returns-2 c =
@@ -81,7 +58,8 @@ of-null-requires c κs = search needs
 returns-3 : tie.Need-returns-3
 returns-3 c =
     let g = c .of-null .ensures in
-    (rw g (null-placed (length (c .before .before .before .before .before .before .before .before .before .before .before .args .words .now)) (c .before .before .before .before .before .form-at .result)), rw g (one-null _ _ _ (known (c .before .before .before .before .before)) _ (c .before .before .before .operator .ensures) (c .before .if3 .taken)))
+    let f = c .before .before .before .before .before in
+    (rw g (null-placed (length (c .before .before .before .before .before .before .before .before .before .args .words .now)) (f .form-at .result)), rw g (one-null _ _ _ (known f) _ (c .before .before .before .operator .ensures) (c .before .if3 .taken)))
 
 answer-requires : tie.Need-answer-requires
 answer-requires c κs = search needs
@@ -92,7 +70,7 @@ returns-4 c =
     ((omega arith, omega (arith, g .1)), rw (g .0) (one-test _ _ _ (known (c .before .before .before .before .before .before)) _ (c .before .before .before .before .operator .ensures) (c .before .if4 .taken)))
 
 of-list-requires : tie.Need-of-list-requires
-of-list-requires c κs = (c .before .before .before .before .before .before .before .before .before .before .before .pre .0, c .before .before .before .before .before .before .before .before .before .before .before .pre .1, known (c .before .before .before .before .before))
+of-list-requires c κs = (c .before .before .before .before .before .before .before .before .before .pre .0, c .before .before .before .before .before .before .before .before .before .pre .1, known (c .before .before .before .before .before))
 
 returns-5 : tie.Need-returns-5
 returns-5 c =
@@ -103,11 +81,6 @@ pub of-one-spec : {M : Type 1} → statement M
 of-one-spec =
     tie.close
     (tie.spec
-    sub-skip
-    part-skip-start
-    part-skip-end
-    skip-requires
-    add-end
     returns
     sub-form-at
     part-form-at-start
