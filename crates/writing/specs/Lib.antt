@@ -1,3 +1,4 @@
 pub mod Wrote
 pub mod Spans
 pub mod Substituted
+pub mod Pieces

@@ -5,6 +5,7 @@ ghost use mathlib.Core.List.{[], _∷_};
 ghost use Prim.Native.Nat.{_+_, _-_, _<_, _^_, min};
 ghost use lib.ListN.{length};
 ghost use Rattle.writing.specs.Wrote.{Wrote};
+ghost use Rattle.writing.specs.Pieces.{Ready, Emitted};
 
 pub mod spans;
 pub mod substitution;
@@ -45,4 +46,16 @@ pub fn copy(source: &[u32], target: &mut [u32], n: usize) -> usize
         i += 1;
     }
     n + source.len()
+}
+
+// A piece of the next term, from the place n on: the words of src from a to e; or, where it is there already, up to the place a, nothing.
+// Returns the place after it.
+pub fn piece(src: &[u32], a: usize, e: usize, there: u32, buf: &mut [u32], n: usize) -> usize
+    requires { ⌜ Ready there (now src) a e n ⌝ }
+    ensures { λ r. ⌜ Emitted there (now (src .entry)) a e (now (buf .entry)) n r (now (buf .exit)) ⌝ }
+{
+    if there == 0 {
+        return copy(&src[a..e], buf, n);
+    }
+    a
 }
