@@ -1,7 +1,7 @@
 // A writer: it borrows the unused buffer, and counts the words of the next term, those that did not fit too.
 
 ghost use mathlib.Core.Path.{_≡_};
-ghost use Rattle.emission.specs.Emitted.{Ready};
+ghost use Rattle.writing.specs.Pieces.{Ready};
 ghost use Rattle.writer.specs.Kept.{Put, Next, Place};
 
 pub struct Writer<'a> {
@@ -23,32 +23,33 @@ pub fn filled<'a>(w: Writer<'a>) -> usize
 }
 
 // One piece of the next term after the others.
-pub fn put<'a, 's>(w: Writer<'a>, src: &'s [u32], a: usize, e: usize, rule: u32) -> Writer<'a>
-    requires { ⌜ Ready (now src) a e (w .at) ⌝ }
-    ensures { λ r. ⌜ Put (w .entry) rule (now (src .entry)) a e r ⌝ }
+pub fn put<'a, 's>(w: Writer<'a>, src: &'s [u32], a: usize, e: usize, there: u32) -> Writer<'a>
+    requires { ⌜ Ready there (now src) a e (w .at) ⌝ }
+    ensures { λ r. ⌜ Put (w .entry) there (now (src .entry)) a e r ⌝ }
 {
     let at = w.at;
-    let next = emission::piece(src, a, e, rule, &mut *w.buf, at);
+    let next = writing::piece(src, a, e, there, &mut *w.buf, at);
     Writer {
         buf: w.buf,
         at: next,
     }
 }
 
-// The next term: the words of src before p, the piece, and the words from e on. Returns its size, whether or not it fits.
+// The next term: the words of src before p, the piece up to the place a, and the words of src from e on. Returns its size, whether or not it
+// fits.
 pub fn write_next<'a, 's>(
     buf: &'a mut [u32],
     src: &'s [u32],
     p: usize,
     a: usize,
     e: usize,
-    rule: u32,
+    there: u32,
 ) -> usize
-    requires { ⌜ Place (now src) p a e ⌝ }
-    ensures { λ r. ⌜ Next (now (src .entry)) p a e rule (now (buf .entry)) r (now (buf .exit)) ⌝ }
+    requires { ⌜ Place there (now src) p a e ⌝ }
+    ensures { λ r. ⌜ Next (now (src .entry)) p a e there (now (buf .entry)) r (now (buf .exit)) ⌝ }
 {
     let w = put(new(buf), src, 0, p, 0);
-    let w2 = put(w, src, a, e, rule);
+    let w2 = put(w, src, a, e, there);
     let w3 = put(w2, src, e, src.len(), 0);
     filled(w3)
 }

@@ -1,4 +1,4 @@
--- `writer::put` meets its contract: a walk of its MIR, by hand. The writer's slice is lent again to `emission::piece`, for a lifetime that is made for the call, and comes back at the list that `piece` left (`Again.antt`). What `src` owns is had twice: a copy goes to the call.
+-- `writer::put` meets its contract: a walk of its MIR, by hand. The writer's slice is lent again to `writing::piece`, for a lifetime that is made for the call, and comes back at the list that `piece` left (`Again.antt`). What `src` owns is had twice: a copy goes to the call.
 -- All that the proof knows of `piece` is that it meets its contract. The writer is spent, since the result names its lifetime (`Held2.antt`'s `writer-spent`).
 -- Assumes nothing.
 use mathlib.Core.Path.{_≡_, refl, ap}
@@ -47,12 +47,12 @@ use Rattle.writer.proofs.Writer as T
 use Rattle.writer.proofs.Writer.Laws as T′
 use Rattle.writer.proofs.Held2.{writer-spent, writer-spent-goes}
 use Rattle.writer.proofs.Again.{LentAgain, lends-again, comes-back}
-use Rattle.emission.specs.Emitted.{Ready, Emitted}
+use Rattle.writing.specs.Pieces.{Ready, Emitted}
 use Rattle.writer.specs.Kept.{Put}
-use Rattle.emission.proofs.piece as piece
-use Rattle.emission.proofs.piece.Symbol as piece-def
-use Rattle.emission.proofs.piece.Symbol.{name as #emission·piece}
-use Rattle.emission.proofs.piece.Met as piece-thm
+use Rattle.writing.proofs.piece as piece
+use Rattle.writing.proofs.piece.Symbol as piece-def
+use Rattle.writing.proofs.piece.Symbol.{name as #writing·piece}
+use Rattle.writing.proofs.piece.Met as piece-thm
 use Rattle.writer.proofs.put.Key.{name as #writer·put}
 use Rattle.writer.proofs.put as put
 use Rattle.writer.proofs.put.Statement as stated
@@ -106,7 +106,7 @@ module _ {M : Type 1} (𝓤 : URA M) (H : Heap 𝓤) (A : Atoms 𝓤) (W : Given
   abbrev to-piece : ℕ → GName → Piece 𝓤 H A mem run .Ghost
   to-piece ν δ = (((κ′, (ν ∷ [], tt)), (q′, (fullShare, tt)), tt, (z, (i, (j, (v, (x δ ys, (n, tt)))))), (zv ∷ [], (vint w64 i ∷ [], (vint w64 j ∷ [], (vint w32 v ∷ [], (s ∷ [], (vint w64 n ∷ [], tt))))))), tt)
 
-  goes : (ν : ℕ) (δ : GName) → Ready (z .now) i j n → ent 𝓤 (sep 𝓤 (A .lft κ′ q′) (sep 𝓤 (A .lft (ν ∷ []) fullShare) (sep 𝓤 (sem 𝓤 H A Oz) (sem 𝓤 H A (MutSlice (named 1) (ν ∷ []) u32 .own (x δ ys) (s ∷ [])))))) (Piece 𝓤 H A mem run .pre (to-piece ν δ))
+  goes : (ν : ℕ) (δ : GName) → Ready v (z .now) i j n → ent 𝓤 (sep 𝓤 (A .lft κ′ q′) (sep 𝓤 (A .lft (ν ∷ []) fullShare) (sep 𝓤 (sem 𝓤 H A Oz) (sem 𝓤 H A (MutSlice (named 1) (ν ∷ []) u32 .own (x δ ys) (s ∷ [])))))) (Piece 𝓤 H A mem run .pre (to-piece ν δ))
   goes ν δ ready =
       qed W (‵ (flft κ′ q′) ∷ ‵ (flft (ν ∷ []) fullShare) ∷ ‵ Oz ∷ ‵ (MutSlice (named 1) (ν ∷ []) u32 .own (x δ ys) (s ∷ [])) ∷ []) ∵ says ! ready $ nothing ! $ move ! (2 ∷ 0 ∷ []) $ join ! $ move ! (1 ∷ 0 ∷ []) $ join ! $ frame ! $
       nothing ! $ owned ! usize (Is usize) (uint-makes 𝓤 H A W w64) n _ (refl, n-fits) $ fjoin ! $ move ! (2 ∷ 0 ∷ []) $ fjoin ! $ owned ! u32 (Is u32) (uint-makes 𝓤 H A W w32) v _ (refl, v-fits) $ fjoin ! $
@@ -132,8 +132,8 @@ module _ {M : Type 1} (𝓤 : URA M) (H : Heap 𝓤) (A : Atoms 𝓤) (W : Given
       nothing ! $ owned ! u32 (Is u32) (uint-makes 𝓤 H A W w32) v _ (refl, v-fits) $ fjoin ! $ owned ! usize (Is usize) (uint-makes 𝓤 H A W w64) j _ (refl, j-fits) $ fjoin ! $ owned ! usize (Is usize) (uint-makes 𝓤 H A W w64) i _ (refl, i-fits) $ fjoin ! $
       move ! (3 ∷ 0 ∷ []) $ fjoin ! $ move ! (1 ∷ 0 ∷ []) $ fjoin ! $ done !
 
-  module _ (C : Calls 𝓤 H) (Λ : Loops 𝓤 H) (fm : FmC 𝓤 H (W .laws) C) (known : Triple 𝓤 (C #emission·piece) (Piece 𝓤 H A mem run)) where
-    walk : Is (T.the-row α) h (mach n ∷ []) → Room u32 (length ys) → Room u32 (length (z .now)) → Ready (z .now) i j n
+  module _ (C : Calls 𝓤 H) (Λ : Loops 𝓤 H) (fm : FmC 𝓤 H (W .laws) C) (known : Triple 𝓤 (C #writing·piece) (Piece 𝓤 H A mem run)) where
+    walk : Is (T.the-row α) h (mach n ∷ []) → Room u32 (length ys) → Room u32 (length (z .now)) → Ready v (z .now) i j n
         → ent 𝓤 (onEntry 𝓤 H A put.signature κs (q, (q′, tt)) a vals) (WpFn 𝓤 H C Λ code.function (mach n ∷ zv ∷ vint w64 i ∷ vint w64 j ∷ vint w32 v ∷ []) Post)
     walk g room z-room ready =
         qed W ((‵ (flft κ q) ⊛ ‵ (flft κ′ q′) ⊛ ‵ ftrue) ∷ ‵ (owns (T.the-row α ∷ ShrSlice (named 1) κ′ u32 ∷ usize ∷ usize ∷ u32 ∷ []) a vals) ∷ []) ∵ enter ! C Λ code.function (mach n ∷ zv ∷ vint w64 i ∷ vint w64 j ∷ vint w32 v ∷ []) _ $
@@ -172,16 +172,16 @@ module _ {M : Type 1} (𝓤 : URA M) (H : Heap 𝓤) (A : Atoms 𝓤) (W : Given
         keep ! (1 ∷ 3 ∷ 0 ∷ 7 ∷ []) $ by ! (exits r (zs .1 .1 .1 .1 .0) e l (is .1)))))))))))))))))))))))
 
 module _ {M : Type 1} (𝓤 : URA M) (H : Heap 𝓤) (A : Atoms 𝓤) (W : Given 𝓤 H A) (mem : Memory → SProp 𝓤) (run : Routine → Fun 𝓤) where
-  put-walks : (C : Calls 𝓤 H) (Λ : Loops 𝓤 H) → FmC 𝓤 H (W .laws) C → Triple 𝓤 (C #emission·piece) (Piece 𝓤 H A mem run) → Walks 𝓤 H A put.ended stayed (WpFn 𝓤 H C Λ code.function) (put.clauses 𝓤 H A mem run)
+  put-walks : (C : Calls 𝓤 H) (Λ : Loops 𝓤 H) → FmC 𝓤 H (W .laws) C → Triple 𝓤 (C #writing·piece) (Piece 𝓤 H A mem run) → Walks 𝓤 H A put.ended stayed (WpFn 𝓤 H C Λ code.function) (put.clauses 𝓤 H A mem run)
   put-walks C Λ fm known = walked 𝓤 H A put.ended stayed (put.clauses 𝓤 H A mem run) (WpFn 𝓤 H C Λ code.function)
       (λ κs. (LL.vals (T.the-type (namedLft 2 0 tt κs)) (T′.the-laws (namedLft 2 0 tt κs)), (slice-vals, (uint-vals w64, (uint-vals w64, (uint-vals w32, tt))))))
       (λ κs. (LL.tells (T.the-type (namedLft 2 0 tt κs)) (T′.the-laws (namedLft 2 0 tt κs)), (shr-slice-tells (named 1) (κs .1 .0) u32, (uint-tells w64, (uint-tells w64, (uint-tells w32, tt))))))
-      (λ κs qs bounds a g are. needs 𝓤 (Ready (a .1 .0 .now) (a .1 .1 .0) (a .1 .1 .1 .0) (a .0 .at)) _ (λ ready.
+      (λ κs qs bounds a g are. needs 𝓤 (Ready (a .1 .1 .1 .1 .0) (a .1 .0 .now) (a .1 .1 .0) (a .1 .1 .1 .0) (a .0 .at)) _ (λ ready.
       let fields = LL.owed (T.the-type (namedLft 2 0 tt κs)) (T′.the-laws (namedLft 2 0 tt κs)) (a .0) _ (are .0) in
       walk 𝓤 H A W mem run (κs .0) (κs .1 .0) (qs .0) (qs .1 .0) (a .0 .buf .ptr .0) (a .0 .buf .ptr .1) (a .0 .buf .name) (a .0 .buf .now) (a .0 .at) (a .1 .0) (a .1 .1 .0) (a .1 .1 .1 .0) (a .1 .1 .1 .1 .0)
       (fields .1 .0 .1) (are .1 .1 .0 .1) (are .1 .1 .1 .0 .1) (are .1 .1 .1 .1 .0 .1) C Λ fm known (are .0) (fields .0 .0 .1) (are .1 .0 .0 .1) ready))
 
-put-meets : {M : Type 1} (𝓤 : URA M) (H : Heap 𝓤) (A : Atoms 𝓤) → Given 𝓤 H A → (mem : Memory → SProp 𝓤) (run : Routine → Fun 𝓤) (𝓣 : Tables 𝓤 H) → Triple 𝓤 (𝓣 .C #emission·piece) (Piece 𝓤 H A mem run)
+put-meets : {M : Type 1} (𝓤 : URA M) (H : Heap 𝓤) (A : Atoms 𝓤) → Given 𝓤 H A → (mem : Memory → SProp 𝓤) (run : Routine → Fun 𝓤) (𝓣 : Tables 𝓤 H) → Triple 𝓤 (𝓣 .C #writing·piece) (Piece 𝓤 H A mem run)
     → Meets 𝓤 H A put.signature (WpFn 𝓤 H (𝓣 .C) (𝓣 .Λ) code.function) (put.spec 𝓤 H A mem run)
 put-meets 𝓤 H A W mem run 𝓣 known =
     walk-meets 𝓤 H A put.ended stayed W (writer-spent-goes 𝓤 H A W, (goes-none-slice 𝓤 H A W 2 (1 ∷ []) tt (plain (λ _. u32)) yes, (goes-none 𝓤 H A W 2 (λ _. usize) yes (λ κs x f. refl), (goes-none 𝓤 H A W 2 (λ _. usize) yes (λ κs x f. refl), (goes-none 𝓤 H A W 2 (λ _. u32) yes (λ κs x f. refl), tt))))) (put.clauses 𝓤 H A mem run)
@@ -193,4 +193,4 @@ put-spec 𝓤 H 𝓜 𝓖 𝓡 =
     entered 𝓤 H (tripleOf 𝓤 H (𝓖 .A) put.signature (put.spec 𝓤 H (𝓖 .A) (𝓜 .mem) (𝓡 .run)))
     (tables 𝓤 H 𝓜 𝓡 code.env .C) (tables 𝓤 H 𝓜 𝓡 code.env .Λ) #writer·put code.function (code.unfolded 𝓤 H 𝓜 𝓡)
     (put-meets 𝓤 H (𝓖 .A) (givenOf 𝓤 H 𝓜 𝓖) (𝓜 .mem) (𝓡 .run) (tablesOf 𝓤 H 𝓜 (tables 𝓤 H 𝓜 𝓡 code.env))
-    (cited 𝓤 H (Piece 𝓤 H (𝓖 .A) (𝓜 .mem) (𝓡 .run)) 𝓜 𝓡 code.env #emission·piece piece-def.routine code.calls-emission·piece (piece-thm.met 𝓤 H 𝓜 𝓖 𝓡)))
+    (cited 𝓤 H (Piece 𝓤 H (𝓖 .A) (𝓜 .mem) (𝓡 .run)) 𝓜 𝓡 code.env #writing·piece piece-def.routine code.calls-writing·piece (piece-thm.met 𝓤 H 𝓜 𝓖 𝓡)))

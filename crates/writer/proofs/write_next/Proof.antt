@@ -40,7 +40,7 @@ use denote.Triple.Table.{entered, cited}
 use denote.Triple.Walked.{says, needs, Stays, stay-none, stay-none-slice, gave-slice, walkOf, goes-none, goes-none-slice, goes-gave-slice, Walks, ends-at, walked, walk-meets}
 use denote.Exit.{yes}
 use denote.Signature.{plain}
-use Rattle.emission.specs.Emitted.{Ready, Emitted}
+use Rattle.writing.specs.Pieces.{Ready, Emitted}
 use Rattle.writer.specs.Kept.{Put, Next, Place}
 use Rattle.writer.specs.declared.Writer.{Writer}
 use Rattle.writer.proofs.Writer as T
@@ -66,14 +66,14 @@ abbrev stayed : Stays (write-next.ended .signature .params) (write-next.ended .k
 stayed = (gave-slice (0 ∷ []) tt (plain (λ _. u32)), (stay-none-slice (1 ∷ []) tt (plain (λ _. u32)) yes, (stay-none (λ _. usize) yes, (stay-none (λ _. usize) yes, (stay-none (λ _. usize) yes, (stay-none (λ _. u32) yes, tt))))))
 
 -- what each piece asks
-ready₀ : {l : List ℕ} {p i j : ℕ} → Place l p i j → Ready l 0 p 0
-ready₀ h = record { size = h .size; order = zero-le; within = h .first; at = zero-le }
+ready₀ : {v : ℕ} {l : List ℕ} {p i j : ℕ} → Place v l p i j → Ready 0 l 0 p 0
+ready₀ h = record { size = h .size; within = λ _. (zero-le, h .first); far = zero-le; at = zero-le }
 
-ready₁ : {l : List ℕ} {p i j : ℕ} → Place l p i j → (k : ℕ) → k ≤ 0 + 2199023255552 → Ready l i j k
-ready₁ h k b = record { size = h .size; order = h .order; within = h .within; at = omega arith }
+ready₁ : {v : ℕ} {l : List ℕ} {p i j : ℕ} → Place v l p i j → (k : ℕ) → k ≤ 0 + 4398046511104 → Ready v l i j k
+ready₁ h k b = record { size = h .size; within = λ z. (h .order z, h .within); far = h .far; at = omega arith }
 
-ready₂ : {l : List ℕ} {p i j : ℕ} → Place l p i j → (k m : ℕ) → k ≤ 0 + 2199023255552 → m ≤ k + 2199023255552 → Ready l j (length l) m
-ready₂ h k m b d = record { size = h .size; order = h .within; within = omega arith; at = omega arith }
+ready₂ : {v : ℕ} {l : List ℕ} {p i j : ℕ} → Place v l p i j → (k m : ℕ) → k ≤ 0 + 4398046511104 → m ≤ k + 4398046511104 → Ready 0 l j (length l) m
+ready₂ h k m b d = record { size = h .size; within = λ _. (h .within, omega arith); far = omega (arith, h .within, h .size); at = omega arith }
 
 module _ {M : Type 1} (𝓤 : URA M) (H : Heap 𝓤) (A : Atoms 𝓤) (mem : Memory → SProp 𝓤) (run : Routine → Fun 𝓤) where
   -- the contracts that the proof cites
@@ -94,7 +94,7 @@ module _ {M : Type 1} (𝓤 : URA M) (H : Heap 𝓤) (A : Atoms 𝓤) (mem : Mem
   put-of κs h z i j v r = exE 𝓤 _ (λ ws. snd∗ 𝓤 (sem 𝓤 H A (lasts put.ended κs (h, (z, (i, (j, (v, tt))))) ws)) (fact 𝓤 (Put h v (z .now) i j r)))
 
 module _ {M : Type 1} (𝓤 : URA M) (H : Heap 𝓤) (A : Atoms 𝓤) (W : Given 𝓤 H A) (mem : Memory → SProp 𝓤) (run : Routine → Fun 𝓤) (κ κ′ : Lft) (q q′ : Share) (b o : ℕ) (γ : GName) (ys : List ℕ) (z : RefT (List ℕ)) (p i j v : ℕ)
-    (p-fits : p < 2 ^ 64) (i-fits : i < 2 ^ 64) (j-fits : j < 2 ^ 64) (v-fits : v < 2 ^ 32) (place : Place (z .now) p i j) where
+    (p-fits : p < 2 ^ 64) (i-fits : i < 2 ^ 64) (j-fits : j < 2 ^ 64) (v-fits : v < 2 ^ 32) (place : Place v (z .now) p i j) where
   abbrev α : NamedLft
   α = record { mir = named 0; lft = κ }
 
@@ -142,7 +142,7 @@ module _ {M : Type 1} (𝓤 : URA M) (H : Heap 𝓤) (A : Atoms 𝓤) (W : Given
   abbrev to-put : Writer → Val → ℕ → ℕ → ℕ → PutC 𝓤 H A mem run .Ghost
   to-put h w i j v = ((κs, (q, (q′, tt)), tt, (h, (z, (i, (j, (v, tt))))), (w ∷ [], (zv ∷ [], (vint w64 i ∷ [], (vint w64 j ∷ [], (vint w32 v ∷ [], tt)))))), tt)
 
-  goes-put : (h : Writer) (w : Val) (i j v : ℕ) → i < 2 ^ 64 → j < 2 ^ 64 → v < 2 ^ 32 → Ready (z .now) i j (h .at)
+  goes-put : (h : Writer) (w : Val) (i j v : ℕ) → i < 2 ^ 64 → j < 2 ^ 64 → v < 2 ^ 32 → Ready v (z .now) i j (h .at)
       → ent 𝓤 (sep 𝓤 (A .lft κ q) (sep 𝓤 (sep 𝓤 (A .lft κ′ q′) (sem 𝓤 H A ftrue)) (sep 𝓤 (sem 𝓤 H A (T.the-row α .own h (w ∷ []))) (sem 𝓤 H A Oz)))) (PutC 𝓤 H A mem run .pre (to-put h w i j v))
   goes-put h w i j v i-fits j-fits v-fits ready =
       qed W (‵ (flft κ q) ∷ (‵ (flft κ′ q′) ⊛ ‵ ftrue) ∷ ‵ (T.the-row α .own h (w ∷ [])) ∷ ‵ Oz ∷ []) ∵ says ! ready $ join ! $ frame ! $
@@ -233,7 +233,7 @@ module _ {M : Type 1} (𝓤 : URA M) (H : Heap 𝓤) (A : Atoms 𝓤) (W : Given
   write-next-walks C Λ fm known-new known-put known-filled = walked 𝓤 H A write-next.ended stayed (write-next.clauses 𝓤 H A mem run) (WpFn 𝓤 H C Λ code.function)
       (λ κs. (slice-vals, (slice-vals, (uint-vals w64, (uint-vals w64, (uint-vals w64, (uint-vals w32, tt)))))))
       (λ κs. (mut-slice-tells (named 0) (κs .0) u32, (shr-slice-tells (named 1) (κs .1 .0) u32, (uint-tells w64, (uint-tells w64, (uint-tells w64, (uint-tells w32, tt)))))))
-      (λ κs qs bounds a g are. needs 𝓤 (Place (a .1 .0 .now) (a .1 .1 .0) (a .1 .1 .1 .0) (a .1 .1 .1 .1 .0)) _ (λ place.
+      (λ κs qs bounds a g are. needs 𝓤 (Place (a .1 .1 .1 .1 .1 .0) (a .1 .0 .now) (a .1 .1 .0) (a .1 .1 .1 .0) (a .1 .1 .1 .1 .0)) _ (λ place.
       walk 𝓤 H A W mem run (κs .0) (κs .1 .0) (qs .0) (qs .1 .0) (a .0 .ptr .0) (a .0 .ptr .1) (a .0 .name) (a .0 .now) (a .1 .0) (a .1 .1 .0) (a .1 .1 .1 .0) (a .1 .1 .1 .1 .0) (a .1 .1 .1 .1 .1 .0)
       (are .1 .1 .0 .1) (are .1 .1 .1 .0 .1) (are .1 .1 .1 .1 .0 .1) (are .1 .1 .1 .1 .1 .0 .1) place C Λ fm known-new known-put known-filled (are .0 .0 .1) (are .1 .0 .0 .1)))
 
