@@ -1,2 +1,2 @@
 pub mod Turning
-pub mod Stepping
+pub mod Walking

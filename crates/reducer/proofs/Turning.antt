@@ -1,14 +1,15 @@
--- The ways out of the walk that finds whose turn it is. Assumes nothing.
-use Prim.Native.Nat.{ℕ, _+_, _-_, _%_, _≤_, _<_}
-use mathlib.Core.Bool.{Bool, true, false, cond}
-use mathlib.Core.List.{List, []}
+-- A look at a node: the parts that evaluation takes, and what follows them. Assumes nothing.
+use Prim.Native.Nat.{ℕ, _+_, _%_, _≤_}
+use mathlib.Core.Bool.{Bool, true, false, cond, not}
+use mathlib.Core.List.{List, [], _∷_}
 use mathlib.Core.Path.{_≡_, refl, sym, ap, _∙_, subst}
 use lib.Dec.{T, eqb}
-use lib.ListN.{length, getD, take, drop, length-append}
-use borrow.Rule.Slice.PartAt.{part-to-end}
+use lib.ListN.{length, getD, drop, length-append}
+use lib.Seq.{drop-drop}
 use native.Mathlib.Omega.{arith}
-use Rattle.calculus.specs.Trees.{Ty, N, L, list, _to_, Lang, ml, sc, Op2, apply, plus, minus, pair, Term, var, num, lam, op2, nil, wrong, ms, sm}
+use Rattle.calculus.specs.Trees.{Ty, N, L, list, _to_, Lang, ml, sc, Op2, apply, plus, minus, pair, Term, op1, op2, if0, ms, sm}
 use Rattle.calculus.specs.Words.{put, putTy, words, size, sizeTy}
+use Rattle.calculus.specs.Scope.{partCount}
 use Rattle.calculus.specs.Kinds.{type, term}
 use Rattle.calculus.specs.Reduction.{isLump, isPair, form, Frame, under, first, second, tested, intoML, intoScheme, Context, here, within, done, into, own, turn}
 use Rattle.calculus.specs.Reduction as calculus
@@ -16,20 +17,13 @@ use Rattle.calculus.proofs.Sizes.{tree-length, drop-tree}
 use Rattle.calculus.proofs.Splices.{wordsBefore}
 use Rattle.nodes.specs.Table.{rowOf}
 use Rattle.writing.specs.Spans.{span}
-use Rattle.writing.proofs.Measures.{span-tree}
+use Rattle.writing.proofs.Measures.{span-tree, span-none}
+use Rattle.writing.proofs.Lengths.{span-within, span-next, span-parts, shape-parts}
 use Rattle.contraction.specs.Forms.{formNumber, formAt}
 use Rattle.contraction.proofs.Views.{Shaped, a-variable, a-number, a-lambda, one-part, two-parts, a-choice, a-nil, a-wrong, an-ms, an-sm, by-shape, form-at, size-some}
 use Rattle.reducer.specs.declared.turns.Found.{Found}
-use Rattle.reducer.specs.declared.turns.Found.the-variants.{Done, At}
-use Rattle.reducer.specs.Placed.{firstPart, ownTurn, placed, Turns, Within}
-
-abbrev isDone : Found → Bool
-isDone (Done n) = true
-isDone (At p) = false
-
-abbrev placeOf : Found → ℕ
-placeOf (Done n) = n
-placeOf (At p) = p
+use Rattle.reducer.specs.declared.turns.Found.the-variants.{At}
+use Rattle.reducer.specs.Placed.{placed, Parts, putParts, firstTurn, taking, Seen, Looked}
 
 -- How many words of a node stand before its open part.
 abbrev lengthBefore : {m l : Lang} → Frame m l → ℕ
@@ -49,220 +43,202 @@ before-length (tested b c) F = omega arith
 before-length (intoML t) F = omega (arith, length-append (putTy t []) (wordsBefore F), tree-length type t [])
 before-length (intoScheme t) F = omega (arith, length-append (putTy t []) (wordsBefore F), tree-length type t [])
 
--- The turn of a node from that of the part which evaluation takes: in the part, or past it.
-module _ {m l : Lang} (f : Frame m l) (a : Term m) (e : Term l) (r : calculus.Turn l) (at : ℕ) (x : Found) where
-  in-part : (t : calculus.Turn m) (p : ℕ) → x ≡ placed (at + lengthBefore f) a t → x ≡ At p → x ≡ placed at e (into f t r)
-  in-part done p q h = absurd (subst T (ap isDone (sym q ∙ h)) tt)
-  in-part (calculus.at j F n) p q h = q ∙ ap At (omega (arith, before-length f F))
+-- The turn of a node is in the part that evaluation takes, or after it.
+into-part : {m l : Lang} (f : Frame m l) (t : calculus.Turn m) (r : calculus.Turn l) (at : ℕ) (next : Found)
+    → placed at (into f t r) next ≡ placed (at + lengthBefore f) t (placed at r next)
+into-part f done r at next = refl
+into-part f (calculus.at j F n) r at next =
+    let e : at + length (wordsBefore (within f F)) ≡ at + lengthBefore f + length (wordsBefore F) = omega (arith, before-length f F) in
+    ap (λ (p : ℕ). At p (p + size n)) e
 
-  past-part : (t : calculus.Turn m) (n : ℕ) → x ≡ placed (at + lengthBefore f) a t → x ≡ Done n
-      → (n ≡ at + lengthBefore f + size a) × (placed at e (into f t r) ≡ placed at e r)
-  past-part done n q h = (ap placeOf (sym h ∙ q), refl)
-  past-part (calculus.at j F n′) n q h = absurd (subst T (ap isDone (sym h ∙ q)) tt)
-
--- It is a node's own turn unless it has a value's form.
-own-cons : (l : Lang) (o : Op2) (a b : Term l) (at n : ℕ) → n ≡ at + size (op2 o a b)
-    → ownTurn (formNumber (form (op2 o a b))) at n ≡ placed at (op2 o a b) (own (isPair o) (op2 o a b))
-unfolding form wordsBefore
-own-cons l apply a b at n e = ap At (omega arith)
-own-cons l plus a b at n e = ap At (omega arith)
-own-cons l minus a b at n e = ap At (omega arith)
-own-cons l pair a b at n e = ap Done e
-
-own-lump : (t : Ty) (a : Term sc) (at n : ℕ) → n ≡ at + size (ms t a)
-    → ownTurn (formNumber (form (ms t a))) at n ≡ placed at (ms t a) (own (isLump t) (ms t a))
-unfolding form wordsBefore
-own-lump N a at n e = ap At (omega arith)
-own-lump L a at n e = ap Done e
-own-lump (list t) a at n e = ap At (omega arith)
-own-lump (t to u) a at n e = ap At (omega arith)
-
-own-here : (l : Lang) (e : Term l) (at n : ℕ) → formNumber (form e) ≡ 0 → ownTurn (formNumber (form e)) at n ≡ placed at e (own false e)
+-- A node's own turn, unless it is a value.
+own-turn : {l : Lang} (e : Term l) (b : Bool) (at : ℕ) (next : Found) → placed at (own b e) next ≡ cond b next (At at (at + size e))
 unfolding wordsBefore
-own-here l e at n h = rw h (ap At (omega arith))
+own-turn e true at next = refl
+own-turn e false at next = let z : at + 0 ≡ at = omega arith in ap (λ (p : ℕ). At p (p + size e)) z
 
-module _ (ws : List ℕ) (at shape form-number start : ℕ) (shape-is : shape ≡ rowOf (getD ws 0 0 % 256) .shape) (form-is : form-number ≡ formAt ws)
-    (start-is : start ≡ firstPart shape ws) where
-  shape-of : (l : Lang) (e : Term l) (k : List ℕ) → ws ≡ put e k → (n : ℕ) → shape ≡ n → Shaped l n e
-  shape-of l e k q n h = by-shape l e k ws q n (sym shape-is ∙ h)
+module _ (ws : List ℕ) (form-number : ℕ) (form-is : form-number ≡ formAt ws) (shape : ℕ) (shape-is : shape ≡ rowOf (getD ws 0 0 % 256) .shape)
+    (some : 1 ≤ length ws) where
+  shape-of : (n : ℕ) → shape ≡ n → (l : Lang) (e : Term l) (k : List ℕ) → ws ≡ put e k → Shaped l n e
+  shape-of n h l e k q = by-shape l e k ws q n (sym shape-is ∙ h)
 
-  form-of : (l : Lang) (e : Term l) (k : List ℕ) → ws ≡ put e k → form-number ≡ formNumber (form e)
-  form-of l e k q = form-is ∙ form-at l e k ws q
+  -- Whether it is the node's own turn, by its form: b says whether it is a value's.
+  own-by : {l : Lang} (e : Term l) (k : List ℕ) → ws ≡ put e k → (b : Bool) → eqb (formNumber (form e)) 0 ≡ not b → (at : ℕ) (next : Found)
+      → placed at (own b e) next ≡ cond (eqb form-number 0) (At at (at + size e)) next
+  own-by {l} e k q b h at next =
+      own-turn e b at next ∙ flip b ∙ ap (λ (c : Bool). cond c (At at (at + size e)) next) (sym (ap (λ (n : ℕ). eqb n 0) (form-is ∙ form-at l e k ws q) ∙ h))
+    where
+      flip : (c : Bool) → cond c next (At at (at + size e)) ≡ cond (not c) (At at (at + size e)) next
+      flip true = refl
+      flip false = refl
 
-  -- Evaluation takes no part.
-  alone : (l : Lang) (e : Term l) (n : ℕ) → Shaped l n e → firstPart n ws ≡ 0 → ownTurn (formNumber (form e)) at (at + size e) ≡ placed at e (turn e)
-  unfolding turn form firstPart wordsBefore
-  alone l e n a-variable h = ap At (omega arith)
-  alone l e n a-number h = refl
-  alone l e n a-lambda h = refl
-  alone l e n (one-part o a) h = absurd (omega (arith, h))
-  alone l e n (two-parts o a b) h = absurd (omega (arith, h))
-  alone l e n (a-choice a b c) h = absurd (omega (arith, h))
-  alone l e n a-nil h = refl
-  alone l e n (a-wrong c t) h = ap At (omega arith)
-  alone l e n (an-ms t a) h = absurd (omega (arith, h))
-  alone l e n (an-sm t a) h = absurd (omega (arith, h))
+  -- A node that evaluation takes no part of.
+  alone-turns : {l : Lang} (e : Term l) (n : ℕ) → Shaped l n e → (n ≡ 4 → ⊥) → (n ≡ 5 → ⊥) → (n ≡ 6 → ⊥) → (n ≡ 9 → ⊥)
+      → (b : Bool) × (turn e ≡ own b e) × (eqb (formNumber (form e)) 0 ≡ not b)
+  unfolding turn form
+  alone-turns e n a-variable a b c d = (false, refl, refl)
+  alone-turns e n a-number a b c d = (true, refl, refl)
+  alone-turns e n a-lambda a b c d = (true, refl, refl)
+  alone-turns e n (one-part o x) a b c d = absurd (a refl)
+  alone-turns e n (two-parts o x y) a b c d = absurd (b refl)
+  alone-turns e n (a-choice x y z) a b c d = absurd (c refl)
+  alone-turns e n a-nil a b c d = (true, refl, refl)
+  alone-turns e n (a-wrong x t) a b c d = (false, refl, refl)
+  alone-turns e n (an-ms t x) a b c d = absurd (d refl)
+  alone-turns e n (an-sm t x) a b c d = absurd (d refl)
 
-  pub turn-alone : start ≡ 0 → Turns ws at (ownTurn form-number at (at + span ws 1))
-  turn-alone h =
+  pub look-alone : (start : ℕ) → start ≡ span ws 1 → start ≤ length ws → (shape ≡ 4 → ⊥) → (shape ≡ 5 → ⊥) → (shape ≡ 6 → ⊥) → (shape ≡ 9 → ⊥)
+      → Looked ws (taking start 0 0 (eqb form-number 0))
+  look-alone start h w a b c d =
       record {
+        ends = omega (arith, h, span-none (drop start ws));
+        some = omega (arith, h, span-parts ws _ some refl);
+        within = w;
+        few = omega arith;
+        closed = λ _. refl;
         of = λ l e k q.
-            rw (form-of l e k q, span-tree (term l) e k ws q) (alone l e shape (shape-of l e k q shape refl) (sym start-is ∙ h));
+            let t = alone-turns e shape (shape-of shape refl l e k q) a b c d in
+            record {
+              parts = [];
+              more = k;
+              taken = refl;
+              stand = ap (λ (j : ℕ). drop j ws) (h ∙ span-tree (term l) e k ws q) ∙ ap (drop (size e)) q ∙ drop-tree (term l) e k;
+              whole = λ _. refl;
+              turns = λ at next. ap (λ t. placed at t next) (t .1) ∙ own-by e k q (t .0) (t .2) at next;
+            };
       }
 
-  -- The part that evaluation takes first: where it stands, and what is left to do after it.
-  record Enters (l : Lang) (e : Term l) : Type 0 where
-    lang : Lang
-    frame : Frame lang l
-    item : Term lang
-    rest : calculus.Turn l
-    more : List ℕ
-    starts : start ≡ lengthBefore frame
-    stands : drop start ws ≡ put item more
-    goes : turn e ≡ into frame (turn item) rest
-    last : (shape ≡ 5 → ⊥) → (n : ℕ) → n ≡ at + start + size item → ownTurn (formNumber (form e)) at n ≡ placed at e rest
-
-  enters : (l : Lang) (e : Term l) (k : List ℕ) → ws ≡ put e k → (n : ℕ) → Shaped l n e → shape ≡ n → (start ≡ 0 → ⊥) → Enters l e
-  unfolding turn form firstPart put size
-  enters l e k q n a-variable s h = absurd (h (start-is ∙ ap (λ (j : ℕ). firstPart j ws) s))
-  enters l e k q n a-number s h = absurd (h (start-is ∙ ap (λ (j : ℕ). firstPart j ws) s))
-  enters l e k q n a-lambda s h = absurd (h (start-is ∙ ap (λ (j : ℕ). firstPart j ws) s))
-  enters l e k q n (one-part o a) s h =
-      let z : start ≡ 1 = start-is ∙ ap (λ (j : ℕ). firstPart j ws) s in
-      record { lang = l; frame = under o; item = a; rest = own false e; more = k; starts = z; stands = rw z (ap (drop 1) q); goes = refl; last = λ g n i. own-here l e at n refl }
-  enters l e k q n (two-parts o a b) s h =
-      let z : start ≡ 1 = start-is ∙ ap (λ (j : ℕ). firstPart j ws) s in
+  -- Operators of one part.
+  one-seen : (l : Lang) (e : Term l) (k : List ℕ) → ws ≡ put e k → Shaped l 4 e → Seen ws (taking 1 1 0 (eqb form-number 0)) e k
+  unfolding turn form put
+  one-seen l e k q (one-part o a) =
       record {
-        lang = l;
-        frame = first o b;
-        item = a;
-        rest = into (second o a) (turn b) (own (isPair o) e);
-        more = put b k;
-        starts = z;
-        stands = rw z (ap (drop 1) q);
-        goes = refl;
-        last = λ g n i. absurd (g s);
-      }
-  enters l e k q n (a-choice a b c) s h =
-      let z : start ≡ 1 = start-is ∙ ap (λ (j : ℕ). firstPart j ws) s in
-      record { lang = l; frame = tested b c; item = a; rest = own false e; more = put b (put c k); starts = z; stands = rw z (ap (drop 1) q); goes = refl; last = λ g n i. own-here l e at n refl }
-  enters l e k q n a-nil s h = absurd (h (start-is ∙ ap (λ (j : ℕ). firstPart j ws) s))
-  enters l e k q n (a-wrong c t) s h = absurd (h (start-is ∙ ap (λ (j : ℕ). firstPart j ws) s))
-  enters l e k q n (an-ms t a) s h =
-      let i : drop 1 ws ≡ putTy t (put a k) = ap (drop 1) q in
-      let z : start ≡ 1 + sizeTy t = start-is ∙ ap (λ (j : ℕ). firstPart j ws) s ∙ ap (λ (j : ℕ). 1 + j) (span-tree type t (put a k) (drop 1 ws) i) in
-      record {
-        lang = sc;
-        frame = intoML t;
-        item = a;
-        rest = own (isLump t) e;
+        parts = (l, a) ∷ [];
         more = k;
-        starts = z;
-        stands = rw z (sym (lib.Seq.drop-drop (sizeTy t) 1 ws) ∙ ap (drop (sizeTy t)) i ∙ drop-tree type t (put a k));
-        goes = refl;
-        last = λ g n i. own-lump t a at n (omega (arith, i, z));
+        taken = refl;
+        stand = ap (drop 1) q;
+        whole = λ _. refl;
+        turns = λ at next. into-part (under o) (turn a) (own false e) at next ∙ ap (placed (at + 1) (turn a)) (own-by e k q false refl at next);
       }
-  enters l e k q n (an-sm t a) s h =
-      let i : drop 1 ws ≡ putTy t (put a k) = ap (drop 1) q in
-      let z : start ≡ 1 + sizeTy t = start-is ∙ ap (λ (j : ℕ). firstPart j ws) s ∙ ap (λ (j : ℕ). 1 + j) (span-tree type t (put a k) (drop 1 ws) i) in
+
+  pub look-one : shape ≡ 4 → Looked ws (taking 1 1 0 (eqb form-number 0))
+  look-one h =
       record {
-        lang = ml;
-        frame = intoScheme t;
-        item = a;
-        rest = own false e;
-        more = k;
-        starts = z;
-        stands = rw z (sym (lib.Seq.drop-drop (sizeTy t) 1 ws) ∙ ap (drop (sizeTy t)) i ∙ drop-tree type t (put a k));
-        goes = refl;
-        last = λ g n i. own-here sc e at n refl;
+        ends = sym (span-parts ws 1 some (shape-parts (getD ws 0 0) 4 (sym shape-is ∙ h) 1 refl));
+        some = omega arith;
+        within = some;
+        few = omega arith;
+        closed = λ _. refl;
+        of = λ l e k q. one-seen l e k q (shape-of 4 h l e k q);
       }
 
-  module _ (some : start ≡ 0 → ⊥) (x : Found) (x-is : Turns (take (length ws - start) (drop start ws)) (at + start) x) where
-    entered : (l : Lang) (e : Term l) (k : List ℕ) → ws ≡ put e k → Enters l e
-    entered l e k q = enters l e k q shape (shape-of l e k q shape refl) refl some
+  pair-form : {l : Lang} (o : Op2) (a b : Term l) → eqb (formNumber (form (op2 o a b))) 0 ≡ not (isPair o)
+  unfolding form
+  pair-form apply a b = refl
+  pair-form plus a b = refl
+  pair-form minus a b = refl
+  pair-form pair a b = refl
 
-    part-turn : (l : Lang) (e : Term l) (i : Enters l e) → x ≡ placed (at + lengthBefore (i .frame)) (i .item) (turn (i .item))
-    part-turn l e i = rw (sym (i .starts)) (x-is .of (i .lang) (i .item) (i .more) (part-to-end ws start ∙ i .stands))
+  two-seen : (l : Lang) (e : Term l) (k : List ℕ) → ws ≡ put e k → Shaped l 5 e → Seen ws (taking 1 2 0 (eqb form-number 0)) e k
+  unfolding turn put
+  two-seen l e k q (two-parts o a b) =
+      record {
+        parts = (l, a) ∷ (l, b) ∷ [];
+        more = k;
+        taken = refl;
+        stand = ap (drop 1) q;
+        whole = λ _. refl;
+        turns = λ at next.
+            let z : at + (1 + size a) ≡ at + 1 + size a = omega arith in
+            into-part (first o b) (turn a) _ at next
+            ∙ ap (placed (at + 1) (turn a))
+            (into-part (second o a) (turn b) _ at next ∙ ap (λ (i : ℕ). placed i (turn b) (placed at (own (isPair o) e) next)) z ∙ ap (placed (at + 1 + size a) (turn b)) (own-by e k q (isPair o) (pair-form o a b) at next));
+      }
 
-    pub turn-first : (p : ℕ) → x ≡ At p → Turns ws at x
-    turn-first p h =
+  pub look-two : shape ≡ 5 → Looked ws (taking 1 2 0 (eqb form-number 0))
+  look-two h =
+      record {
+        ends = sym (span-parts ws 2 some (shape-parts (getD ws 0 0) 5 (sym shape-is ∙ h) 2 refl));
+        some = omega arith;
+        within = some;
+        few = omega arith;
+        closed = λ _. refl;
+        of = λ l e k q. two-seen l e k q (shape-of 5 h l e k q);
+      }
+
+  -- if0: the other two parts are the rest.
+  choice-seen : (l : Lang) (e : Term l) (k : List ℕ) → ws ≡ put e k → Shaped l 6 e → Seen ws (taking 1 1 2 true) e k
+  unfolding turn put
+  choice-seen l e k q (a-choice a b c) =
+      record {
+        parts = (l, a) ∷ [];
+        more = put b (put c k);
+        taken = refl;
+        stand = ap (drop 1) q;
+        whole = λ h. absurd (subst T h tt);
+        turns = λ at next. into-part (tested b c) (turn a) (own false e) at next ∙ ap (placed (at + 1) (turn a)) (own-turn e false at next);
+      }
+
+  pub look-choice : shape ≡ 6 → Looked ws (taking 1 1 2 true)
+  look-choice h =
+      record {
+        ends = sym (span-parts ws 3 some (shape-parts (getD ws 0 0) 6 (sym shape-is ∙ h) 3 refl));
+        some = omega arith;
+        within = some;
+        few = omega arith;
+        closed = λ g. absurd (subst T g tt);
+        of = λ l e k q. choice-seen l e k q (shape-of 6 h l e k q);
+      }
+
+  lump-form : (t : Ty) (a : Term sc) → eqb (formNumber (form (ms t a))) 0 ≡ not (isLump t)
+  unfolding form
+  lump-form N a = refl
+  lump-form L a = refl
+  lump-form (list t) a = refl
+  lump-form (t to u) a = refl
+
+  module _ (start : ℕ) (start-is : start ≡ 1 + span (drop 1 ws) 1) where
+    past-type : (t : Ty) (k : List ℕ) → drop 1 ws ≡ putTy t k → (start ≡ 1 + sizeTy t) × (drop start ws ≡ k)
+    past-type t k i =
+        let z : start ≡ 1 + sizeTy t = start-is ∙ ap (λ (j : ℕ). 1 + j) (span-tree type t k (drop 1 ws) i) in
+        (z, ap (λ (j : ℕ). drop j ws) z ∙ sym (drop-drop (sizeTy t) 1 ws) ∙ ap (drop (sizeTy t)) i ∙ drop-tree type t k)
+
+    boundary-seen : (l : Lang) (e : Term l) (k : List ℕ) → ws ≡ put e k → Shaped l 9 e → Seen ws (taking start 1 0 (eqb form-number 0)) e k
+    unfolding turn form put
+    boundary-seen l e k q (an-ms t a) =
+        let p = past-type t (put a k) (ap (drop 1) q) in
         record {
-          of = λ l e k q.
-              let i = entered l e k q in
-              in-part (i .frame) (i .item) e (i .rest) at x (turn (i .item)) p (part-turn l e i) h ∙ ap (placed at e) (sym (i .goes));
+          parts = (sc, a) ∷ [];
+          more = k;
+          taken = refl;
+          stand = p .1;
+          whole = λ _. refl;
+          turns = λ at next.
+              let z : at + (1 + sizeTy t) ≡ at + start = omega (arith, p .0) in
+              into-part (intoML t) (turn a) _ at next ∙ ap (λ (i : ℕ). placed i (turn a) (placed at (own (isLump t) e) next)) z
+              ∙ ap (placed (at + start) (turn a)) (own-by e k q (isLump t) (lump-form t a) at next);
+        }
+    boundary-seen l e k q (an-sm t a) =
+        let p = past-type t (put a k) (ap (drop 1) q) in
+        record {
+          parts = (ml, a) ∷ [];
+          more = k;
+          taken = refl;
+          stand = p .1;
+          whole = λ _. refl;
+          turns = λ at next.
+              let z : at + (1 + sizeTy t) ≡ at + start = omega (arith, p .0) in
+              into-part (intoScheme t) (turn a) _ at next ∙ ap (λ (i : ℕ). placed i (turn a) (placed at (own false e) next)) z
+              ∙ ap (placed (at + start) (turn a)) (own-by e k q false refl at next);
         }
 
-    pub turn-own : (n : ℕ) → x ≡ Done n → (shape ≡ 5 → ⊥) → Turns ws at (ownTurn form-number at n)
-    turn-own n h g =
+    pub look-boundary : start ≤ length ws → shape ≡ 9 → Looked ws (taking start 1 0 (eqb form-number 0))
+    look-boundary w h =
         record {
-          of = λ l e k q.
-              let i = entered l e k q in
-              let r = past-part (i .frame) (i .item) e (i .rest) at x (turn (i .item)) n (part-turn l e i) h in
-              rw (form-of l e k q) (i .last g n (omega (arith, r .0, i .starts)) ∙ sym (r .1) ∙ ap (placed at e) (sym (i .goes)));
+          ends = sym (span-next ws 1 start 1 1 start-is (span ws 1) (span-parts ws 2 some (shape-parts (getD ws 0 0) 9 (sym shape-is ∙ h) 2 refl)));
+          some = omega (arith, start-is);
+          within = w;
+          few = omega arith;
+          closed = λ _. refl;
+          of = λ l e k q. boundary-seen l e k q (shape-of 9 h l e k q);
         }
-
-    module _ (n : ℕ) (h : x ≡ Done n) (g : shape ≡ 5) (y : Found) (y-is : Turns (take (length ws - (n - at)) (drop (n - at) ws)) n y) where
-      start-1 : start ≡ 1
-      unfolding firstPart
-      start-1 = start-is ∙ ap (λ (j : ℕ). firstPart j ws) g
-
-      -- The first part is a value, and the second stands behind it.
-      record Passed (l : Lang) (o : Op2) (a b : Term l) : Type 0 where
-        place : n ≡ at + lengthBefore (second o a)
-        same : placed at (op2 o a b) (turn (op2 o a b)) ≡ placed at (op2 o a b) (into (second o a) (turn b) (own (isPair o) (op2 o a b)))
-        turns : y ≡ placed (at + lengthBefore (second o a)) b (turn b)
-
-      passed : (l : Lang) (o : Op2) (a b : Term l) (k : List ℕ) → ws ≡ put (op2 o a b) k → Passed l o a b
-      unfolding turn put
-      passed l o a b k q =
-          let i : drop 1 ws ≡ put a (put b k) = ap (drop 1) q in
-          let x-at : x ≡ placed (at + 1) a (turn a) = rw (start-1) at (x-is .of l a (put b k) (part-to-end ws start ∙ rw start-1 i)) in
-          let r = past-part (first o b) a (op2 o a b) (into (second o a) (turn b) (own (isPair o) (op2 o a b))) at x (turn a) n x-at h in
-          let z : n ≡ at + (1 + size a) = omega (arith, r .0) in
-          let d : n - at ≡ 1 + size a = omega arith in
-          let s : drop (n - at) ws ≡ put b k = ap (λ (j : ℕ). drop j ws) d ∙ sym (lib.Seq.drop-drop (size a) 1 ws) ∙ ap (drop (size a)) i ∙ drop-tree (term l) a (put b k) in
-          record { place = z; same = r .1; turns = rw (sym z) (y-is .of l b k (part-to-end ws (n - at) ∙ s)) }
-
-      second-told : (p : ℕ) → y ≡ At p → (l : Lang) (e : Term l) (k : List ℕ) → ws ≡ put e k → Shaped l 5 e → y ≡ placed at e (turn e)
-      second-told p i l e k q (two-parts o a b) =
-          let r = passed l o a b k q in
-          in-part (second o a) b (op2 o a b) (own (isPair o) (op2 o a b)) at y (turn b) p (r .turns) i ∙ sym (r .same)
-
-      pub turn-second : (p : ℕ) → y ≡ At p → Turns ws at y
-      turn-second p i = record { of = λ l e k q. second-told p i l e k q (shape-of l e k q 5 g) }
-
-      last-told : (m : ℕ) → y ≡ Done m → (l : Lang) (e : Term l) (k : List ℕ) → ws ≡ put e k → Shaped l 5 e
-          → ownTurn (formNumber (form e)) at m ≡ placed at e (turn e)
-      unfolding size
-      last-told m i l e k q (two-parts o a b) =
-          let r = passed l o a b k q in
-          let u = past-part (second o a) b (op2 o a b) (own (isPair o) (op2 o a b)) at y (turn b) m (r .turns) i in
-          own-cons l o a b at m (omega (arith, u .0)) ∙ sym (u .1) ∙ sym (r .same)
-
-      pub turn-last : (m : ℕ) → y ≡ Done m → Turns ws at (ownTurn form-number at m)
-      turn-last m i = record { of = λ l e k q. rw (form-of l e k q) (last-told m i l e k q (shape-of l e k q 5 g)) }
-
-pub turn-none : (ws : List ℕ) (at : ℕ) (r : Found) → length ws < 1 → Turns ws at r
-turn-none ws at r h = record { of = λ l e k q. absurd (omega (arith, h, ap length q, tree-length (term l) e k, size-some l e)) }
-
--- Places within a part are within the whole.
-pub within-part : (at start n m : ℕ) (x : Found) → start + m ≤ n → Within (at + start) m x → Within at n x
-within-part at start n m (Done e) h w = (omega (arith, w .0), omega (arith, h, w .1))
-within-part at start n m (At p) h w = (omega (arith, w .0), omega (arith, h, w .1))
-
-pub within-own : (form at n e : ℕ) → at ≤ e → e ≤ at + n → Within at n (ownTurn form at e)
-within-own form at n e h g = cases (eqb form 0)
-  where
-    cases : (b : Bool) → Within at n (cond b (At at) (Done e))
-    cases true = (omega arith, omega arith)
-    cases false = (h, g)
-
-pub within-done : (at n : ℕ) (x : Found) (e : ℕ) → x ≡ Done e → Within at n x → (at ≤ e) × (e ≤ at + n)
-within-done at n x e q w = subst (Within at n) q w
-
-pub within-shift : (at p n m : ℕ) (x : Found) → at ≤ p → p + m ≤ at + n → Within p m x → Within at n x
-within-shift at p n m (Done e) h g w = (omega (arith, h, w .0), omega (arith, g, w .1))
-within-shift at p n m (At q) h g w = (omega (arith, h, w .0), omega (arith, g, w .1))
-
-pub within-at : (at n : ℕ) (x : Found) (p : ℕ) → x ≡ At p → Within at n x → (at ≤ p) × (p ≤ at + n)
-within-at at n x p q w = subst (Within at n) q w

@@ -1,13 +1,16 @@
 -- One step in words: what the code answers, and what it leaves in the target, is the calculus's step.
-use Prim.Native.Nat.{ℕ}
+use Prim.Native.Nat.{ℕ, _+_, _-_, _≤_}
 use mathlib.Core.List.{List, _++_}
 use mathlib.Core.Path.{_≡_}
-use lib.ListN.{length}
+use lib.ListN.{length, drop}
 use Rattle.calculus.specs.Trees.{Lang, ml, Term}
 use Rattle.calculus.specs.Words.{put, words, size}
 use Rattle.calculus.specs.Reduction.{becomes, contract, Outcome, value, raised, next, stuck, step}
 use Rattle.calculus.proofs.Splices.{wordsBefore, Splice}
 use Rattle.writing.specs.Wrote.{Wrote}
+use Rattle.writing.specs.Spans.{span}
+use Rattle.contraction.specs.Told.{Placed}
+use Rattle.contraction.specs.Chosen.{OfNode}
 use Rattle.contraction.specs.declared.rules.Rule.{Rule}
 use Rattle.contraction.specs.declared.rules.Rule.the-variants as rule
 use Rattle.reducer.specs.declared.steps.Change.{Change}
@@ -27,6 +30,13 @@ endOf (rule.Items q m v t e) = end.Writes
 endOf (rule.IntoML s v e) = end.Writes
 endOf (rule.IntoScheme s v e) = end.Writes
 endOf (rule.Substituted x b a e) = end.Writes
+
+-- A rule that fits the node at a place of the source: its places are within the words, and it tells what the node becomes.
+pub record Fits (source : List ℕ) (place end : ℕ) (r : Rule) : Type 0 where
+  pub inside : place ≤ length source
+  pub ends : end ≡ place + span (drop place source) 1
+  pub within : Placed (length source - place) r
+  pub told : OfNode (drop place source) r
 
 -- Where the node n stands in the source behind the words P, and it becomes u: how many words stood and stand there, and the words that are
 -- written.

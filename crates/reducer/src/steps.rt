@@ -3,14 +3,14 @@
 use crate::turns::Found;
 use crate::turns::turn;
 use contraction::choices::chosen;
+use contraction::pieces::contract;
 use contraction::rules::Rule;
 use writer::write_next;
-use writing::spans::skip;
 ghost use mathlib.Core.Path.{_≡_};
 ghost use Prim.Native.Nat.{_≤_};
 ghost use lib.ListN.{length};
 ghost use Rattle.nodes.specs.Table.{kinds};
-ghost use Rattle.reducer.specs.Moves.{endOf, Spliced, Steps};
+ghost use Rattle.reducer.specs.Moves.{endOf, Fits, Spliced, Steps};
 
 // The place of the node whose turn it was, how many words stood there, how many stand there now, and how many words the next term has,
 // whether it fits or not.
@@ -52,17 +52,24 @@ fn end_of(rule: Rule) -> End
     }
 }
 
-// The next term: the words before a place, what the node there becomes, and the words after it.
-fn splice(table: &[u64; 48], source: &[u32], place: usize, target: &mut [u32]) -> Change
-    requires { ⌜ (now table ≡ kinds) × (length (now source) ≤ 1048576) × (place ≤ length (now source)) ⌝ }
+// The next term: the words before the node, what it becomes by the rule, and the words after it.
+fn splice(
+    table: &[u64; 48],
+    source: &[u32],
+    place: usize,
+    end: usize,
+    rule: Rule,
+    target: &mut [u32],
+) -> Change
+    requires { ⌜ (now table ≡ kinds) × (length (now source) ≤ 1048576) × Fits (now source) place end rule ⌝ }
     ensures { λ r. ⌜ Spliced (now (source .entry)) place (now (target .entry)) r (now (target .exit)) ⌝ }
 {
-    let stood = skip(table, &source[place..], 1);
-    let size = write_next(target, source, place, place, place + stood, 1);
+    let after = contract(table, &source[place..], rule, target, place);
+    let size = write_next(target, source, place, after, end, 1);
     Change {
         place: place,
-        stood: stood,
-        stands: size + stood - source.len(),
+        stood: end - place,
+        stands: after - place,
         size: size,
     }
 }
@@ -72,14 +79,14 @@ pub fn step(table: &[u64; 48], source: &[u32], target: &mut [u32]) -> Move
     requires { ⌜ (now table ≡ kinds) × (length (now source) ≤ 1048576) ⌝ }
     ensures { λ r. ⌜ Steps (now (source .entry)) (now (target .entry)) r (now (target .exit)) ⌝ }
 {
-    let found = turn(table, source, 0);
-    let Found::At(place) = found else {
+    let found = turn(table, source);
+    let Found::At(place, end) = found else {
         return Move::Value;
     };
-    let rule = chosen(table, &source[place..]);
+    let rule = chosen(table, &source[place..], end - place);
     match end_of(rule) {
         End::Stuck => Move::Stuck,
         End::Raised(code) => Move::Raised(code),
-        End::Writes => Move::Next(splice(table, source, place, target)),
+        End::Writes => Move::Next(splice(table, source, place, end, rule, target)),
     }
 }

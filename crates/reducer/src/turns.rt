@@ -1,73 +1,107 @@
-// Whose turn it is: one walk from the root, which looks at each word at most once.
+// Whose turn it is: one pass over the words, which looks at each at most once. Of the nodes that wait for their parts only the last one met is
+// remembered, since it is the first whose parts are all values.
 
 use contraction::forms::form_at;
 use nodes::kinds::row_at;
 use writing::spans::skip;
 ghost use mathlib.Core.Path.{_≡_};
 ghost use Prim.Native.Nat.{_+_, _≤_};
-ghost use lib.ListN.{length};
+ghost use lib.ListN.{length, drop};
 ghost use Rattle.nodes.specs.Table.{kinds};
-ghost use Rattle.reducer.specs.Placed.{firstPart, ownTurn, Within, Turns};
+ghost use Rattle.writing.specs.Spans.{span};
+ghost use Rattle.reducer.specs.Placed.{taking, Looked, finished, Spanned, Turns};
 
-// No node's: a value, and where its words end. Or the place of the node whose turn it is.
+// No node's: a value. Or the place of the node whose turn it is, and where its words end.
 pub enum Found {
-    Done(usize),
-    At(usize),
+    Value,
+    At(usize, usize),
 }
 
-// Where the part that evaluation takes first starts; 0 where it takes none.
-fn first_part(table: &[u64; 48], words: &[u32], shape: u64) -> usize
+// What evaluation does at a node: past so many words it takes so many parts, and leaves the rest. Then it is the node's own turn, unless the
+// node is a value.
+pub struct Look {
+    pub start: usize,
+    pub takes: usize,
+    pub rest: usize,
+    pub own: bool,
+}
+
+fn taking(start: usize, takes: usize, rest: usize, own: bool) -> Look
+    ensures { λ r. ⌜ r ≡ taking start takes rest own ⌝ }
+{
+    Look {
+        start: start,
+        takes: takes,
+        rest: rest,
+        own: own,
+    }
+}
+
+// A look at the node that the words start with.
+fn look_at(table: &[u64; 48], words: &[u32]) -> Look
     requires { ⌜ (now table ≡ kinds) × (length (now words) ≤ 1048576) × (1 ≤ length (now words)) ⌝ }
-    ensures { λ r. ⌜ r ≡ firstPart shape (now (words .entry)) ⌝ }
-    ensures within { λ r. ⌜ r ≤ length (now (words .entry)) ⌝ }
+    ensures { λ r. ⌜ Looked (now (words .entry)) r ⌝ }
 {
-    if shape == nodes::kinds::BOUNDARY {
-        return 1 + skip(table, &words[1..], 1);
-    }
-    if shape < nodes::kinds::OPERATOR_1 {
-        return 0;
-    }
-    if nodes::kinds::IF0 < shape {
-        return 0;
-    }
-    1
-}
-
-// It is the node's own turn, unless it has a value's form.
-fn own(form: u64, at: usize, end: usize) -> Found
-    ensures { λ r. ⌜ r ≡ ownTurn form at end ⌝ }
-{
-    if form == contraction::forms::OTHER {
-        return Found::At(at);
-    }
-    Found::Done(end)
-}
-
-// The node that the words start with; `at` words are gone by. The words may be 2^20.
-pub fn turn(table: &[u64; 48], words: &[u32], at: usize) -> Found
-    requires { ⌜ (now table ≡ kinds) × (at + length (now words) ≤ 1048576) ⌝ }
-    ensures within { λ r. ⌜ Within at (length (now (words .entry))) r ⌝ }
-    ensures is { λ r. ⌜ Turns (now (words .entry)) at r ⌝ }
-{
-    if words.len() < 1 {
-        return Found::At(at);
-    }
-    let shape = row_at(table, words[0]).shape;
     let form = form_at(table, words);
-    let start = first_part(table, words, shape);
-    if start == 0 {
-        return own(form, at, at + skip(table, words, 1));
+    let own = form == contraction::forms::OTHER;
+    let shape = row_at(table, words[0]).shape;
+    if shape == nodes::kinds::OPERATOR_2 {
+        return taking(1, 2, 0, own);
     }
-    let first = turn(table, &words[start..], at + start);
-    let Found::Done(middle) = first else {
-        return first;
-    };
-    if shape != nodes::kinds::OPERATOR_2 {
-        return own(form, at, middle);
+    if shape == nodes::kinds::OPERATOR_1 {
+        return taking(1, 1, 0, own);
     }
-    let second = turn(table, &words[middle - at..], middle);
-    let Found::Done(end) = second else {
-        return second;
-    };
-    own(form, at, end)
+    if shape == nodes::kinds::BOUNDARY {
+        return taking(1 + skip(table, &words[1..], 1), 1, 0, own);
+    }
+    if shape == nodes::kinds::IF0 {
+        return taking(1, 1, 2, true);
+    }
+    taking(skip(table, words, 1), 0, 0, own)
+}
+
+// The words from the place i on are the rest of the node that waited, if one did.
+fn finish(
+    table: &[u64; 48],
+    words: &[u32],
+    i: usize,
+    rest: usize,
+    place: usize,
+    waits: bool,
+) -> Found
+    requires { ⌜ (now table ≡ kinds) × (length (now words) ≤ 1048576) × (i ≤ length (now words)) × (rest ≤ 3) ⌝ }
+    ensures { λ r. ⌜ r ≡ finished waits place (i + span (drop i (now (words .entry))) rest) ⌝ }
+{
+    if waits {
+        return Found::At(place, i + skip(table, &words[i..], rest));
+    }
+    Found::Value
+}
+
+// The term that the words start with. The words may be 2^20. `due` parts that evaluation takes stand from the place i on.
+pub fn turn(table: &[u64; 48], words: &[u32]) -> Found
+    requires { ⌜ (now table ≡ kinds) × (length (now words) ≤ 1048576) ⌝ }
+    ensures spanned { λ r. ⌜ Spanned (now (words .entry)) r ⌝ }
+    ensures is { λ r. ⌜ Turns (now (words .entry)) r ⌝ }
+{
+    let mut i = 0;
+    let mut due = 1;
+    let mut rest = 0;
+    let mut place = 0;
+    let mut waits = false;
+    while i < words.len() {
+        if due == 0 {
+            return finish(table, words, i, rest, place, waits);
+        }
+        let seen = look_at(table, &words[i..]);
+        if seen.own {
+            waits = true;
+            place = i;
+            rest = seen.rest;
+            due = 1;
+        }
+        due = due - 1 + seen.takes;
+        i += seen.start;
+    }
+    finish(table, words, i, rest, place, waits)
 }

@@ -31,11 +31,18 @@ span-split (w ∷ ws) (suc a) b =
     let f : a + b + partCount w ≡ a + partCount w + b = omega arith in
     ap (span (w ∷ ws)) e ∙ ap (λ (n : ℕ). suc (span ws n)) f ∙ ap suc (span-split ws (a + partCount w) b) ∙ sym (omega arith)
 
--- From the place a on one node ends at m and n more at e: these stand from m on.
-pub span-next : (ws : List ℕ) (a m e n : ℕ) → m ≡ a + span (drop a ws) 1 → e ≡ a + span (drop a ws) (1 + n) → e ≡ m + span (drop m ws) n
-span-next ws a m e n h g =
-    let d : drop (span (drop a ws) 1) (drop a ws) ≡ drop m ws = drop-drop (span (drop a ws) 1) a ws ∙ ap (λ (j : ℕ). drop j ws) (sym h) in
-    omega (arith, g, h, span-split (drop a ws) 1 n, ap (λ (v : List ℕ). span v n) d)
+-- From the place a on k nodes end at m, and n more stand from m on.
+module _ (ws : List ℕ) (a m k n : ℕ) (h : m ≡ a + span (drop a ws) k) where
+  span-parted : a + span (drop a ws) (k + n) ≡ m + span (drop m ws) n
+  span-parted =
+      let d : drop (span (drop a ws) k) (drop a ws) ≡ drop m ws = drop-drop (span (drop a ws) k) a ws ∙ ap (λ (j : ℕ). drop j ws) (sym h) in
+      omega (arith, h, span-split (drop a ws) k n, ap (λ (v : List ℕ). span v n) d)
+
+  pub span-next : (e : ℕ) → e ≡ a + span (drop a ws) (k + n) → e ≡ m + span (drop m ws) n
+  span-next e g = g ∙ span-parted
+
+  pub span-join : (e : ℕ) → e ≡ m + span (drop m ws) n → e ≡ a + span (drop a ws) (k + n)
+  span-join e g = g ∙ sym span-parted
 
 -- A node's parts stand behind its word.
 pub span-parts : (ws : List ℕ) (n : ℕ) → 1 ≤ length ws → partCount (getD ws 0 0) ≡ n → span ws 1 ≡ 1 + span (drop 1 ws) n

@@ -12,7 +12,7 @@ use Rattle.calculus.proofs.Views.{view, Holds, induction, sized}
 use Rattle.writing.specs.Spans.{span}
 use Rattle.writing.proofs.Trees.{headOf, count-is}
 
-span-none : (ws : List ℕ) → span ws 0 ≡ 0
+pub span-none : (ws : List ℕ) → span ws 0 ≡ 0
 unfolding span
 span-none [] = refl
 span-none (w ∷ ws) = refl

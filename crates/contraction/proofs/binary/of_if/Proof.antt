@@ -38,7 +38,7 @@ module _ (c : tie.After-form-at) where
   y-is = ap (λ (n : ℕ). x + n) (c .before .before .skip2 .ensures .1 ∙ ap (λ (v : List ℕ). span v 1) (part-to-end ws x))
 
   z-is : z ≡ y + span (drop y ws) 1
-  z-is = span-next ws x y z 1 y-is (span-next ws 1 x z 2 x-is (c .before .before .before .before .before .before .before .pre .3 .is))
+  z-is = span-next ws x y 1 1 y-is z (span-next ws 1 x 1 2 x-is z (c .before .before .before .before .before .before .before .pre .3 .is))
 
   x-in : x ≤ length ws
   x-in = omega (arith, c .before .before .before .before .skip .ensures .0, part-length ws 1, c .before .before .before .before .before .before .before .pre .2)

@@ -35,7 +35,7 @@ module _ (c : tie.After-form-at) where
   known : TwoParts ws (c .form-at .result) middle (c .before .before .before .before .before .before .args .end)
   known =
       let e = c .before .before .before .before .before .before .pre .3 in
-      let n = span-next ws 1 middle (c .before .before .before .before .before .before .args .end) 1 (middle-is (c .before .before .before)) (e .is) in
+      let n = span-next ws 1 middle 1 1 (middle-is (c .before .before .before)) (c .before .before .before .before .before .before .args .end) (e .is) in
       record {
         form-is = c .form-at .ensures ∙ ap formAt (part-to-end ws 1);
         middle-is = middle-is (c .before .before .before);

@@ -31,7 +31,7 @@ module _ (c : tie.After-skip) where
   value-in = omega (arith, c .skip .ensures .0, part-length ws 1, c .before .before .before .pre .2)
 
   end-is : c .before .before .before .args .end ≡ value + span (drop value ws) 1
-  end-is = span-next ws 1 value (c .before .before .before .args .end) 1 value-is (c .before .before .before .pre .3 .is)
+  end-is = span-next ws 1 value 1 1 value-is (c .before .before .before .args .end) (c .before .before .before .pre .3 .is)
 
 -- What is known of the value.
 module _ (c : tie.After-form-at) where
