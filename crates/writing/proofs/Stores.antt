@@ -6,7 +6,7 @@ use native.Mathlib.Numerals.{add-one}
 use native.Mathlib.Omega.{arith}
 use native.Mathlib.Decide.{decLt}
 use lib.ListN.{length, take, drop, getD, set, length-set, length-append, take-append-drop}
-use lib.Seq.{sets, length-sets, take-suc, take-all, set-out, length-take-le}
+use lib.Seq.{sets, length-sets, take-suc, take-all, set-out, set-comm, length-take-le}
 use Rattle.writing.specs.Wrote.{Wrote}
 
 -- Two runs of stores, one after the other, are one.
@@ -36,6 +36,17 @@ sets-cut b n m xs e = by (decLt m (length xs))
         sym out ∙ sets-then b n (n + m) (take m xs) (drop m xs) (omega (arith, length-take-le m xs (omega arith))) ∙ ap (sets b n) (take-append-drop m xs)
     by (no h) = ap (sets b n) (take-all m xs (omega arith))
 
+-- Stores at places apart come to the same in either order.
+sets-set : (b : List ℕ) (m : ℕ) (ys : List ℕ) (n x : ℕ) → n < m → set (sets b m ys) n x ≡ sets (set b n x) m ys
+sets-set b m [] n x h = refl
+sets-set b m (y ∷ ys) n x h =
+    sets-set (set b m y) (suc m) ys n x (omega arith) ∙ ap (λ (l : List ℕ). sets l (suc m) ys) (set-comm b m n y x (λ e. omega (arith, e, h)))
+
+sets-swap : (b : List ℕ) (m : ℕ) (ys : List ℕ) (n : ℕ) (xs : List ℕ) → n + length xs ≤ m → sets (sets b m ys) n xs ≡ sets (sets b n xs) m ys
+sets-swap b m ys n [] h = refl
+sets-swap b m ys n (x ∷ xs) h =
+    ap (λ (l : List ℕ). sets l (suc n) xs) (sets-set b m ys n x (omega arith)) ∙ sets-swap (set b n x) m ys (suc n) xs (omega arith)
+
 -- What is written one after the other.
 pub then : {b b₁ b₂ xs ys : List ℕ} {n k₁ k₂ : ℕ} → Wrote b n xs k₁ b₁ → Wrote b₁ k₁ ys k₂ b₂ → Wrote b n (xs ++ ys) k₂ b₂
 then {b} {b₁} {b₂} {xs} {ys} {n} {k₁} {k₂} p q =
@@ -54,3 +65,12 @@ wrote-none b n = record { place = omega arith; stored = refl }
 -- A buffer's length stays.
 pub wrote-length : {b b₁ xs : List ℕ} {n k : ℕ} → Wrote b n xs k b₁ → length b₁ ≡ length b
 wrote-length {b} {b₁} {xs} {n} w = ap length (w .stored) ∙ length-sets b n xs
+
+-- What is written before what is there already.
+pub before : {b b₁ b₂ xs ys : List ℕ} {n m k : ℕ} → Wrote b m ys k b₁ → Wrote b₁ n xs m b₂ → Wrote b n (xs ++ ys) k b₂
+before {b} {b₁} {b₂} {xs} {ys} {n} {m} {k} p q =
+    record {
+      place = omega (arith, p .place, q .place, length-append xs ys);
+      stored =
+          q .stored ∙ ap (λ (l : List ℕ). sets l n xs) (p .stored) ∙ sets-swap b m ys n xs (omega (arith, q .place)) ∙ sets-then b n m xs ys (q .place);
+    }

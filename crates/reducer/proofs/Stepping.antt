@@ -1,0 +1,215 @@
+-- The ways out of a step, and the splice: the words before the node, what it becomes, and the words after it. Assumes nothing.
+use Prim.Native.Nat.{ℕ, _+_, _-_, _≤_}
+use mathlib.Core.Bool.{Bool, true, false}
+use mathlib.Core.List.{List, [], _++_, append-nil, append-assoc}
+use mathlib.Core.Path.{_≡_, refl, sym, ap, _∙_, subst}
+use lib.Dec.{T}
+use lib.ListN.{length, take, drop, length-append, length-drop}
+use lib.Seq.{length-take-le, take-at, drop-at, drop-drop}
+use borrow.Rule.Slice.PartAt.{part-to-end}
+use native.Mathlib.Omega.{arith}
+use Rattle.calculus.specs.Trees.{Lang, ml, Term}
+use Rattle.calculus.specs.Words.{put, words, size}
+use Rattle.calculus.specs.Kinds.{term}
+use Rattle.calculus.specs.Reduction.{Became, becomes, raises, nothing, contract, Context, fill, done, turn, stepped, outcome, step}
+use Rattle.calculus.specs.Reduction as calculus
+use Rattle.calculus.proofs.Sizes.{put-append, tree-length, drop-tree}
+use Rattle.calculus.proofs.Splices.{wordsBefore, wordsAfter, put-fill, Splice}
+use Rattle.calculus.proofs.Turns as turns
+use Rattle.writing.specs.Spans.{span}
+use Rattle.writing.specs.Wrote.{Wrote}
+use Rattle.writing.proofs.Measures.{span-tree}
+use Rattle.writing.proofs.Stores.{then, before, wrote-as}
+use Rattle.contraction.specs.declared.rules.Rule.{Rule}
+use Rattle.contraction.specs.declared.rules.Rule.the-variants as rule
+use Rattle.contraction.specs.Told.{Gives, Tells}
+use Rattle.contraction.specs.Chosen.{OfNode, Writes}
+use Rattle.writer.specs.Kept as writer
+use Rattle.reducer.specs.declared.turns.Found.{Found}
+use Rattle.reducer.specs.declared.turns.Found.the-variants as found
+use Rattle.reducer.specs.declared.steps.Change.{Change}
+use Rattle.reducer.specs.declared.steps.Move.{Move}
+use Rattle.reducer.specs.declared.steps.Move.the-variants.{Value, Raised, Next, Stuck}
+use Rattle.reducer.specs.declared.steps.End.{End}
+use Rattle.reducer.specs.declared.steps.End.the-variants as end
+use Rattle.reducer.specs.Placed.{placed, Turns}
+use Rattle.reducer.specs.Moves.{endOf, Fits, Spliced, Moved, Steps}
+
+-- The splice: what the node becomes is written first, and the words before it and after it around that.
+module _ (source : List ℕ) (place end : ℕ) (rl : Rule) (fits : Fits source place end rl) (b b₀ b′ : List ℕ) (after k : ℕ)
+    (wrote : Writes (take (length source - place) (drop place source)) rl b place after b₀) (next : writer.Next source place after end 1 b₀ k b′) where
+  writes : Writes (drop place source) rl b place after b₀
+  writes = subst (λ (v : List ℕ). Writes v rl b place after b₀) (part-to-end source place) wrote
+
+  front : Wrote b₀ 0 (take place source) (next .k₁) (next .b₁)
+  front = let z : place - 0 ≡ place = omega arith in wrote-as (ap (λ (j : ℕ). take j source) z) (next .front .copied refl)
+
+  passed : (next .k₂ ≡ after) × (next .b₂ ≡ next .b₁)
+  passed = next .piece .passed (λ z. omega (arith, z))
+
+  back : Wrote (next .b₁) after (drop end source) k b′
+  back =
+      subst (λ (j : ℕ). Wrote (next .b₁) j (drop end source) k b′) (passed .0)
+      (subst (λ (v : List ℕ). Wrote v (next .k₂) (drop end source) k b′) (passed .1) (wrote-as (part-to-end source end) (next .back .copied refl)))
+
+  abbrev change : Change
+  change = record { place = place; stood = end - place; stands = after - place; size = k }
+
+  spliced-of : (P : List ℕ) (m : Lang) (n u : Term m) (Q : List ℕ) → source ≡ P ++ put n Q → place ≡ length P → contract n ≡ becomes u
+      → (end - place ≡ size n) × (after - place ≡ size u) × Wrote b 0 (P ++ put u Q) k b′
+  spliced-of P m n u Q q h g =
+      let here : drop place source ≡ put n Q = ap (drop place) q ∙ drop-at P (put n Q) place (sym h) in
+      let e : end ≡ place + size n = fits .ends ∙ ap (λ (j : ℕ). place + j) (span-tree (term m) n Q (drop place source) here) in
+      let before-it : take place source ≡ P = ap (take place) q ∙ take-at P (put n Q) place (sym h) in
+      let after-it : drop end source ≡ Q =
+      ap (λ (j : ℕ). drop j source) e ∙ sym (drop-drop (size n) place source) ∙ ap (drop (size n)) here ∙ drop-tree (term m) n Q in
+      let tells = subst (Tells (drop place source) rl) g (fits .told .of m n Q here) in
+      let became : Wrote b place (words u) after b₀ = writes .of m u tells in
+      let f : Wrote b₀ 0 P place (next .b₁) =
+      subst (λ (j : ℕ). Wrote b₀ 0 P j (next .b₁)) (front .place ∙ omega (arith, h, ap length before-it)) (wrote-as before-it front) in
+      let w = then (before became f) (wrote-as after-it back) in
+      let z : (P ++ words u) ++ Q ≡ P ++ put u Q = append-assoc P (words u) Q ∙ ap (λ (v : List ℕ). P ++ v) (sym (put-append u [] Q)) in
+      (omega (arith, e), omega (arith, became .place, tree-length (term m) u []), wrote-as z w)
+
+  pub spliced : Spliced source place b change b′
+  spliced = record { where-it-was = refl; of = spliced-of }
+
+abbrev isValue : Found → Bool
+isValue found.Value = true
+isValue (found.At p e) = false
+
+abbrev placeOf : Found → ℕ
+placeOf found.Value = 0
+placeOf (found.At p e) = p
+
+abbrev isWriting : End → Bool
+isWriting end.Stuck = false
+isWriting (end.Raised c) = false
+isWriting end.Writes = true
+
+abbrev codeOf : End → ℕ
+codeOf end.Stuck = 0
+codeOf (end.Raised c) = c
+codeOf end.Writes = 0
+
+abbrev isStuck : End → Bool
+isStuck end.Stuck = true
+isStuck (end.Raised c) = false
+isStuck end.Writes = false
+
+-- A step by the turn that was found.
+module _ (source b b′ : List ℕ) (r : Move) where
+  by-turn : (e : Term ml) (o : calculus.Turn ml) → turns.Found e o
+      → (o ≡ done → Moved e r b b′ calculus.value)
+      → ((m : Lang) (F : Context m ml) (n : Term m) → o ≡ calculus.at m F n → fill F n ≡ e → Moved e r b b′ (outcome F (contract n)))
+      → Moved e r b b′ (stepped o)
+  by-turn e done f v p = v refl
+  by-turn e (calculus.at m F n) f v p = p m F n refl (f .0)
+
+module _ (source b : List ℕ) (x : Found) (x-is : Turns source x) where
+  -- A value.
+  pub step-value : x ≡ found.Value → Steps source b Value b
+  unfolding step
+  step-value h =
+      record {
+        of = λ e q.
+            by-turn source b b Value e (turn e) (turns.turn-found e) (λ z. (refl, refl))
+            (λ m F n′ z s. absurd (subst T (ap isValue (sym h ∙ x-is .of ml e [] q ∙ ap (λ t. placed 0 t found.Value) z)) tt));
+      }
+
+  module _ (place last : ℕ) (h : x ≡ found.At place last) (rl : Rule) (told : OfNode (drop place source) rl) (b′ : List ℕ) (r : Move) where
+    module _ (e : Term ml) (q : source ≡ words e) where
+      -- Where the node stands.
+      module _ {m : Lang} (F : Context m ml) (n : Term m) (z : turn e ≡ calculus.at m F n) (s : fill F n ≡ e) where
+        stands : source ≡ wordsBefore F ++ put n (wordsAfter F ++ [])
+        stands = q ∙ ap words (sym s) ∙ put-fill F n []
+
+        place-is : place ≡ length (wordsBefore F)
+        place-is = ap placeOf (sym h ∙ x-is .of ml e [] q ∙ ap (λ t. placed 0 t found.Value) z) ∙ omega arith
+
+        tells : Tells (drop place source) rl (contract n)
+        tells =
+            let d : drop place source ≡ put n (wordsAfter F ++ []) = ap (drop place) stands ∙ drop-at (wordsBefore F) _ place (sym place-is) in
+            told .of m n (wordsAfter F ++ []) d
+
+      step-is : ((m : Lang) (F : Context m ml) (n : Term m) → turn e ≡ calculus.at m F n → fill F n ≡ e → Moved e r b b′ (outcome F (contract n)))
+          → Moved e r b b′ (step e)
+      unfolding step
+      step-is p =
+          by-turn source b b′ r e (turn e) (turns.turn-found e) (λ z. absurd (subst T (ap isValue (ap (λ t. placed 0 t found.Value) (sym z) ∙ sym (x-is .of ml e [] q) ∙ h)) tt)) p
+
+-- A rule that gives a term is one that writes.
+gives-writes : {m : Lang} (ws : List ℕ) (rl : Rule) (u : Term m) → Gives ws rl u → endOf rl ≡ end.Writes
+gives-writes ws rule.Stuck u g = absurd g
+gives-writes ws (rule.Raised c) u g = absurd g
+gives-writes ws (rule.Number k n) u g = refl
+gives-writes ws (rule.Part a e) u g = refl
+gives-writes ws (rule.Led w a e) u g = refl
+gives-writes ws (rule.Led2 w v a e) u g = refl
+gives-writes ws (rule.Items q m v t e) u g = refl
+gives-writes ws (rule.IntoML s v e) u g = refl
+gives-writes ws (rule.IntoScheme s v e) u g = refl
+gives-writes ws (rule.Substituted x b a e) u g = refl
+
+words-fill : {m l : Lang} (F : Context m l) (x : Term m) → words (fill F x) ≡ wordsBefore F ++ (words x ++ wordsAfter F)
+words-fill F x = put-fill F x [] ∙ rw (append-nil, put-append x [] (wordsAfter F))
+
+-- What becomes of the node, by the rule's end: nothing, an error, or another term.
+module _ {m : Lang} (e : Term ml) (b ws : List ℕ) (rl : Rule) (F : Context m ml) where
+  stuck-moved : endOf rl ≡ end.Stuck → (c : Became m) → Tells ws rl c → Moved e Stuck b b (outcome F c)
+  stuck-moved h (becomes u) t = absurd (subst T (ap isWriting (sym (gives-writes ws rl u t) ∙ h)) tt)
+  stuck-moved h (raises c) t = absurd (subst T (ap isStuck (sym h ∙ ap endOf t)) tt)
+  stuck-moved h nothing t = (refl, refl)
+
+  raised-moved : (n : ℕ) → endOf rl ≡ end.Raised n → (c : Became m) → Tells ws rl c → Moved e (Raised n) b b (outcome F c)
+  raised-moved n h (becomes u) t = absurd (subst T (ap isWriting (sym (gives-writes ws rl u t) ∙ h)) tt)
+  raised-moved n h (raises c) t = (ap Raised (ap codeOf (sym h ∙ ap endOf t)), refl)
+  raised-moved n h nothing t = absurd (subst T (ap isStuck (sym (ap endOf t) ∙ h)) tt)
+
+module _ (source b : List ℕ) (x : Found) (x-is : Turns source x) (place last : ℕ) (h : x ≡ found.At place last) (rl : Rule)
+    (told : OfNode (drop place source) rl) where
+  pub step-stuck : endOf rl ≡ end.Stuck → Steps source b Stuck b
+  step-stuck g =
+      record {
+        of = λ e q.
+            step-is source b x x-is place last h rl told b Stuck e q
+            (λ m F n z s. stuck-moved e b (drop place source) rl F g (contract n) (tells source b x x-is place last h rl told b Stuck e q F n z s));
+      }
+
+  pub step-raised : (c : ℕ) → endOf rl ≡ end.Raised c → Steps source b (Raised c) b
+  step-raised c g =
+      record {
+        of = λ e q.
+            step-is source b x x-is place last h rl told b (Raised c) e q
+            (λ m F n z s. raised-moved e b (drop place source) rl F c g (contract n) (tells source b x x-is place last h rl told b (Raised c) e q F n z s));
+      }
+
+  module _ (b′ : List ℕ) (c : Change) (sp : Spliced source place b c b′) (g : endOf rl ≡ end.Writes) where
+    next-moved : (e : Term ml) (q : source ≡ words e) {m : Lang} (F : Context m ml) (n : Term m) (z : turn e ≡ calculus.at m F n) (s : fill F n ≡ e)
+        (o : Became m) → contract n ≡ o → Tells (drop place source) rl o → Moved e (Next c) b b′ (outcome F o)
+    next-moved e q {m} F n z s (becomes u) k t =
+        let p = place-is source b x x-is place last h rl told b′ (Next c) e q F n z s in
+        let w = sp .of (wordsBefore F) m n u (wordsAfter F ++ []) (stands source b x x-is place last h rl told b′ (Next c) e q F n z s) p k in
+        let v : Wrote b 0 (words (fill F u)) (c .size) b′ = wrote-as (sym (put-fill F u [])) (w .2) in (
+          c,
+          refl,
+          record {
+            splice =
+                record { lang = m; place = F; node = n; became = u; turns = z; contracts = k; was = ap words (sym s) ∙ words-fill F n; is = words-fill F u };
+            place = sp .where-it-was ∙ p;
+            stood = w .0;
+            stands = w .1;
+            sized = omega (arith, v .place, tree-length (term ml) (fill F u) []);
+            written = v;
+          },
+        )
+    next-moved e q F n z s (raises i) k t = absurd (subst T (ap isWriting (sym g ∙ ap endOf t)) tt)
+    next-moved e q F n z s nothing k t = absurd (subst T (ap isWriting (sym g ∙ ap endOf t)) tt)
+
+    pub step-next : Steps source b (Next c) b′
+    step-next =
+        record {
+          of = λ e q.
+              step-is source b x x-is place last h rl told b′ (Next c) e q
+              (λ m F n z s. next-moved e q F n z s (contract n) refl (tells source b x x-is place last h rl told b′ (Next c) e q F n z s));
+        }

@@ -1,0 +1,76 @@
+-- `reducer::steps::splice` meets its contract. Assumes nothing.
+use borrow.Author.Needs.{needs}
+use mathlib.Core.List.{List}
+use mathlib.Core.Path.{_≡_, sym, subst}
+use Prim.Native.Nat.{ℕ, _+_, _-_, _≤_}
+use lib.ListN.{length, drop}
+use borrow.Rule.Slice.PartAt.{part-to-end}
+use native.Mathlib.Omega.{arith}
+use Rattle.nodes.proofs.Ways.{part-length}
+use Rattle.writing.specs.Spans.{span}
+use Rattle.writing.proofs.Lengths.{span-within}
+use Rattle.contraction.specs.Told.{Placed}
+use Rattle.contraction.specs.Chosen.{Writes}
+use Rattle.reducer.proofs.Stepping.{spliced}
+use Rattle.reducer.proofs.steps.splice.Statement.{statement}
+use Rattle.reducer.proofs.steps.splice.Tie as tie
+
+-- The node ends within the words.
+module _ (c : tie.Start) where
+  end-in : c .args .end ≤ length (c .args .source .now)
+  end-in =
+      let s = c .args in
+      omega (arith, c .pre .2 .ends, span-within (drop (s .place) (s .source .now)) 1, lib.ListN.length-drop (s .place) (s .source .now), c .pre .2 .inside)
+
+  end-past : c .args .place ≤ c .args .end
+  end-past = omega (arith, c .pre .2 .ends)
+
+mul-contract : tie.Need-mul-contract
+mul-contract c = record { fits = omega (arith, c .before .before .pre .1, c .before .before .pre .2 .inside) }
+
+sub-contract : tie.Need-sub-contract
+sub-contract c = c .before .before .pre .2 .inside
+
+part-contract-start : tie.Need-part-contract-start
+part-contract-start c = c .before .before .pre .2 .inside
+
+part-contract-end : tie.Need-part-contract-end
+part-contract-end c = search needs
+
+contract-requires : tie.Need-contract-requires
+contract-requires c κs =
+    let s = c .before .before .before .before in
+    let l = part-length (s .args .source .now) (s .args .place) in
+    ((s .pre .0, omega (arith, l, s .pre .1), omega (arith, s .pre .1, s .pre .2 .inside)), subst (λ (n : ℕ). Placed n (s .args .rule)) (sym l) (s .pre .2 .within))
+
+write-next-requires : tie.Need-write-next-requires
+write-next-requires c κs =
+    let s = c .before .before .before .before .before .before .before .before in
+    record { size = s .pre .1; first = s .pre .2 .inside; order = λ z. absurd (omega (arith, z)); within = end-in s; far = omega (arith, c .before .before .before .contract .ensures .1 .1, s .pre .1, s .pre .2 .inside) }
+
+sub-t9 : tie.Need-sub-t9
+sub-t9 c = end-past (c .before .before .before .before .before .before .before .before .before .before .before)
+
+sub-t11 : tie.Need-sub-t11
+sub-t11 c = c .before .before .before .before .before .before .contract .ensures .1 .0
+
+same-length : tie.Need-same-length
+same-length c = search needs
+
+returns : tie.Need-returns
+returns c = spliced _ _ _ _ (c .before .before .before .before .before .before .before .before .before .before .before .pre .2) _ _ _ _ _ (c .before .before .before .before .before .before .contract .ensures .0) (c .before .before .write-next .ensures)
+
+pub splice-spec : {M : Type 1} → statement M
+splice-spec =
+    tie.close
+    (tie.spec
+    mul-contract
+    sub-contract
+    part-contract-start
+    part-contract-end
+    contract-requires
+    write-next-requires
+    sub-t9
+    sub-t11
+    same-length
+    returns)
