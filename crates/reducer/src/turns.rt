@@ -42,20 +42,22 @@ fn look_at(table: &[u64; 48], words: &[u32]) -> Look
     requires { ⌜ (now table ≡ kinds) × (length (now words) ≤ 1048576) × (1 ≤ length (now words)) ⌝ }
     ensures { λ r. ⌜ Looked (now (words .entry)) r ⌝ }
 {
-    let form = form_at(table, words);
-    let own = form == contraction::forms::OTHER;
     let shape = row_at(table, words[0]).shape;
+    if shape == nodes::kinds::NUMBER {
+        return taking(1, 0, 0, false);
+    }
     if shape == nodes::kinds::OPERATOR_2 {
-        return taking(1, 2, 0, own);
+        return taking(1, 2, 0, form_at(table, words) == contraction::forms::OTHER);
     }
     if shape == nodes::kinds::OPERATOR_1 {
-        return taking(1, 1, 0, own);
-    }
-    if shape == nodes::kinds::BOUNDARY {
-        return taking(1 + skip(table, &words[1..], 1), 1, 0, own);
+        return taking(1, 1, 0, true);
     }
     if shape == nodes::kinds::IF0 {
         return taking(1, 1, 2, true);
+    }
+    let own = form_at(table, words) == contraction::forms::OTHER;
+    if shape == nodes::kinds::BOUNDARY {
+        return taking(1 + skip(table, &words[1..], 1), 1, 0, own);
     }
     taking(skip(table, words, 1), 0, 0, own)
 }

@@ -50,9 +50,9 @@ unfolding span
 span-parts [] n h e = absurd (omega (arith, h))
 span-parts (w ∷ ws) n h e = let z : 0 + partCount w ≡ n = omega (arith, e) in omega (arith, ap (span ws) z)
 
--- How many parts a kind has, by its shape: operators of one part and of two, if0, and ms and sm.
+-- How many parts a kind has, by its shape: numbers, operators of one part and of two, if0, and ms and sm.
 abbrev pub partsBy : ℕ → ℕ → ℕ
-partsBy shape n = cond (eqb shape 4) 1 (cond (eqb shape 5) 2 (cond (eqb shape 6) 3 (cond (eqb shape 9) 2 n)))
+partsBy shape n = cond (eqb shape 2) 0 (cond (eqb shape 4) 1 (cond (eqb shape 5) 2 (cond (eqb shape 6) 3 (cond (eqb shape 9) 2 n))))
 
 parts-by : (k : ℕ) → length (sortsOf (rowOf k .parts)) ≡ partsBy (rowOf k .shape) (length (sortsOf (rowOf k .parts)))
 unfolding rowOf sortsOf

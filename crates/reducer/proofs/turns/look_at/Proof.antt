@@ -9,25 +9,22 @@ use native.Mathlib.Omega.{arith}
 use Rattle.nodes.specs.Table.{rowOf}
 use Rattle.nodes.proofs.Ways.{part-length}
 use Rattle.writing.specs.Spans.{span}
-use Rattle.reducer.proofs.Turning.{look-alone, look-one, look-two, look-choice, look-boundary}
+use Rattle.reducer.proofs.Turning.{look-number, look-one, look-choice, look-two, look-boundary, look-alone}
 use Rattle.reducer.proofs.turns.look_at.Statement.{statement}
 use Rattle.reducer.proofs.turns.look_at.Tie as tie
 
 -- The node's shape.
 module _ (c : tie.After-row-at) where
-  shape-is : c .row-at .result .shape ≡ rowOf (getD (c .before .before .before .before .args .words .now) 0 0 % 256) .shape
+  shape-is : c .row-at .result .shape ≡ rowOf (getD (c .before .before .before .args .words .now) 0 0 % 256) .shape
   shape-is = ap (λ r. r .shape) (c .row-at .ensures)
 
 -- Past the type of ms and sm.
 module _ (c : tie.After-skip) where
-  start-is : 1 + c .skip .result ≡ 1 + span (drop 1 (c .before .before .before .before .before .before .before .before .before .args .words .now)) 1
-  start-is = ap (λ (n : ℕ). 1 + n) (c .skip .ensures .1 ∙ ap (λ (v : List ℕ). span v 1) (part-to-end (c .before .before .before .before .before .before .before .before .before .args .words .now) 1))
+  start-is : 1 + c .skip .result ≡ 1 + span (drop 1 (c .before .before .before .before .before .before .before .before .before .before .before .args .words .now)) 1
+  start-is = ap (λ (n : ℕ). 1 + n) (c .skip .ensures .1 ∙ ap (λ (v : List ℕ). span v 1) (part-to-end (c .before .before .before .before .before .before .before .before .before .before .before .args .words .now) 1))
 
-  start-in : 1 + c .skip .result ≤ length (c .before .before .before .before .before .before .before .before .before .args .words .now)
-  start-in = omega (arith, c .skip .ensures .0, part-length (c .before .before .before .before .before .before .before .before .before .args .words .now) 1, c .before .before .before .before .before .before .before .before .before .pre .2)
-
-form-at-requires : tie.Need-form-at-requires
-form-at-requires c κs = search needs
+  start-in : 1 + c .skip .result ≤ length (c .before .before .before .before .before .before .before .before .before .before .before .args .words .now)
+  start-in = omega (arith, c .skip .ensures .0, part-length (c .before .before .before .before .before .before .before .before .before .before .before .args .words .now) 1, c .before .before .before .before .before .before .before .before .before .before .before .pre .2)
 
 shared-slice-read-row-at : tie.Need-shared-slice-read-row-at
 shared-slice-read-row-at c = search needs
@@ -39,13 +36,31 @@ taking-requires : tie.Need-taking-requires
 taking-requires c κs = search needs
 
 returns : tie.Need-returns
-returns c = rw (c .taking .ensures) (look-two _ _ (c .before .before .before .before .form-at .ensures) _ (shape-is (c .before .before)) (c .before .before .before .before .before .before .pre .2) (c .before .if1 .taken))
+returns c = rw (c .taking .ensures) (look-number _ _ (shape-is (c .before .before)) (c .before .before .before .before .before .pre .2) (c .before .if1 .taken))
+
+form-at-requires : tie.Need-form-at-requires
+form-at-requires c κs = search needs
 
 taking-requires-2 : tie.Need-taking-requires-2
 taking-requires-2 c κs = search needs
 
 returns-2 : tie.Need-returns-2
-returns-2 c = rw (c .taking2 .ensures) (look-one _ _ (c .before .before .before .before .before .form-at .ensures) _ (shape-is (c .before .before .before)) (c .before .before .before .before .before .before .before .pre .2) (c .before .if2 .taken))
+returns-2 c = rw (c .taking2 .ensures) (look-two _ _ (shape-is (c .before .before .before .before)) (c .before .before .before .before .before .before .before .pre .2) _ (c .before .form-at .ensures) (c .before .before .if2 .taken))
+
+taking-requires-3 : tie.Need-taking-requires-3
+taking-requires-3 c κs = search needs
+
+returns-3 : tie.Need-returns-3
+returns-3 c = rw (c .taking3 .ensures) (look-one _ _ (shape-is (c .before .before .before .before)) (c .before .before .before .before .before .before .before .pre .2) (c .before .if3 .taken))
+
+taking-requires-4 : tie.Need-taking-requires-4
+taking-requires-4 c κs = search needs
+
+returns-4 : tie.Need-returns-4
+returns-4 c = rw (c .taking4 .ensures) (look-choice _ _ (shape-is (c .before .before .before .before .before)) (c .before .before .before .before .before .before .before .before .pre .2) (c .before .if4 .taken))
+
+form-at-requires-2 : tie.Need-form-at-requires-2
+form-at-requires-2 c κs = search needs
 
 sub-skip : tie.Need-sub-skip
 sub-skip c = search needs
@@ -62,53 +77,51 @@ skip-requires c κs = search needs
 add-taking : tie.Need-add-taking
 add-taking c = search needs
 
-taking-requires-3 : tie.Need-taking-requires-3
-taking-requires-3 c κs = search needs
-
-returns-3 : tie.Need-returns-3
-returns-3 c =
-    let s = c .before in
-    rw (c .taking3 .ensures)
-    (look-boundary _ _ (c .before .before .before .before .before .before .before .before .form-at .ensures) _ (shape-is (c .before .before .before .before .before .before)) (c .before .before .before .before .before .before .before .before .before .before .pre .2) _ (start-is s) (start-in s) (c .before .before .before .if3 .taken))
-
-taking-requires-4 : tie.Need-taking-requires-4
-taking-requires-4 c κs = search needs
-
-returns-4 : tie.Need-returns-4
-returns-4 c = rw (c .taking4 .ensures) (look-choice _ _ (c .before .before .before .before .before .before .before .form-at .ensures) _ (shape-is (c .before .before .before .before .before)) (c .before .before .before .before .before .before .before .before .before .pre .2) (c .before .if4 .taken))
-
-skip-requires-2 : tie.Need-skip-requires-2
-skip-requires-2 c κs = search needs
-
 taking-requires-5 : tie.Need-taking-requires-5
 taking-requires-5 c κs = search needs
 
 returns-5 : tie.Need-returns-5
 returns-5 c =
-    let s = c .before .skip2 .ensures in
+    let s = c .before in
     rw (c .taking5 .ensures)
-    (look-alone _ _ (c .before .before .before .before .before .before .before .before .form-at .ensures) _ (shape-is (c .before .before .before .before .before .before)) (c .before .before .before .before .before .before .before .before .before .before .pre .2) _ (s .1) (s .0) (c .before .before .before .before .if2 .left) (c .before .before .before .before .before .if1 .left) (c .before .before .if4 .left) (c .before .before .before .if3 .left))
+    (look-boundary _ _ (shape-is (c .before .before .before .before .before .before .before .before .before)) (c .before .before .before .before .before .before .before .before .before .before .before .before .pre .2) _ (c .before .before .before .before .form-at2 .ensures) _ (start-is s) (start-in s) (c .before .before .before .if5 .taken))
+
+skip-requires-2 : tie.Need-skip-requires-2
+skip-requires-2 c κs = search needs
+
+taking-requires-6 : tie.Need-taking-requires-6
+taking-requires-6 c κs = search needs
+
+returns-6 : tie.Need-returns-6
+returns-6 c =
+    let s = c .before .skip2 .ensures in
+    let f = c .before .before .before .form-at2 .ensures in
+    rw (c .taking6 .ensures)
+    (look-alone _ _ (shape-is (c .before .before .before .before .before .before .before .before)) (c .before .before .before .before .before .before .before .before .before .before .before .pre .2) _ f _ (s .1) (s .0) (c .before .before .before .before .before .if3 .left) (c .before .before .before .before .before .before .if2 .left) (c .before .before .before .before .if4 .left) (c .before .before .if5 .left))
 
 pub look-at-spec : {M : Type 1} → statement M
 look-at-spec =
     tie.close
     (tie.spec
-    form-at-requires
     shared-slice-read-row-at
     row-at-requires
     taking-requires
     returns
+    form-at-requires
     taking-requires-2
     returns-2
+    taking-requires-3
+    returns-3
+    taking-requires-4
+    returns-4
+    form-at-requires-2
     sub-skip
     part-skip-start
     part-skip-end
     skip-requires
     add-taking
-    taking-requires-3
-    returns-3
-    taking-requires-4
-    returns-4
-    skip-requires-2
     taking-requires-5
-    returns-5)
+    returns-5
+    skip-requires-2
+    taking-requires-6
+    returns-6)
