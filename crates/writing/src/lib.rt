@@ -2,8 +2,8 @@
 
 ghost use mathlib.Core.Path.{_≡_};
 ghost use mathlib.Core.List.{[], _∷_};
-ghost use Prim.Native.Nat.{_+_, _-_, _<_, _^_, min};
-ghost use lib.ListN.{length};
+ghost use Prim.Native.Nat.{_+_, _-_, _≤_, _<_, _^_, min};
+ghost use lib.ListN.{length, take, drop};
 ghost use Rattle.writing.specs.Wrote.{Wrote};
 
 pub mod spans;
@@ -45,4 +45,12 @@ pub fn copy(source: &[u32], target: &mut [u32], n: usize) -> usize
         i += 1;
     }
     n + source.len()
+}
+
+// The words of the source from a place to another, from the place n on. Returns the place after them.
+pub fn stretch(source: &[u32], a: usize, e: usize, target: &mut [u32], n: usize) -> usize
+    requires { ⌜ (a ≤ e) × (e ≤ length (now source)) × (n + length (now source) < 2 ^ 62) ⌝ }
+    ensures { λ r. ⌜ Wrote (now (target .entry)) n (take (e - a) (drop a (now (source .entry)))) r (now (target .exit)) ⌝ }
+{
+    copy(&source[a..e], target, n)
 }
