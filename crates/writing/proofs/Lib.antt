@@ -4,3 +4,4 @@ pub mod Digits
 pub mod Measures
 pub mod Replacing
 pub mod Substituting
+pub mod Turns
