@@ -66,7 +66,8 @@ module _ (ws : List ℕ) (at due x : ℕ) (value b : List ℕ) (n : ℕ) where
   -- Where some tree is due, it is enough to look at the first.
   by-first : (due ≡ 0 → ⊥) → {read k : ℕ} {b′ : List ℕ}
       → ((m : Lang) (v : Term m) (d : ℕ) (s : Sort) (t : Tree s) (ss : List Sort) (ts : Trees ss) (more : List ℕ)
-      → ws ≡ putTree s t (putTrees ss ts more) → due ≡ suc (length ss) → x ≡ word (by m 16 32) d → value ≡ words v → Of m v d (s ∷ ss) (t, ts) read k b′)
+      → ws ≡ putTree s t (putTrees ss ts more) → due ≡ suc (length ss) → x ≡ word (by m 16 32) d → value ≡ words v
+      → Of m v d (s ∷ ss) (t, ts) read k b′)
       → Substituted ws at due x value b n read k b′
   by-first some {read} {k} {b′} h = record { of = λ {m} v d ss ts more e q x-is f. cases m v d ss ts more e q x-is f }
     where
@@ -91,7 +92,8 @@ module _ (ws : List ℕ) (at due x : ℕ) (value b : List ℕ) (n : ℕ) where
       -- The first word, and after it the parts' words with the variable as it stands there.
       kept : {m : Lang} (v : Term m) (d d′ : ℕ) (s : Sort) (t : Tree s) (rest after : List ℕ) → ws ≡ putTree s t rest → x ≡ word (by m 16 32) d
           → inside s t d ≡ d′
-          → getD ws 0 0 ∷ putTrees (view s t .row .parts) (inTrees v d′ (view s t .row .parts) (view s t .parts)) after ≡ putTree s (inTree v d s t) after
+          → getD ws 0 0 ∷ putTrees (view s t .row .parts) (inTrees v d′ (view s t .row .parts) (view s t .parts)) after
+          ≡ putTree s (inTree v d s t) after
       kept v d d′ s t rest after e x-is i =
           let u = view s t in
           let head = head-is s t rest ws e in
@@ -123,7 +125,8 @@ module _ (ws : List ℕ) (at due x : ℕ) (value b : List ℕ) (n : ℕ) where
           ∙ kept v d d s t rest (putTrees ss (inTrees v d ss ts) []) e x-is same in
           (omega (arith, r .0, sized u, size-joined ps (u .parts) ss ts), wrote-as z (then w (r .1)))
 
-      pub entered : (r₁ k₁ read k : ℕ) (b₁ b′ us₁ : List ℕ) → shape ≡ 3 → us₁ ≡ drop (r₁ - at) ws → Substituted us p count (x + 256) value b₀ k₀ r₁ k₁ b₁
+      pub entered : (r₁ k₁ read k : ℕ) (b₁ b′ us₁ : List ℕ) → shape ≡ 3 → us₁ ≡ drop (r₁ - at) ws
+          → Substituted us p count (x + 256) value b₀ k₀ r₁ k₁ b₁
           → Substituted us₁ r₁ (due - 1) x value b₁ k₁ read k b′ → Substituted ws at due x value b n read k b′
       entered r₁ k₁ read k b₁ b′ us₁ lambda us₁-are first next = by-first some λ m v d s t ss ts more e q x-is f.
           let u = view s t in
@@ -135,5 +138,6 @@ module _ (ws : List ℕ) (at due x : ℕ) (value b : List ℕ) (n : ℕ) where
           let size : r₁ - at ≡ sizeTree s t = omega (arith, a .0, sized u) in
           let tail = us₁-are ∙ ap (λ (j : ℕ). drop j ws) size ∙ ap (drop (sizeTree s t)) e ∙ drop-tree s t rest in
           let r = next .of v d ss ts more tail (omega arith) x-is f in
-          let z = ap (λ (l : List ℕ). getD ws 0 0 ∷ l) (sym (trees-append (u .row .parts) parts [] after)) ∙ kept v d (suc d) s t rest after e x-is deeper in
+          let z = ap (λ (l : List ℕ). getD ws 0 0 ∷ l) (sym (trees-append (u .row .parts) parts [] after))
+          ∙ kept v d (suc d) s t rest after e x-is deeper in
           (omega (arith, a .0, r .0, sized u), wrote-as z (then w (then (a .1) (r .1))))

@@ -15,7 +15,8 @@ use Rattle.writing.proofs.Substituting.{nothing-due, too-few, replaced,
 
 -- i words are read, `left` nodes are due, and k is the place after what is written: with the rest substituted from there on, the whole is.
 pub record Begun (ws : List ℕ) (at due x : ℕ) (value b : List ℕ) (n i left k : ℕ) (b₁ : List ℕ) : Type 0 where
-  pub whole : (read k′ : ℕ) (b′ : List ℕ) → Substituted (drop i ws) (at + i) left x value b₁ k read k′ b′ → Substituted ws at due x value b n read k′ b′
+  pub whole : (read k′ : ℕ) (b′ : List ℕ) → Substituted (drop i ws) (at + i) left x value b₁ k read k′ b′
+      → Substituted ws at due x value b n read k′ b′
 
 pub begins : (ws : List ℕ) (at due x : ℕ) (value b : List ℕ) (n : ℕ) → Begun ws at due x value b n 0 due n b
 begins ws at due x value b n =
@@ -34,12 +35,15 @@ module _ {ws : List ℕ} {at due x : ℕ} {value b : List ℕ} {n i left k : ℕ
   next-are : drop (i + 1) ws ≡ drop 1 (drop i ws)
   next-are = sym (drop-drop 1 i ws)
 
+  next-place : at + (i + 1) ≡ at + i + 1
+  next-place = omega arith
+
   module _ (some : left ≡ 0 → ⊥) where
     pub replaces : (k₁ : ℕ) (b₂ : List ℕ) → getD ws i 0 ≡ x → Wrote b₁ k value k₁ b₂ → Begun ws at due x value b n (i + 1) (left - 1) k₁ b₂
     replaces k₁ b₂ g w =
         record {
           whole = λ read k′ b′ s. begun .whole read k′ b′
-              (replaced (drop i ws) (at + i) left x value b₁ k some (drop (i + 1) ws) (at + (i + 1)) next-are (omega arith) k₁ read k′ b₂ b′ (first-is ∙ g) w s);
+              (replaced _ _ _ _ _ _ _ some _ _ next-are next-place k₁ read k′ b₂ b′ (first-is ∙ g) w s);
         }
 
     module _ (k₁ : ℕ) (b₂ : List ℕ) (count shape : ℕ) (g : getD ws i 0 ≡ x → ⊥) (w : Wrote b₁ k (getD ws i 0 ∷ []) k₁ b₂)
@@ -50,25 +54,28 @@ module _ {ws : List ℕ} {at due x : ℕ} {value b : List ℕ} {n i left k : ℕ
       written : Wrote b₁ k (getD (drop i ws) 0 0 ∷ []) k₁ b₂
       written = rw first-is w
 
+      counted : count ≡ partCount (getD (drop i ws) 0 0)
+      counted = count-eq ∙ ap partCount (sym first-is)
+
+      shaped : shape ≡ rowOf (getD (drop i ws) 0 0 % 256) .shape
+      shaped = shape-eq ∙ ap (λ (j : ℕ). rowOf (j % 256) .shape) (sym first-is)
+
       pub passes : (shape ≡ 3 → ⊥) → Begun ws at due x value b n (i + 1) (left - 1 + count) k₁ b₂
       passes h =
           record {
             whole = λ read k′ b′ s. begun .whole read k′ b′
-                (passed (drop i ws) (at + i) left x value b₁ k some (drop (i + 1) ws) (at + (i + 1)) next-are (omega arith) k₁ b₂ count shape other written
-                (count-eq ∙ ap partCount (sym first-is)) (shape-eq ∙ ap (λ (j : ℕ). rowOf (j % 256) .shape) (sym first-is)) read k′ b′ h s);
+                (passed _ _ _ _ _ _ _ some _ _ next-are next-place k₁ b₂ count shape other written counted shaped read k′ b′ h s);
           }
 
       pub enters : (r₁ k₂ : ℕ) (b₃ : List ℕ) → shape ≡ 3 → at + i ≤ r₁
           → Substituted (take (length ws - (i + 1)) (drop (i + 1) ws)) (at + (i + 1)) count (x + 256) value b₂ k₁ r₁ k₂ b₃
           → Begun ws at due x value b n (r₁ - at) (left - 1) k₂ b₃
       enters r₁ k₂ b₃ h r first =
-          let rest : drop (r₁ - at) ws ≡ drop (r₁ - (at + i)) (drop i ws) =
-          ap (λ (j : ℕ). drop j ws) {x = r₁ - at} {y = i + (r₁ - (at + i))} (omega arith) ∙ sym (drop-drop (r₁ - (at + i)) i ws) in
           let place : at + (r₁ - at) ≡ r₁ = omega arith in
+          let same : r₁ - at ≡ i + (r₁ - (at + i)) = omega arith in
+          let rest = ap (λ (j : ℕ). drop j ws) same ∙ sym (drop-drop (r₁ - (at + i)) i ws) in
           record {
             whole = λ read k′ b′ s. begun .whole read k′ b′
-                (entered (drop i ws) (at + i) left x value b₁ k some (take (length ws - (i + 1)) (drop (i + 1) ws)) (at + (i + 1))
-                (part-to-end ws (i + 1) ∙ next-are) (omega arith) k₁ b₂ count shape other written
-                (count-eq ∙ ap partCount (sym first-is)) (shape-eq ∙ ap (λ (j : ℕ). rowOf (j % 256) .shape) (sym first-is))
-                r₁ k₂ read k′ b₃ b′ (drop (r₁ - at) ws) h rest first (rw place at s));
+                (entered _ _ _ _ _ _ _ some _ _ (part-to-end ws (i + 1) ∙ next-are) next-place k₁ b₂ count shape other written counted shaped
+                r₁ k₂ read k′ b₃ b′ _ h rest first (rw place at s));
           }
