@@ -27,7 +27,8 @@ stop-requires-2 c κs = search needs
 returns-3 : tie.Need-returns-3
 returns-3 c =
     let a = c .before .before .before .before .args in
-    rw (ne-eqb (a .made .steps) (a .limit) (λ e. c .before .before .if1 .left (sym e)), lt-leb (a .size) (a .cap) (c .before .if2 .left)) (c .stop2 .ensures)
+    rw (ne-eqb (a .made .steps) (a .limit) (λ e. c .before .before .if1 .left (sym e)), lt-leb (a .size) (a .cap) (c .before .if2 .left))
+    (c .stop2 .ensures)
 
 pub go-spec : {M : Type 1} → statement M
 go-spec = tie.close (tie.spec stop-requires returns counted-requires returns-2 stop-requires-2 returns-3)
