@@ -17,12 +17,19 @@ stopped x code made n wanted = Stop (record { end = x; code = code; made = made;
 abbrev pub oneMore : Counts → Counts
 oneMore made = record { steps = made .steps + 1 }
 
--- "a value ends as value; steps made equal to the limit, as spent; a wrong whose turn it is, as error; a next term of more words than capacity,
--- as full; else the step is made". No accepted recipe comes to a term that is stuck.
+-- "steps made equal to the limit, as spent; a wrong whose turn it is, as error".
+abbrev pub raising : ℕ → ℕ → Counts → ℕ → Choice
+raising c n made limit = cond (eqb (made .steps) limit) (stopped e.Spent 0 made n 0) (stopped e.Error c (oneMore made) 0 0)
+
+-- "steps made equal to the limit, as spent; a next term of more words than capacity, as full; else the step is made".
+abbrev pub going : ℕ → ℕ → ℕ → Counts → ℕ → Choice
+going size n cap made limit =
+    cond (eqb (made .steps) limit) (stopped e.Spent 0 made n 0)
+    (cond (leb size cap) (Go size (oneMore made)) (stopped e.Full 0 made n size))
+
+-- "a value ends as value", and the rest in its order. No accepted recipe comes to a term that is stuck.
 abbrev pub chosen : Move → ℕ → ℕ → Counts → ℕ → Choice
 chosen m.Value n cap made limit = stopped e.Value 0 made n 0
-chosen (m.Raised c) n cap made limit = cond (eqb (made .steps) limit) (stopped e.Spent 0 made n 0) (stopped e.Error c (oneMore made) 0 0)
-chosen (m.Next x) n cap made limit =
-    cond (eqb (made .steps) limit) (stopped e.Spent 0 made n 0)
-    (cond (leb (x .size) cap) (Go (x .size) (oneMore made)) (stopped e.Full 0 made n (x .size)))
+chosen (m.Raised c) n cap made limit = raising c n made limit
+chosen (m.Next x) n cap made limit = going (x .size) n cap made limit
 chosen m.Stuck n cap made limit = stopped e.Spent 0 made n 0

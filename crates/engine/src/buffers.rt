@@ -9,7 +9,6 @@ ghost use Rattle.engine.specs.Buffered.{held, Settled};
 
 // The first n words stay; the others become zero.
 fn clear(buffer: &mut [u32], n: usize)
-    requires { ⌜ n ≤ length (now buffer) ⌝ }
     ensures { λ _. ⌜ now (buffer .exit) ≡ padded (length (now (buffer .entry))) (take n (now (buffer .entry))) ⌝ }
 {
     let mut i = n;

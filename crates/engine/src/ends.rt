@@ -4,7 +4,7 @@ use reducer::steps::Move;
 ghost use mathlib.Core.Path.{_≡_};
 ghost use Prim.Native.Nat.{_≤_, _<_};
 ghost use Rattle.calculus.specs.Run.{capacity};
-ghost use Rattle.engine.specs.Decided.{chosen, stopped, oneMore};
+ghost use Rattle.engine.specs.Decided.{stopped, oneMore, raising, going, chosen};
 
 pub enum End {
     Value,
@@ -38,57 +38,60 @@ fn counted(made: Counts, limit: u32) -> Counts
     requires { ⌜ made .steps < limit ⌝ }
     ensures { λ r. ⌜ r ≡ oneMore made ⌝ }
 {
-    Counts {
-        steps: made.steps + 1,
-    }
+    let more = made.steps + 1;
+    Counts { steps: more }
 }
 
-// The run ends with the term of n words that stands there.
-fn stop(end: End, made: Counts, n: usize, wanted: usize) -> Choice
-    ensures { λ r. ⌜ r ≡ stopped end 0 made n wanted ⌝ }
+// The run ends, with so many words left.
+fn stop(end: End, code: u32, made: Counts, left: usize, wanted: usize) -> Choice
+    ensures { λ r. ⌜ r ≡ stopped end code made left wanted ⌝ }
 {
     Choice::Stop(Report {
         end: end,
-        code: 0,
+        code: code,
         made: made,
-        left: n,
+        left: left,
         wanted: wanted,
     })
 }
 
-// "a value ends as value; steps made equal to the limit, as spent; a wrong whose turn it is, as error; a next term of more words than capacity,
-// as full; else the step is made": what follows a move of the term of n words.
+// "steps made equal to the limit, as spent; a wrong whose turn it is, as error": in one step of its own.
+fn raise(code: u32, made: Counts, left: usize, limit: u32) -> Choice
+    requires { ⌜ made .steps ≤ limit ⌝ }
+    ensures { λ r. ⌜ r ≡ raising code left made limit ⌝ }
+{
+    if made.steps == limit {
+        return stop(End::Spent, 0, made, left, 0);
+    }
+    let more = counted(made, limit);
+    stop(End::Error, code, more, 0, 0)
+}
+
+// "steps made equal to the limit, as spent; a next term of more words than capacity, as full; else the step is made".
+fn go(size: usize, made: Counts, n: usize, cap: usize, limit: u32) -> Choice
+    requires { ⌜ made .steps ≤ limit ⌝ }
+    ensures { λ r. ⌜ r ≡ going size n cap made limit ⌝ }
+{
+    if limit == made.steps {
+        return stop(End::Spent, 0, made, n, 0);
+    }
+    if size <= cap {
+        let more = counted(made, limit);
+        return Choice::Go(size, more);
+    }
+    stop(End::Full, 0, made, n, size)
+}
+
+// "a value ends as value", and the rest in its order: what follows a move of the term of n words.
 pub fn decide(moved: Move, n: usize, cap: usize, made: Counts, limit: u32) -> Choice
     requires { ⌜ made .steps ≤ limit ⌝ }
     ensures { λ r. ⌜ r ≡ chosen moved n cap made limit ⌝ }
 {
     match moved {
-        Move::Value => stop(End::Value, made, n, 0),
-        Move::Raised(code) => {
-            if made.steps == limit {
-                return stop(End::Spent, made, n, 0);
-            }
-            let more = counted(made, limit);
-            Choice::Stop(Report {
-                end: End::Error,
-                code: code,
-                made: more,
-                left: 0,
-                wanted: 0,
-            })
-        }
-        Move::Next(change) => {
-            if made.steps == limit {
-                return stop(End::Spent, made, n, 0);
-            }
-            let size = change.size;
-            if size <= cap {
-                let more = counted(made, limit);
-                return Choice::Go(size, more);
-            }
-            stop(End::Full, made, n, size)
-        }
-        Move::Stuck => stop(End::Spent, made, n, 0),
+        Move::Value => stop(End::Value, 0, made, n, 0),
+        Move::Raised(code) => raise(code, made, n, limit),
+        Move::Next(change) => go(change.size, made, n, cap, limit),
+        Move::Stuck => stop(End::Spent, 0, made, n, 0),
     }
 }
 

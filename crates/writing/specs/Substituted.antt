@@ -1,11 +1,9 @@
 -- What substitution on words leaves.
 use Prim.Native.Nat.{ℕ, _+_}
-use mathlib.Core.Bool.{cond}
 use mathlib.Core.List.{List, [], _∷_}
 use mathlib.Core.Path.{_≡_}
-use lib.Dec.{eqb}
 use lib.ListN.{length}
-use Rattle.calculus.specs.Trees.{Ty, Lang, Term}
+use Rattle.calculus.specs.Trees.{Lang, Term}
 use Rattle.calculus.specs.Words.{word, by, words}
 use Rattle.calculus.specs.Kinds.{Sort, type, term, Tree, Trees, putTrees}
 use Rattle.calculus.specs.Reduction.{substitute}
@@ -20,10 +18,6 @@ inTree v d (term l) e = substitute v d e
 abbrev pub inTrees : {m : Lang} → Term m → ℕ → (ss : List Sort) → Trees ss → Trees ss
 inTrees v d [] ts = tt
 inTrees v d (s ∷ ss) ts = (inTree v d s (ts .0), inTrees v d ss (ts .1))
-
--- The word of a variable, as it stands inside a node of the shape: a lambda of either language counts.
-abbrev pub deepened : ℕ → ℕ → ℕ
-deepened shape x = cond (eqb shape 3) (x + 256) x
 
 -- Where the words ws start with so many trees as are due, and x is a variable's word: the words up to the place `read` are theirs, and what is
 -- written is their words with the value for the variable. `at` words are gone by.

@@ -3,13 +3,12 @@
 use crate::copy;
 use crate::put;
 use crate::spans::count;
-use nodes::kinds::Row;
 use nodes::kinds::row_at;
 ghost use mathlib.Core.Path.{_≡_};
 ghost use Prim.Native.Nat.{_+_, _*_, _<_, _≤_, _^_};
 ghost use lib.ListN.{length};
 ghost use Rattle.nodes.specs.Table.{kinds};
-ghost use Rattle.writing.specs.Substituted.{deepened, Substituted};
+ghost use Rattle.writing.specs.Substituted.{Substituted};
 
 // How many words were read, and the place after the words written.
 pub struct Reached {
@@ -17,20 +16,9 @@ pub struct Reached {
     pub at: usize,
 }
 
-// The word of the variable x as it stands inside a node: a lambda of either language counts.
-fn deeper(row: Row, x: u32) -> u32
-    requires { ⌜ x < 4294967040 ⌝ }
-    ensures { λ r. ⌜ r ≡ deepened (row .shape) x ⌝ }
-    ensures bound { λ r. ⌜ r ≤ x + 256 ⌝ }
-{
-    if row.shape == nodes::kinds::LAMBDA {
-        return x + 256;
-    }
-    x
-}
-
 // The first nodes of the words, so many as are due, with the value for the variable whose word is x, from the place n on. `at` words are gone
-// by. The words and the value may have 2^20 words each.
+// by. The words and the value may have 2^20 words each. Inside a lambda of either language the variable's word is another: only there the
+// function calls itself. Where there are fewer words than nodes due, it stops.
 pub fn substitute(
     table: &[u64; 48],
     words: &[u32],
@@ -47,38 +35,36 @@ pub fn substitute(
     ensures bound { λ r. ⌜ (n ≤ r .at) × (r .at + 1048576 * at ≤ n + 1048576 * r .read) ⌝ }
     ensures is { λ r. ⌜ Substituted (now (words .entry)) at due x (now (value .entry)) (now (target .entry)) n (r .read) (r .at) (now (target .exit)) ⌝ }
 {
-    if due == 0 {
-        return Reached { read: at, at: n };
+    let mut left = due;
+    let mut i = 0;
+    let mut k = n;
+    while left != 0 {
+        if words.len() - i < left {
+            return Reached {
+                read: at + i,
+                at: k,
+            };
+        }
+        let w = words[i];
+        i += 1;
+        left -= 1;
+        if w == x {
+            k = copy(value, target, k);
+            continue;
+        }
+        k = put(target, k, w);
+        let row = row_at(table, w);
+        let parts = count(row.parts);
+        if row.shape != nodes::kinds::LAMBDA {
+            left += parts;
+            continue;
+        }
+        let inner = substitute(table, &words[i..], at + i, parts, x + 256, value, target, k);
+        i = inner.read - at;
+        k = inner.at;
     }
-    if words.len() == 0 {
-        return Reached { read: at, at: n };
+    Reached {
+        read: at + i,
+        at: k,
     }
-    let w = words[0];
-    if w == x {
-        let a = copy(value, target, n);
-        return substitute(table, &words[1..], at + 1, due - 1, x, value, target, a);
-    }
-    let a = put(target, n, w);
-    let row = row_at(table, w);
-    let inner = substitute(
-        table,
-        &words[1..],
-        at + 1,
-        count(row.parts),
-        deeper(row, x),
-        value,
-        target,
-        a,
-    );
-    let e = inner.read - at;
-    substitute(
-        table,
-        &words[e..],
-        inner.read,
-        due - 1,
-        x,
-        value,
-        target,
-        inner.at,
-    )
 }

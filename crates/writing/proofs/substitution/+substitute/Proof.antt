@@ -1,227 +1,269 @@
--- `writing::substitution::substitute` meets its contract: each way out is one law of Substituting. The measure is the number of words left.
--- Assumes nothing.
+-- `writing::substitution::substitute` meets its contract: each turn of the loop, and each way out, is one law of Turns. The measure is the number of
+-- words left. Assumes nothing.
 use borrow.Author.Needs.{needs}
 use lib.ListN.{length, getD}
-use mathlib.Core.Path.{sym, ap, _∙_}
-use Prim.Native.Nat.{_+_, _-_}
+use mathlib.Core.Path.{_≡_, refl, sym, ap, _∙_}
+use Prim.Native.Nat.{ℕ, _+_, _-_, _*_, _%_, _≤_, _<_}
 use native.Mathlib.Nat.{pos-of-ne-zero}
 use native.Mathlib.Omega.{arith}
+use Rattle.calculus.specs.Scope.{partCount}
+use Rattle.nodes.specs.Table.{rowOf}
 use Rattle.nodes.specs.Walks.{sortsOf}
 use Rattle.nodes.proofs.Dues.{parts-small}
 use Rattle.nodes.proofs.Lambdas.{part-count}
 use Rattle.nodes.proofs.Ways.{part-length}
-use Rattle.writing.proofs.Substituting.{nothing-due, no-words, replaced, kept}
-use Prim.Native.Nat.{ℕ, _<_}
+use Rattle.writing.proofs.Stores.{wrote-length}
+use Rattle.writing.proofs.Turns.{Begun, begins, ends, breaks, replaces, passes, enters}
 use borrow.Fn.Kinds.{In}
 use borrow.Fn.PlainCycle.{Measures, is, falls, and}
 use Rattle.writing.proofs.substitution.substitute.Reads as substitute
 use Rattle.writing.proofs.substitution.substitute.Kinds as substitute-kinds
-use Rattle.writing.proofs.substitution.+substitute.Lts-substitute as substitute-lts
+use Rattle.writing.proofs.substitution.+substitute.Lts-substitute as lts
 use Rattle.nodes.proofs.kinds.row_at.Reads as row-at-reads
 use Rattle.writing.proofs.copy.Reads as copy-reads
 use Rattle.writing.proofs.put.Reads as put-reads
 use Rattle.writing.proofs.spans.count.Reads as count-reads
-use Rattle.writing.proofs.substitution.deeper.Reads as deeper-reads
 use Rattle.writing.proofs.substitution.+substitute.{statement}
 use Rattle.writing.proofs.substitution.+substitute.Tie.{close}
 
 abbrev μ-substitute : Measures 4 substitute-kinds.ps ℕ
 μ-substitute κs a = length (a .1 .0 .now)
 
-abbrev substitute-at : ℕ → In 4 substitute-kinds.ps
-substitute-at t =
+abbrev here : ℕ → In 4 substitute-kinds.ps
+here t =
     and 4 substitute-kinds.ps (is 4 substitute-kinds.ps μ-substitute t) substitute.Pre
 
-abbrev substitute-below : ℕ → In 4 substitute-kinds.ps
-substitute-below t =
+abbrev below : ℕ → In 4 substitute-kinds.ps
+below t =
     and 4 substitute-kinds.ps (falls 4 substitute-kinds.ps _<_ μ-substitute t) substitute.Pre
 
-abbrev calls : ℕ → substitute-lts.Claims
-calls t = (copy-reads.Asked, copy-reads.Learnt, substitute-below t, substitute.Post, put-reads.Asked, put-reads.Learnt, row-at-reads.Asked, row-at-reads.Learnt, count-reads.Asked, count-reads.Learnt, deeper-reads.Asked, deeper-reads.Learnt)
+abbrev calls : ℕ → lts.Claims
+calls t = (
+  copy-reads.Asked,
+  copy-reads.Learnt,
+  put-reads.Asked,
+  put-reads.Learnt,
+  row-at-reads.Asked,
+  row-at-reads.Learnt,
+  count-reads.Asked,
+  count-reads.Learnt,
+  below t,
+  substitute.Post,
+)
 
-substitute-returns : (t : ℕ) → substitute-lts.Need-returns (calls t) (substitute-at t) substitute.Post
-substitute-returns t c = ((omega arith, omega arith), ((omega arith, omega arith), nothing-due _ _ _ _ _ _ _ (c .if1 .taken)))
+abbrev Inv : lts.InvT-loop
+Inv table words at due x value target₀ n left₀ i₀ k₀ target left i k =
+    (i ≤ length words) × (n ≤ k) × (k ≤ n + 1048576 * i) × (length target ≡ length target₀) × Begun words at due x value target₀ n i left k target
 
-substitute-returns-2 : (t : ℕ) → substitute-lts.Need-returns-2 (calls t) (substitute-at t) substitute.Post
-substitute-returns-2 t c = ((omega arith, omega arith), ((omega arith, omega arith), no-words _ _ _ _ _ _ _ (c .if2 .taken)))
+abbrev μ-loop : lts.MeasureT-loop
+μ-loop table words at due x value target₀ n left₀ i₀ k₀ target left i k = length words - i
 
-substitute-shared-slice-read-w : (t : ℕ) → substitute-lts.Need-shared-slice-read-w (calls t) (substitute-at t) substitute.Post
-substitute-shared-slice-read-w t c = search needs
+-- Where a word that stays is written and its row is read: the loop, the start, and what the row says.
+abbrev Stayed : ℕ → Type 0
+Stayed t = lts.After-struct-known (calls t) (here t) substitute.Post Inv μ-loop
 
-substitute-copy-requires : (t : ℕ) → substitute-lts.Need-copy-requires (calls t) (substitute-at t) substitute.Post
-substitute-copy-requires t c κs = let s = c .before .before .before .before .before .before .before .before in omega (arith, s .pre .1 .1 .0, s .pre .1 .1 .2)
+abbrev looped : {t : ℕ} (c : Stayed t) → lts.At-loop (calls t) (here t) substitute.Post Inv μ-loop
+looped c = c .before .before .before .before .before .before .before .before .before .before .before
 
-substitute-sub-substitute : (t : ℕ) → substitute-lts.Need-sub-substitute (calls t) (substitute-at t) substitute.Post
-substitute-sub-substitute t c = search needs
+abbrev started : {t : ℕ} (c : Stayed t) → lts.Start (calls t) (here t) substitute.Post Inv μ-loop
+started c = looped c .before .before .before .before
 
-substitute-part-substitute-start : (t : ℕ) → substitute-lts.Need-part-substitute-start (calls t) (substitute-at t) substitute.Post
-substitute-part-substitute-start t c = search needs
+counted : {t : ℕ} (c : Stayed t) → c .before .count .result ≡ partCount (getD (started c .args .words .now) (looped c .loop .i) 0)
+counted c =
+    c .before .count .ensures .0
+    ∙ ap (λ r. length (sortsOf (r .parts))) (c .before .before .row-at .ensures)
+    ∙ sym (part-count (getD (started c .args .words .now) (looped c .loop .i) 0))
 
-substitute-part-substitute-end : (t : ℕ) → substitute-lts.Need-part-substitute-end (calls t) (substitute-at t) substitute.Post
-substitute-part-substitute-end t c = search needs
+shaped : {t : ℕ} (c : Stayed t)
+    → c .before .before .row-at .result .shape ≡ rowOf (getD (started c .args .words .now) (looped c .loop .i) 0 % 256) .shape
+shaped c = ap (λ r. r .shape) (c .before .before .row-at .ensures)
 
-substitute-add-substitute : (t : ℕ) → substitute-lts.Need-add-substitute (calls t) (substitute-at t) substitute.Post
-substitute-add-substitute t c = search needs
+abbrev written : {t : ℕ} (c : Stayed t) → lts.After-put (calls t) (here t) substitute.Post Inv μ-loop
+written c = c .before .before .before .before .before
 
-substitute-sub-substitute-2 : (t : ℕ) → substitute-lts.Need-sub-substitute-2 (calls t) (substitute-at t) substitute.Post
-substitute-sub-substitute-2 t c = search needs
+substitute-loop-holds : (t : ℕ) → lts.Need-loop-holds (calls t) (here t) substitute.Post Inv μ-loop
+substitute-loop-holds t c = (omega arith, omega arith, omega arith, refl, begins _ _ _ _ _ _ _)
 
-substitute-substitute-requires : (t : ℕ) → substitute-lts.Need-substitute-requires (calls t) (substitute-at t) substitute.Post
-substitute-substitute-requires t c κs =
-    let s = c .before .before .before .before .before .before .before .before .before .before .before .before .before in
-    let l = part-length (s .args .words .now) 1 in
-    let n = pos-of-ne-zero (c .before .before .before .before .before .before .before .before .if2 .left) in
-    let w = c .before .before .before .before .copy .ensures .place in (
-      omega (arith, l, n, s .pre .0),
-      (
-        (s .pre .1 .0 .0, omega (arith, l, n, s .pre .1 .0 .1)),
-        (s .pre .1 .1 .0, omega (arith, l, s .pre .1 .1 .1), omega (arith, l, n, w, s .pre .1 .1 .0, s .pre .1 .1 .2)),
-      ),
-    )
+substitute-sub-if1 : (t : ℕ) → lts.Need-sub-if1 (calls t) (here t) substitute.Post Inv μ-loop
+substitute-sub-if1 t c = search needs
 
-substitute-same-length : (t : ℕ) → substitute-lts.Need-same-length (calls t) (substitute-at t) substitute.Post
+substitute-add-t19 : (t : ℕ) → lts.Need-add-t19 (calls t) (here t) substitute.Post Inv μ-loop
+substitute-add-t19 t c = search needs
+
+substitute-same-length : (t : ℕ) → lts.Need-same-length (calls t) (here t) substitute.Post Inv μ-loop
 substitute-same-length t c = search needs
 
-substitute-returns-3 : (t : ℕ) → substitute-lts.Need-returns-3 (calls t) (substitute-at t) substitute.Post
-substitute-returns-3 t c =
-    let s = c .before .before .before .before .before .before .before .before .before .before .before .before .before .before .before .before in
-    let l = part-length (s .args .words .now) 1 in
-    let n = pos-of-ne-zero (c .before .before .before .before .before .before .before .before .before .before .before .if2 .left) in
-    let w = c .before .before .before .before .before .before .before .copy .ensures in
-    let r = c .before .before .substitute .ensures in (
-      (omega (arith, r .0 .0), omega (arith, l, n, r .0 .1)),
-      (
-        (omega (arith, w .place, r .1 .0 .0), omega (arith, w .place, s .pre .1 .1 .0, r .1 .0 .1)),
-        replaced _ _ _ _ _ _ _ (c .before .before .before .before .before .before .before .before .before .before .before .before .if1 .left) _ _ _ _ _ (c .before .before .before .before .before .before .before .before .before .if3 .taken) w (r .1 .1),
-      ),
+substitute-returns : (t : ℕ) → lts.Need-returns (calls t) (here t) substitute.Post Inv μ-loop
+substitute-returns t c =
+    let l = c .before .before .loop in
+    let i = l .inv in
+    ((omega arith, omega (arith, i .0)), ((i .1, omega (arith, i .2)), breaks (i .4) (c .if1 .taken)))
+
+substitute-mul-w : (t : ℕ) → lts.Need-mul-w (calls t) (here t) substitute.Post Inv μ-loop
+substitute-mul-w t c = search needs
+
+substitute-shared-slice-read-w : (t : ℕ) → lts.Need-shared-slice-read-w (calls t) (here t) substitute.Post Inv μ-loop
+substitute-shared-slice-read-w t c = search needs
+
+substitute-add-i : (t : ℕ) → lts.Need-add-i (calls t) (here t) substitute.Post Inv μ-loop
+substitute-add-i t c = search needs
+
+substitute-sub-left : (t : ℕ) → lts.Need-sub-left (calls t) (here t) substitute.Post Inv μ-loop
+substitute-sub-left t c = search needs
+
+substitute-copy-requires : (t : ℕ) → lts.Need-copy-requires (calls t) (here t) substitute.Post Inv μ-loop
+substitute-copy-requires t c κs =
+    let s = c .before .before .before .before .before .before .before .before .before in
+    let i = c .before .before .before .before .before .loop .inv in
+    omega (arith, s .pre .1 .1 .0, s .pre .1 .1 .2, i .0, i .2)
+
+substitute-loop-less : (t : ℕ) → lts.Need-loop-less (calls t) (here t) substitute.Post Inv μ-loop
+substitute-loop-less t c = search needs
+
+substitute-loop-again : (t : ℕ) → lts.Need-loop-again (calls t) (here t) substitute.Post Inv μ-loop
+substitute-loop-again t c =
+    let i = c .before .before .before .before .before .before .before .before .loop .inv in
+    let w = c .before .before .copy .ensures in
+    let some = c .before .before .before .before .before .before .before .loop-test .taken in (
+      omega arith,
+      omega (arith, i .1, w .place),
+      omega (arith, i .2, w .place, c .before .before .before .before .before .before .before .before .before .before .before .before .pre .1 .1 .0),
+      wrote-length w ∙ i .3,
+      replaces (i .4) some _ _ (c .before .before .before .before .if2 .taken) w,
     )
 
-substitute-put-requires : (t : ℕ) → substitute-lts.Need-put-requires (calls t) (substitute-at t) substitute.Post
-substitute-put-requires t c κs = let s = c .before .before .before .before .before .before .before .before in omega (arith, s .pre .1 .1 .2)
+substitute-put-requires : (t : ℕ) → lts.Need-put-requires (calls t) (here t) substitute.Post Inv μ-loop
+substitute-put-requires t c κs =
+    let i = c .before .before .before .before .before .loop .inv in
+    omega (arith, c .before .before .before .before .before .before .before .before .before .pre .1 .1 .2, i .0, i .2)
 
-substitute-row-at-requires : (t : ℕ) → substitute-lts.Need-row-at-requires (calls t) (substitute-at t) substitute.Post
+substitute-row-at-requires : (t : ℕ) → lts.Need-row-at-requires (calls t) (here t) substitute.Post Inv μ-loop
 substitute-row-at-requires t c κs = search needs
 
-substitute-sub-substitute-3 : (t : ℕ) → substitute-lts.Need-sub-substitute-3 (calls t) (substitute-at t) substitute.Post
-substitute-sub-substitute-3 t c = search needs
+substitute-count-requires : (t : ℕ) → lts.Need-count-requires (calls t) (here t) substitute.Post Inv μ-loop
+substitute-count-requires t c κs = rw (c .row-at .ensures) (parts-small _)
 
-substitute-part-substitute-start-2 : (t : ℕ) → substitute-lts.Need-part-substitute-start-2 (calls t) (substitute-at t) substitute.Post
-substitute-part-substitute-start-2 t c = search needs
+substitute-add-left : (t : ℕ) → lts.Need-add-left (calls t) (here t) substitute.Post Inv μ-loop
+substitute-add-left t c = search needs
 
-substitute-part-substitute-end-2 : (t : ℕ) → substitute-lts.Need-part-substitute-end-2 (calls t) (substitute-at t) substitute.Post
-substitute-part-substitute-end-2 t c = search needs
+substitute-loop-less-2 : (t : ℕ) → lts.Need-loop-less-2 (calls t) (here t) substitute.Post Inv μ-loop
+substitute-loop-less-2 t c = search needs
 
-substitute-add-substitute-2 : (t : ℕ) → substitute-lts.Need-add-substitute-2 (calls t) (substitute-at t) substitute.Post
+substitute-loop-again-2 : (t : ℕ) → lts.Need-loop-again-2 (calls t) (here t) substitute.Post Inv μ-loop
+substitute-loop-again-2 t c =
+    let p = c .before in
+    let i = looped p .loop .inv in
+    let w = written p .put .ensures in
+    let some = p .before .before .before .before .before .before .before .before .before .before .loop-test .taken in (
+      omega arith,
+      omega (arith, i .1, w .place),
+      omega (arith, i .2, w .place),
+      wrote-length w ∙ i .3,
+      passes (i .4) some _ _ _ _ (p .before .before .before .before .before .before .before .if2 .left) w (counted p) (shaped p) (c .if3 .taken),
+    )
+
+substitute-mul-substitute : (t : ℕ) → lts.Need-mul-substitute (calls t) (here t) substitute.Post Inv μ-loop
+substitute-mul-substitute t c = search needs
+
+substitute-sub-substitute : (t : ℕ) → lts.Need-sub-substitute (calls t) (here t) substitute.Post Inv μ-loop
+substitute-sub-substitute t c = search needs
+
+substitute-part-substitute-start : (t : ℕ) → lts.Need-part-substitute-start (calls t) (here t) substitute.Post Inv μ-loop
+substitute-part-substitute-start t c = search needs
+
+substitute-part-substitute-end : (t : ℕ) → lts.Need-part-substitute-end (calls t) (here t) substitute.Post Inv μ-loop
+substitute-part-substitute-end t c = search needs
+
+substitute-add-substitute : (t : ℕ) → lts.Need-add-substitute (calls t) (here t) substitute.Post Inv μ-loop
+substitute-add-substitute t c = search needs
+
+substitute-add-substitute-2 : (t : ℕ) → lts.Need-add-substitute-2 (calls t) (here t) substitute.Post Inv μ-loop
 substitute-add-substitute-2 t c = search needs
 
-substitute-count-requires : (t : ℕ) → substitute-lts.Need-count-requires (calls t) (substitute-at t) substitute.Post
-substitute-count-requires t c κs = rw (c .before .row-at .ensures) (parts-small _)
-
-substitute-deeper-requires : (t : ℕ) → substitute-lts.Need-deeper-requires (calls t) (substitute-at t) substitute.Post
-substitute-deeper-requires t c κs = let s = c .before .before .before .before .before .before .before .before .before .before .before .before .before .before in omega (arith, s .pre .1 .1 .1)
-
-substitute-substitute-requires-2 : (t : ℕ) → substitute-lts.Need-substitute-requires-2 (calls t) (substitute-at t) substitute.Post
-substitute-substitute-requires-2 t c κs =
-    let s = c .before .before .before .before .before .before .before .before .before .before .before .before .before .before .before .before in
-    let l = part-length (s .args .words .now) 1 in
-    let n = pos-of-ne-zero (c .before .before .before .before .before .before .before .before .before .before .before .if2 .left) in
-    let w = c .before .before .before .before .before .before .before .put .ensures .place in
-    let d = c .before .deeper .ensures .1 in (
-      omega (arith, l, n, s .pre .0),
+substitute-substitute-requires : (t : ℕ) → lts.Need-substitute-requires (calls t) (here t) substitute.Post Inv μ-loop
+substitute-substitute-requires t c κs =
+    let s = started (c .before .before .before) in
+    let l = looped (c .before .before .before) .loop in
+    let w = written (c .before .before .before) .put .ensures .place in
+    let p = part-length (s .args .words .now) (l .i + 1) in (
+      omega (arith, p, s .pre .0),
       (
-        (s .pre .1 .0 .0, omega (arith, l, n, s .pre .1 .0 .1)),
-        (s .pre .1 .1 .0, omega (arith, l, n, d, s .pre .1 .1 .1), omega (arith, l, n, w, s .pre .1 .1 .2)),
+        (s .pre .1 .0 .0, omega (arith, p, s .pre .1 .0 .1)),
+        (s .pre .1 .1 .0, omega (arith, p, s .pre .1 .1 .1), omega (arith, p, w, l .inv .2, s .pre .1 .1 .2)),
       ),
     )
 
-substitute-sub-e : (t : ℕ) → substitute-lts.Need-sub-e (calls t) (substitute-at t) substitute.Post
-substitute-sub-e t c = omega (arith, c .before .before .before .substitute2 .ensures .0 .0)
+substitute-sub-i : (t : ℕ) → lts.Need-sub-i (calls t) (here t) substitute.Post Inv μ-loop
+substitute-sub-i t c = search needs
 
-substitute-mul-substitute : (t : ℕ) → substitute-lts.Need-mul-substitute (calls t) (substitute-at t) substitute.Post
-substitute-mul-substitute t c =
-    let l = part-length (c .before .before .before .before .before .before .before .before .before .before .before .before .before .before .before .before .before .before .before .before .args .words .now) 1 in
-    record { fits = omega (arith, l, c .before .before .before .before .before .before .before .before .before .before .before .before .before .before .before .before .before .before .before .before .good .1 .0 .1, pos-of-ne-zero (c .before .before .before .before .before .before .before .before .before .before .before .before .before .before .before .if2 .left), c .before .before .before .substitute2 .ensures .0) }
+substitute-loop-less-3 : (t : ℕ) → lts.Need-loop-less-3 (calls t) (here t) substitute.Post Inv μ-loop
+substitute-loop-less-3 t c = search needs
 
-substitute-sub-substitute-4 : (t : ℕ) → substitute-lts.Need-sub-substitute-4 (calls t) (substitute-at t) substitute.Post
-substitute-sub-substitute-4 t c = let l = part-length (c .before .before .before .before .before .before .before .before .before .before .before .before .before .before .before .before .before .before .before .before .args .words .now) 1 in omega (arith, l, pos-of-ne-zero (c .before .before .before .before .before .before .before .before .before .before .before .before .before .before .before .if2 .left), c .before .before .before .substitute2 .ensures .0)
-
-substitute-part-substitute-start-3 : (t : ℕ) → substitute-lts.Need-part-substitute-start-3 (calls t) (substitute-at t) substitute.Post
-substitute-part-substitute-start-3 t c = let l = part-length (c .before .before .before .before .before .before .before .before .before .before .before .before .before .before .before .before .before .before .before .before .args .words .now) 1 in omega (arith, l, pos-of-ne-zero (c .before .before .before .before .before .before .before .before .before .before .before .before .before .before .before .if2 .left), c .before .before .before .substitute2 .ensures .0)
-
-substitute-part-substitute-end-3 : (t : ℕ) → substitute-lts.Need-part-substitute-end-3 (calls t) (substitute-at t) substitute.Post
-substitute-part-substitute-end-3 t c = search needs
-
-substitute-sub-substitute-5 : (t : ℕ) → substitute-lts.Need-sub-substitute-5 (calls t) (substitute-at t) substitute.Post
-substitute-sub-substitute-5 t c = search needs
-
-substitute-substitute-requires-3 : (t : ℕ) → substitute-lts.Need-substitute-requires-3 (calls t) (substitute-at t) substitute.Post
-substitute-substitute-requires-3 t c κs =
-    let s = c .before .before .before .before .before .before .before .before .before .before .before .before .before .before .before .before .before .before .before .before .before .before in
-    let r = c .before .before .before .before .before .substitute2 in
-    let l = part-length (s .args .words .now) 1 in
-    let m = part-length (s .args .words .now) (r .result .read - s .args .at) in
-    let n = pos-of-ne-zero (c .before .before .before .before .before .before .before .before .before .before .before .before .before .before .before .before .before .if2 .left) in
-    let w = c .before .before .before .before .before .before .before .before .before .before .before .before .before .put .ensures .place in (
-      omega (arith, m, r .ensures .0, n, s .pre .0),
-      (
-        (s .pre .1 .0 .0, omega (arith, l, m, n, r .ensures .0, s .pre .1 .0 .1)),
-        (s .pre .1 .1 .0, omega (arith, m, s .pre .1 .1 .1), omega (arith, l, m, n, w, r .ensures .0, r .ensures .1 .0, s .pre .1 .1 .2)),
-      ),
+substitute-loop-again-3 : (t : ℕ) → lts.Need-loop-again-3 (calls t) (here t) substitute.Post Inv μ-loop
+substitute-loop-again-3 t c =
+    let p = c .before .before .before .before .before .before .before in
+    let l = looped p .loop in
+    let i = l .inv in
+    let w = written p .put .ensures in
+    let r = c .before .before .before .substitute .ensures in
+    let rest = part-length (started p .args .words .now) (l .i + 1) in
+    let some = p .before .before .before .before .before .before .before .before .before .before .loop-test .taken in
+    let enough = p .before .before .before .before .before .before .before .before .before .if1 .left in
+    let other = p .before .before .before .before .before .before .before .if2 .left in
+    let lambda = c .before .before .before .before .before .before .if3 .left in (
+      omega (arith, rest, r .0, enough, pos-of-ne-zero some),
+      omega (arith, i .1, w .place, r .1 .0),
+      omega (arith, i .2, w .place, r .0, r .1 .0),
+      search needs,
+      enters (i .4) some _ _ _ _ other w (counted p) (shaped p) _ _ _ lambda (omega (arith, r .0)) (r .1 .1),
     )
 
-substitute-same-length-2 : (t : ℕ) → substitute-lts.Need-same-length-2 (calls t) (substitute-at t) substitute.Post
+substitute-add-t32 : (t : ℕ) → lts.Need-add-t32 (calls t) (here t) substitute.Post Inv μ-loop
+substitute-add-t32 t c = search needs
+
+substitute-same-length-2 : (t : ℕ) → lts.Need-same-length-2 (calls t) (here t) substitute.Post Inv μ-loop
 substitute-same-length-2 t c = search needs
 
-substitute-returns-4 : (t : ℕ) → substitute-lts.Need-returns-4 (calls t) (substitute-at t) substitute.Post
-substitute-returns-4 t c =
-    let s = c .before .before .before .before .before .before .before .before .before .before .before .before .before .before .before .before .before .before .before .before .before .before .before .before .before in
-    let ws = s .args .words .now in
-    let p = c .before .before .before .before .before .before .before .before .substitute2 in
-    let r = c .before .before .substitute3 .ensures in
-    let l = part-length ws 1 in
-    let m = part-length ws (p .result .read - s .args .at) in
-    let n = pos-of-ne-zero (c .before .before .before .before .before .before .before .before .before .before .before .before .before .before .before .before .before .before .before .before .if2 .left) in
-    let w = c .before .before .before .before .before .before .before .before .before .before .before .before .before .before .before .before .put .ensures in
-    let row = c .before .before .before .before .before .before .before .before .before .before .before .before .before .row-at .ensures in (
-      (omega (arith, p .ensures .0, r .0 .0), omega (arith, l, m, n, p .ensures .0, r .0 .1)),
-      (
-        (omega (arith, w .place, p .ensures .1 .0, r .1 .0 .0), omega (arith, w .place, p .ensures .1 .0, r .1 .0 .1)),
-        kept _ _ _ _ _ _ _ (c .before .before .before .before .before .before .before .before .before .before .before .before .before .before .before .before .before .before .before .before .before .if1 .left) _ _ _ _ _ _ _ _ _ _ _ (c .before .before .before .before .before .before .before .before .before .before .before .before .before .before .before .before .before .before .if3 .left) w
-            (c .before .before .before .before .before .before .before .before .before .before .before .count .ensures .0 ∙ ap (λ r. length (sortsOf (r .parts))) row ∙ sym (part-count (getD ws 0 0)))
-            (ap (λ r. r .shape) row) (c .before .before .before .before .before .before .before .before .before .before .deeper .ensures .0) (p .ensures .1 .1) (r .1 .1),
-      ),
-    )
+substitute-returns-2 : (t : ℕ) → lts.Need-returns-2 (calls t) (here t) substitute.Post Inv μ-loop
+substitute-returns-2 t c =
+    let l = c .before .loop in
+    let i = l .inv in
+    ((omega arith, omega (arith, i .0)), ((i .1, omega (arith, i .2)), ends (i .4) (c .loop-test .left)))
 
 pub +substitute-spec : {M : Type 1} → statement M
-+substitute-spec = close μ-substitute λ t. substitute-lts.spec (calls t) (substitute-at t)
++substitute-spec = close μ-substitute λ t. lts.spec (calls t)
+    (here t)
     substitute.Post
+    Inv
+    μ-loop
+    (substitute-loop-holds t)
+    (substitute-sub-if1 t)
+    (substitute-add-t19 t)
+    (substitute-same-length t)
     (substitute-returns t)
-    (substitute-returns-2 t)
+    (substitute-mul-w t)
     (substitute-shared-slice-read-w t)
+    (substitute-add-i t)
+    (substitute-sub-left t)
     (substitute-copy-requires t)
+    (substitute-loop-less t)
+    (substitute-loop-again t)
+    (substitute-put-requires t)
+    (substitute-row-at-requires t)
+    (substitute-count-requires t)
+    (substitute-add-left t)
+    (substitute-loop-less-2 t)
+    (substitute-loop-again-2 t)
+    (substitute-mul-substitute t)
     (substitute-sub-substitute t)
     (substitute-part-substitute-start t)
     (substitute-part-substitute-end t)
     (substitute-add-substitute t)
-    (substitute-sub-substitute-2 t)
-    (substitute-substitute-requires t)
-    (substitute-same-length t)
-    (substitute-returns-3 t)
-    (substitute-put-requires t)
-    (substitute-row-at-requires t)
-    (substitute-sub-substitute-3 t)
-    (substitute-part-substitute-start-2 t)
-    (substitute-part-substitute-end-2 t)
     (substitute-add-substitute-2 t)
-    (substitute-count-requires t)
-    (substitute-deeper-requires t)
-    (substitute-substitute-requires-2 t)
-    (substitute-sub-e t)
-    (substitute-mul-substitute t)
-    (substitute-sub-substitute-4 t)
-    (substitute-part-substitute-start-3 t)
-    (substitute-part-substitute-end-3 t)
-    (substitute-sub-substitute-5 t)
-    (substitute-substitute-requires-3 t)
+    (substitute-substitute-requires t)
+    (substitute-sub-i t)
+    (substitute-loop-less-3 t)
+    (substitute-loop-again-3 t)
+    (substitute-add-t32 t)
     (substitute-same-length-2 t)
-    (substitute-returns-4 t)
+    (substitute-returns-2 t)

@@ -1,0 +1,34 @@
+-- `engine::ends::go` meets its contract. Assumes nothing.
+use borrow.Author.Needs.{needs}
+use borrow.Author.Tests.{eq-eqb, ne-eqb, le-leb, lt-leb}
+use mathlib.Core.Path.{sym, ap}
+use Rattle.engine.specs.declared.ends.Choice.the-variants.{Go}
+use Rattle.engine.proofs.ends.go.Statement.{statement}
+use Rattle.engine.proofs.ends.go.Tie as tie
+
+stop-requires : tie.Need-stop-requires
+stop-requires c κs = search needs
+
+returns : tie.Need-returns
+returns c = let a = c .before .before .before .args in rw (eq-eqb (a .made .steps) (a .limit) (sym (c .before .if1 .taken))) (c .stop .ensures)
+
+counted-requires : tie.Need-counted-requires
+counted-requires c κs = search needs
+
+returns-2 : tie.Need-returns-2
+returns-2 c =
+    let a = c .before .before .before .before .args in
+    rw (ne-eqb (a .made .steps) (a .limit) (λ e. c .before .before .if1 .left (sym e)), le-leb (a .size) (a .cap) (c .before .if2 .taken))
+    (ap (Go (a .size)) (c .counted .ensures))
+
+stop-requires-2 : tie.Need-stop-requires-2
+stop-requires-2 c κs = search needs
+
+returns-3 : tie.Need-returns-3
+returns-3 c =
+    let a = c .before .before .before .before .args in
+    rw (ne-eqb (a .made .steps) (a .limit) (λ e. c .before .before .if1 .left (sym e)), lt-leb (a .size) (a .cap) (c .before .if2 .left))
+    (c .stop2 .ensures)
+
+pub go-spec : {M : Type 1} → statement M
+go-spec = tie.close (tie.spec stop-requires returns counted-requires returns-2 stop-requires-2 returns-3)
