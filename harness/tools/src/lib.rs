@@ -11,3 +11,4 @@ pub mod progress;
 pub mod random;
 pub mod recipe;
 pub mod shrink;
+pub mod stand_in;

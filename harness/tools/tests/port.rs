@@ -1,11 +1,11 @@
 //! The port of the engine's algorithm agrees with the model's reducer: end, code, steps, words left and wanted, and both
 //! buffers.
 
-use model::{on_large_stack, run};
+use model::on_large_stack;
 use std::path::{Path, PathBuf};
 use tools::compare::{compare_run, missing, Plan};
-use tools::engine::RecipeRun;
-use tools::port;
+use tools::engine::{RecipeRun, Run};
+use tools::{port, stand_in};
 
 /// The files of document 01's recipes and refusals.
 fn recipes() -> Vec<PathBuf> {
@@ -15,28 +15,11 @@ fn recipes() -> Vec<PathBuf> {
     paths.filter(|path| path.extension().is_some_and(|ending| ending == "bin")).collect()
 }
 
-/// The port's run with buffers that held other words before.
-fn ported(file: &[u8], limit: u32, first: usize, second: usize) -> (RecipeRun, Vec<u32>, Vec<u32>) {
+/// A run's answer and both buffers, which held other words before.
+fn seen(run: Run, file: &[u8], limit: u32, first: usize, second: usize) -> (RecipeRun, Vec<u32>, Vec<u32>) {
     let (mut first, mut second) = (vec![7; first], vec![9; second]);
-    let result = port::run(file, limit, &mut first, &mut second);
+    let result = run(file, limit, &mut first, &mut second);
     (result, first, second)
-}
-
-/// The model's run, told in the same way.
-fn modelled(file: &[u8], limit: u32, first: usize, second: usize) -> (RecipeRun, Vec<u32>, Vec<u32>) {
-    let ran = run(file, limit, first, second);
-    let result = match ran.result {
-        Err(refusal) => RecipeRun { refusal: refusal.number, place: refusal.place, ..RecipeRun::default() },
-        Ok(e) => RecipeRun {
-            end: e.end as u32,
-            code: e.code,
-            steps: e.steps,
-            left: e.left,
-            wanted: e.wanted,
-            ..Default::default()
-        },
-    };
-    (result, ran.first, ran.second)
 }
 
 #[test]
@@ -48,7 +31,7 @@ fn the_recipes_of_document_01() {
         for limit in (0..8).chain([10_000]) {
             for words in (0..16).chain([4_096]) {
                 for (first, second) in [(words, words), (words, words + 3), (words + 5, words)] {
-                    let (port, model) = (ported(&file, limit, first, second), modelled(&file, limit, first, second));
+                    let [port, model] = [port::run, stand_in::run].map(|run| seen(run, &file, limit, first, second));
                     assert!(port == model, "{}, limit {limit}, {first} and {second} words", path.display());
                 }
             }

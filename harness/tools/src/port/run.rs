@@ -2,22 +2,18 @@
 
 use super::reduce::{capacity, reduce};
 use crate::engine::RecipeRun;
+use crate::stand_in::told;
 use model::file::{regions, words_of};
 use model::{check, Ended, Refusal};
 
 /// A run of a file in two lent buffers.
 pub fn run(file: &[u8], limit: u32, first: &mut [u32], second: &mut [u32]) -> RecipeRun {
     let ran = accepted(file).and_then(|term| run_term(&term, limit, first, second));
-    match ran {
-        Ok(Ended { end, code, steps, left, wanted }) => {
-            RecipeRun { refusal: 0, place: 0, end: end as u32, code, steps, left, wanted }
-        }
-        Err(refusal) => {
-            first.fill(0);
-            second.fill(0);
-            RecipeRun { refusal: refusal.number, place: refusal.place, ..RecipeRun::default() }
-        }
+    if ran.is_err() {
+        first.fill(0);
+        second.fill(0);
     }
+    told(&ran)
 }
 
 /// A run of an accepted file's term, or refusal 8.

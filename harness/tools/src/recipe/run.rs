@@ -2,9 +2,10 @@
 
 use super::explain::explain;
 use super::input::{read_input, Input};
-use super::{without, Command, Failure, Outcome};
+use super::{without, Command, Desk, Failure, Outcome};
 use crate::args::Args;
-use crate::engine::{linked_run, RecipeRun, Run};
+use crate::engine::{RecipeRun, Run};
+use model::check::read_recipe;
 use model::node::Node;
 use model::read::read_ml;
 use model::text::pretty;
@@ -27,8 +28,9 @@ pub struct Lent {
 }
 
 impl Lent {
-    pub fn new(args: &mut Args) -> Result<Lent, Failure> {
-        let engine = linked_run().ok_or(without("run"))?;
+    /// The engine, and the capacity that the command asks for.
+    pub fn new(args: &mut Args, desk: &Desk<'_>) -> Result<Lent, Failure> {
+        let engine = desk.engine.run.ok_or(without("run"))?;
         let capacity = args.number("--words", 4_096)? as usize;
         Ok(Lent { engine, capacity: capacity.min(1 << 20) })
     }
@@ -39,20 +41,27 @@ impl Lent {
         let result = (self.engine)(&input.bytes, limit, &mut first, &mut second);
         if result.refusal != 0 {
             let refusal = Refusal::new(result.refusal, result.place as usize);
-            return Err(Failure::Refused(explain(input, &refusal)));
+            let lent = if result.refusal == 8 { too_large(input, self.capacity) } else { String::new() };
+            return Err(Failure::Refused(explain(input, &refusal) + &lent));
         }
         first.truncate(result.left as usize);
         Ok((result, first))
     }
 }
 
-fn run(mut args: Args) -> Outcome {
-    let lent = Lent::new(&mut args)?;
+fn run(mut args: Args, desk: &mut Desk<'_>) -> Outcome {
+    let lent = Lent::new(&mut args, desk)?;
     let limit = args.number("--limit", 1_000_000)?;
-    let input = read_input(&mut args)?;
+    let input = read_input(&mut args, desk)?;
     args.finish()?;
     let (result, words) = lent.run(&input, steps(limit)?)?;
-    Ok(format!("{}\n{}", ended(&result), left(&words)?).into_bytes())
+    Ok(write!(desk.output, "{}\n{}", ended(&result), left(&words)?)?)
+}
+
+/// How many words a refused term has, and how many were lent.
+fn too_large(input: &Input, capacity: usize) -> String {
+    let term = read_recipe(&input.bytes, usize::MAX).map_or(0, |recipe| Node::Ml(&recipe.term).size());
+    format!("  the term has {}, the buffers {}\n", count(term as u32, "word"), count(capacity as u32, "word"))
 }
 
 /// A number of steps.
