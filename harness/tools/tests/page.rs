@@ -4,6 +4,7 @@
 //! `recipe` with its output put into a file or its input from `echo`, `cat` and `echo $?`. With the feature `run` the
 //! program is run with the engine in it, else what it is made of with the model in the engine's place.
 
+mod common;
 use model::rules::{Rule, RuleCounts};
 use model::{on_large_stack, run};
 use std::path::{Path, PathBuf};
@@ -66,13 +67,7 @@ fn recipe(words: &[&str], input: &str) -> (u8, Vec<u8>, String) {
 /// The program's parts with the model in the engine's place.
 #[cfg(not(feature = "run"))]
 fn recipe(words: &[&str], input: &str) -> (u8, Vec<u8>, String) {
-    use tools::recipe::{program, Desk, Engine};
-    use tools::stand_in;
-    let engine = Engine { check: Some(stand_in::check), run: Some(stand_in::run) };
-    let (mut output, mut errors) = (Vec::new(), Vec::new());
-    let mut desk = Desk { engine, input: &mut input.as_bytes(), output: &mut output };
-    let status = program(words.iter().map(|word| word.to_string()).collect(), &mut desk, &mut errors);
-    (status, output, String::from_utf8(errors).expect("text"))
+    common::typed(words, input.as_bytes())
 }
 
 /// Does what the command says; the status of the last recipe is kept. Answers with what is printed.

@@ -8,5 +8,6 @@ use tools::recipe::{program, Desk, Engine};
 fn main() -> ExitCode {
     let (mut input, mut output) = (stdin(), BufWriter::new(stdout()));
     let mut desk = Desk { engine: Engine::linked(), input: &mut input, output: &mut output };
-    ExitCode::from(program(std::env::args().skip(1).collect(), &mut desk, &mut stderr()))
+    let words = std::env::args_os().skip(1).map(|word| word.to_string_lossy().into_owned()).collect();
+    ExitCode::from(program(words, &mut desk, &mut stderr()))
 }

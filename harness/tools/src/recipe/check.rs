@@ -16,10 +16,9 @@ sentence, and where it has a place, that is shown: in double brackets in the ter
 standard input where no FILE is named. Status 0: accepted; 1: refused.
 ";
 
-fn check(mut args: Args, desk: &mut Desk<'_>) -> Outcome {
+fn check(args: Args, desk: &mut Desk<'_>) -> Outcome {
     let engine = desk.engine.check.ok_or(without("check"))?;
-    let input = read_input(&mut args, desk)?;
-    args.finish()?;
+    let input = read_input(args, desk)?;
     match engine(&input.bytes) {
         0 => Ok(desk.output.write_all(b"accepted\n")?),
         answer => {

@@ -11,9 +11,11 @@ pub struct Input {
     pub text: Option<Parsed>,
 }
 
-/// Reads the file named next, or standard input where none or `-` is named.
-pub fn read_bytes(args: &mut Args, desk: &mut Desk<'_>) -> Result<Vec<u8>, String> {
-    match args.word() {
+/// Reads the file that is named, or standard input where none or `-` is. Nothing else may be left of the command.
+pub fn read_bytes(mut args: Args, desk: &mut Desk<'_>) -> Result<Vec<u8>, String> {
+    let name = args.word();
+    args.finish()?;
+    match name {
         Some(name) if name != "-" => std::fs::read(&name).map_err(|fault| format!("cannot read {name}: {fault}")),
         _ => {
             let mut bytes = Vec::new();
@@ -25,7 +27,7 @@ pub fn read_bytes(args: &mut Args, desk: &mut Desk<'_>) -> Result<Vec<u8>, Strin
 }
 
 /// Reads a recipe file, or a text that is made into one. A text holds no zero byte; a file's first count always does.
-pub fn read_input(args: &mut Args, desk: &mut Desk<'_>) -> Result<Input, String> {
+pub fn read_input(args: Args, desk: &mut Desk<'_>) -> Result<Input, String> {
     let bytes = read_bytes(args, desk)?;
     match std::str::from_utf8(&bytes) {
         Ok(text) if !text.is_empty() && !bytes.contains(&0) => {

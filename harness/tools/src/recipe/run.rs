@@ -51,10 +51,9 @@ impl Lent {
 
 fn run(mut args: Args, desk: &mut Desk<'_>) -> Outcome {
     let lent = Lent::new(&mut args, desk)?;
-    let limit = args.number("--limit", 1_000_000)?;
-    let input = read_input(&mut args, desk)?;
-    args.finish()?;
-    let (result, words) = lent.run(&input, steps(limit)?)?;
+    let limit = steps(args.number("--limit", 1_000_000)?)?;
+    let input = read_input(args, desk)?;
+    let (result, words) = lent.run(&input, limit)?;
     Ok(write!(desk.output, "{}\n{}", ended(&result), left(&words)?)?)
 }
 

@@ -18,9 +18,8 @@ Writes a recipe file as text, from which `recipe make` makes the same file again
 named. Of a file whose words are not in order it says on standard error what is wrong and where; status 1.
 ";
 
-fn show(mut args: Args, desk: &mut Desk<'_>) -> Outcome {
-    let input = read_input(&mut args, desk)?;
-    args.finish()?;
+fn show(args: Args, desk: &mut Desk<'_>) -> Outcome {
+    let input = read_input(args, desk)?;
     match read_recipe(&input.bytes, usize::MAX) {
         Ok(recipe) => Ok(desk.output.write_all(text(&recipe).as_bytes())?),
         Err(refusal) => Err(Failure::Refused(explain(&input, &refusal))),

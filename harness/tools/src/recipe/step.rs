@@ -2,7 +2,7 @@
 
 use super::input::read_input;
 use super::run::{count, ended, steps, term, Lent};
-use super::{Command, Desk, Outcome};
+use super::{Command, Desk, Failure, Outcome};
 use crate::args::Args;
 use model::node::Node;
 use model::step::{step as next_step, turn, Step};
@@ -15,16 +15,22 @@ pub const COMMAND: Command = Command { name: "step", help: HELP, work: step };
 const HELP: &str = "\
 usage: recipe step [FILE] [--from STEP] [--to STEP] [--words CAPACITY]
 
-Shows the term at each step of a run, from step 0 to the end or to step 1000, with two buffers of 4,096 words: how many
-words it has, the node whose turn it is in double brackets, and the rule that comes next. Reads standard input where no
-FILE is named. Status 0: shown; 1: refused.
+Shows the term at each step of a run, with two buffers of 4,096 words: how many words it has, the node whose turn it is
+in double brackets, and the rule that comes next. It starts at step 0 or --from, and stops at the run's end, at --to, or
+after 1,000 steps. Reads standard input where no FILE is named. Status 0: shown; 1: refused.
 ";
+
+/// Steps shown where none is named to stop at.
+const SHOWN: u32 = 1_000;
 
 fn step(mut args: Args, desk: &mut Desk<'_>) -> Outcome {
     let lent = Lent::new(&mut args, desk)?;
-    let (from, to) = (steps(args.number("--from", 0)?)?, steps(args.number("--to", 1_000)?)?);
-    let input = read_input(&mut args, desk)?;
-    args.finish()?;
+    let from = steps(args.number("--from", 0)?)?;
+    let to = steps(args.number("--to", u64::from(from.saturating_add(SHOWN)))?)?;
+    if to < from {
+        return Err(Failure::Other(format!("--to {to} comes before --from {from}")));
+    }
+    let input = read_input(args, desk)?;
     for limit in from..=to {
         let (result, words) = lent.run(&input, limit)?;
         if result.end <= 1 {
