@@ -1,7 +1,6 @@
 //! The recipes of the benchmarks, as texts.
 
-use model::file::file;
-use model::text::parse_recipe;
+use crate::make::{file_of_text, sum};
 
 /// A recipe to measure: its name in a table, and its file.
 pub struct Recipe {
@@ -11,8 +10,7 @@ pub struct Recipe {
 
 /// The recipe of a text.
 fn recipe(name: impl Into<String>, text: &str) -> Recipe {
-    let parsed = parse_recipe(text).expect("the benchmarks' texts are recipes");
-    Recipe { name: name.into(), file: file(&parsed.declared, &parsed.term) }
+    Recipe { name: name.into(), file: file_of_text(text) }
 }
 
 /// The recipes whose runs are measured; a name has at most 24 letters.
@@ -86,10 +84,7 @@ fn curve(rows: usize, elements: usize) -> String {
 
 /// A balanced tree of sums with so many leaves.
 fn sums(leaves: usize) -> String {
-    match leaves {
-        0 | 1 => "1".into(),
-        _ => format!("(add {} {})", sums(leaves / 2), sums(leaves - leaves / 2)),
-    }
+    sum(&vec!["1".to_string(); leaves])
 }
 
 /// The same opened so many times around an inner term.

@@ -10,6 +10,7 @@ use crate::stand_in::told;
 use model::run;
 use std::fmt::Write;
 
+/// A run: its file, its limit, and the lengths of its two buffers.
 #[derive(Clone)]
 pub struct Case {
     pub file: Vec<u8>,
