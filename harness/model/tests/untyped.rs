@@ -5,6 +5,7 @@ use common::*;
 use model::read::read_ml;
 use model::untyped::untyped;
 
+/// The words before the node that is named.
 fn place(words: &[u32]) -> Option<usize> {
     untyped(&read_ml(words, 0, usize::MAX).expect("words in order"))
 }

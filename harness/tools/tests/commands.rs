@@ -8,6 +8,7 @@ use std::io::{Error, ErrorKind, Write};
 use tools::make::{damaged_file, edges, well_typed_file};
 use tools::random::Random;
 
+/// Document 01's wrapped function, applied.
 const WRAPPED: &[u8] = b"N (app (ms (N to N) (fn v0)) 7)";
 
 /// "(ms (N to N) (fn v0)) applied to 7: value 7, 5 steps", and the largest term has 12 words.

@@ -13,15 +13,18 @@ struct Answered {
 }
 
 impl Answered {
+    /// The shorter length, at most 16,384.
     fn capacity(&self) -> usize {
         self.case.first.min(self.case.second).min(MOST_WORDS)
     }
 
+    /// The answer, if it is this end.
     fn ended(&self, end: End) -> Option<Ended> {
         self.result.ok().filter(|ended| ended.end == end)
     }
 }
 
+/// The model's answers to the cases.
 fn answered(cases: Vec<Case>) -> Vec<Answered> {
     let answer = |case: Case| Answered { result: run(&case.file, case.limit, case.first, case.second).result, case };
     on_large_stack(|| cases.into_iter().map(answer).collect())

@@ -16,14 +16,17 @@ struct Example {
     printed: String,
 }
 
+/// The top of the repository.
 fn top() -> PathBuf {
     Path::new(env!("CARGO_MANIFEST_DIR")).join("../..")
 }
 
+/// The page's text.
 fn page() -> String {
     std::fs::read_to_string(top().join("docs/RECIPES.md")).expect("the page")
 }
 
+/// The commands of all blocks that are marked.
 fn examples(page: &str) -> Vec<Example> {
     let mut found: Vec<Example> = Vec::new();
     let mut inside = false;

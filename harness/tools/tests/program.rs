@@ -3,6 +3,7 @@
 use std::io::Write;
 use std::process::{Child, Command, Output, Stdio};
 
+/// The program, started with pipes.
 fn start(args: &[&str]) -> Child {
     Command::new(env!("CARGO_BIN_EXE_recipe"))
         .args(args)
@@ -13,6 +14,7 @@ fn start(args: &[&str]) -> Child {
         .expect("the program starts")
 }
 
+/// The program's output for an input.
 fn recipe(args: &[&str], input: &[u8]) -> Output {
     let mut child = start(args);
     // A program that needs no input may have ended before it is written.
@@ -20,12 +22,14 @@ fn recipe(args: &[&str], input: &[u8]) -> Output {
     child.wait_with_output().expect("the program ends")
 }
 
+/// Its status, what it prints, and what it says on standard error.
 fn seen(args: &[&str], input: &[u8]) -> (i32, String, String) {
     let output = recipe(args, input);
     let text = |bytes: &[u8]| String::from_utf8_lossy(bytes).into_owned();
     (output.status.code().unwrap_or(-1), text(&output.stdout), text(&output.stderr))
 }
 
+/// The file of words.
 fn words(words: &[u32]) -> Vec<u8> {
     model::file::bytes_of(words)
 }

@@ -7,10 +7,13 @@ use super::works::measured;
 /// Rows of the list that stands four times in the term: terms of some 200 to 16,000 words.
 const SIZES: [usize; 5] = [2, 10, 43, 87, 173];
 
-/// The step that puts the list into the term, and the steps measured after it.
+/// The step that puts the list into the term.
 const BEFORE: u32 = 1;
+
+/// Steps measured after it.
 const STEPS_MEASURED: u32 = 200;
 
+/// What is measured here.
 const ABOUT: &str = "\
 A node that spins, (fix (fn t v0)), in a term of more and more words: a step leaves the term as it was. A first step,
 which is not measured, puts a list into the term at four places, since a file holds no more than 4,096 words.";

@@ -2,8 +2,10 @@
 
 use std::time::{Duration, Instant};
 
-/// Rounds in which every work is timed once, and the least time that a round gives to each.
+/// Rounds in which every work is timed once.
 const ROUNDS: usize = 11;
+
+/// The least time that a round gives to each.
 const ROUND: Duration = Duration::from_millis(12);
 
 /// Something to do again and again.

@@ -61,12 +61,14 @@ fn lent(sizes: &[usize], file_words: usize) -> usize {
     needed.next_multiple_of(64).min(MOST_WORDS)
 }
 
+/// The run by the model's reducer.
 fn on_trees(term: &Rc<Ml>, limit: u32) -> Work<'_> {
     Box::new(move || {
         black_box(reduce(term.clone(), limit, MOST_WORDS, &mut RuleCounts::default()));
     })
 }
 
+/// The run by the engine, the file read and checked each time.
 fn by_engine(engine: Run, file: &[u8], limit: u32, lent: usize) -> Work<'_> {
     let (mut first, mut second) = (vec![0; lent], vec![0; lent]);
     Box::new(move || {
@@ -74,6 +76,7 @@ fn by_engine(engine: Run, file: &[u8], limit: u32, lent: usize) -> Work<'_> {
     })
 }
 
+/// The run by the port, from the words of the term.
 fn by_port(file: &[u8], limit: u32, lent: usize) -> Work<'_> {
     let words = words_of(file).expect("an accepted file has words");
     let term = regions(&words).expect("an accepted file has a header").term.to_vec();

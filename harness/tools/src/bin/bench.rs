@@ -5,6 +5,7 @@ use model::on_large_stack;
 use std::process::ExitCode;
 use tools::args::Args;
 use tools::bench::{Part, ABOUT, PARTS};
+use tools::output::say;
 
 const HELP: &str = "\
 usage: bench [check | run | growth]
@@ -18,7 +19,7 @@ All three where none is named. Build with --release and --features run; without 
 fn main() -> ExitCode {
     let mut args = Args::new(std::env::args().skip(1));
     if args.flag("--help") {
-        print!("{HELP}");
+        say(HELP.trim_end());
         return ExitCode::SUCCESS;
     }
     let name = args.word();
@@ -37,8 +38,8 @@ fn print_parts(parts: &[&Part]) {
     let mut abouts = vec![ABOUT];
     abouts.extend(parts.iter().map(|part| part.about));
     abouts.dedup();
-    println!("{}", abouts.concat());
+    say(abouts.concat());
     for part in parts {
-        println!("{}\n", on_large_stack(part.tables).join("\n"));
+        say(on_large_stack(part.tables).join("\n") + "\n");
     }
 }

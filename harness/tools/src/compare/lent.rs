@@ -42,6 +42,7 @@ pub fn small_buffers() -> Vec<Case> {
 /// A first step to a term of just as many words as the largest capacity has, and to one word more, in buffers that are
 /// just as long, a word shorter, and longer.
 pub fn largest_capacity() -> Vec<Case> {
+    /// Longer than any run uses.
     const LONGER: usize = MOST_WORDS + 3_000;
     let lengths = [MOST_WORDS - 1, MOST_WORDS, MOST_WORDS + 1, LONGER];
     let pairs = lengths.into_iter().flat_map(|length| [(length, length), (length, LONGER), (LONGER, length)]);

@@ -16,6 +16,7 @@ sentence, and where it has a place, that is shown: in double brackets in the ter
 standard input where no FILE is named. Status 0: accepted; 1: refused.
 ";
 
+/// The engine's answer in words.
 fn check(args: Args, desk: &mut Desk<'_>) -> Outcome {
     let engine = desk.engine.check.ok_or(without("check"))?;
     let input = read_input(args, desk)?;

@@ -23,6 +23,7 @@ lambda and application may be written for fn and app; a comment runs from ; to t
 Example: printf 'N (add 2 3)' | recipe make > add.bin
 ";
 
+/// The file of a text.
 fn make(args: Args, desk: &mut Desk<'_>) -> Outcome {
     let text = read_bytes(args, desk)?;
     Ok(desk.output.write_all(&made(&text)?)?)

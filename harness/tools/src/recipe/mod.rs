@@ -72,6 +72,7 @@ pub struct Command {
     pub work: fn(Args, &mut Desk<'_>) -> Outcome,
 }
 
+/// All commands.
 pub const COMMANDS: [Command; 5] = [make::COMMAND, show::COMMAND, check::COMMAND, run::COMMAND, step::COMMAND];
 
 /// The failure of a command that needs the engine in a program built without it.

@@ -47,6 +47,7 @@ fn work(command: &Command, args: Args, desk: &mut Desk<'_>) -> Outcome {
     })
 }
 
+/// Prints a text whole.
 fn print(desk: &mut Desk<'_>, text: &str) -> Outcome {
     desk.output.write_all(text.as_bytes())?;
     Ok(desk.output.flush()?)

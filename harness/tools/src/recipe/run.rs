@@ -49,6 +49,7 @@ impl Lent {
     }
 }
 
+/// The end of a run and the term left.
 fn run(mut args: Args, desk: &mut Desk<'_>) -> Outcome {
     let lent = Lent::new(&mut args, desk)?;
     let limit = steps(args.number("--limit", 1_000_000)?)?;
@@ -80,6 +81,7 @@ pub fn ended(result: &RecipeRun) -> String {
     }
 }
 
+/// What the rules mean by a code.
 fn meaning(code: u32) -> &'static str {
     match code {
         1 => ": no number, or the recipe's own code",
@@ -91,6 +93,7 @@ fn meaning(code: u32) -> &'static str {
     }
 }
 
+/// A number of things.
 pub fn count(number: u32, what: &str) -> String {
     format!("{number} {what}{}", if number == 1 { "" } else { "s" })
 }
@@ -101,6 +104,7 @@ pub fn term(words: &[u32]) -> Result<Rc<Ml>, String> {
     read.map_err(|refusal| format!("the engine left words that are no term, from word {}", refusal.place))
 }
 
+/// The text of the term left; none after an error.
 fn left(words: &[u32]) -> Result<String, String> {
     if words.is_empty() {
         return Ok(String::new());

@@ -18,6 +18,7 @@ Writes a recipe file as text, from which `recipe make` makes the same file again
 named. Of a file whose words are not in order it says on standard error what is wrong and where; status 1.
 ";
 
+/// The text of a file.
 fn show(args: Args, desk: &mut Desk<'_>) -> Outcome {
     let input = read_input(args, desk)?;
     match read_recipe(&input.bytes, usize::MAX) {

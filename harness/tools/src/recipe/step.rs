@@ -23,6 +23,7 @@ after 1,000 steps. Reads standard input where no FILE is named. Status 0: shown;
 /// Steps shown where none is named to stop at.
 const SHOWN: u32 = 1_000;
 
+/// Runs once for each step, with that many steps lent, so that each term shown is the engine's own.
 fn step(mut args: Args, desk: &mut Desk<'_>) -> Outcome {
     let lent = Lent::new(&mut args, desk)?;
     let from = steps(args.number("--from", 0)?)?;
