@@ -21,6 +21,7 @@ pub mod substitute;
 pub mod text;
 pub mod tree;
 pub mod typing;
+pub mod untyped;
 pub mod values;
 
 pub use check::{check, Recipe, Refusal};

@@ -11,7 +11,8 @@ pub fn type_of(term: &Ml) -> Option<Rc<Type>> {
     infer(term, &mut Vec::new())
 }
 
-fn infer(term: &Ml, lambdas: &mut Lambdas) -> Option<Rc<Type>> {
+/// The type of a term under the lambdas around it, if it has one.
+pub fn infer(term: &Ml, lambdas: &mut Lambdas) -> Option<Rc<Type>> {
     match term {
         Ml::Variable(n) => lambdas.iter().rev().nth(*n as usize)?.clone(),
         Ml::Number(_) => Some(number()),
@@ -67,7 +68,8 @@ fn has(term: &Ml, t: &Rc<Type>, lambdas: &mut Lambdas) -> bool {
     infer(term, lambdas).is_some_and(|found| found == *t)
 }
 
-fn well_formed(term: &Scheme, lambdas: &mut Lambdas) -> bool {
+/// Whether a Scheme term under the lambdas around it is well formed.
+pub fn well_formed(term: &Scheme, lambdas: &mut Lambdas) -> bool {
     use Scheme::*;
     match term {
         Variable(_) | Number(_) | Nil | Wrong(_) => true,

@@ -5,28 +5,44 @@ use model::kinds::{row_of, Sort};
 use model::node::Node;
 use model::read::{read_ml, DEEPEST};
 use model::typing::type_of;
+use std::time::{Duration, Instant};
 
-/// Attempts after which the smallest file so far is taken.
+/// Attempts after which the smallest file so far is taken, and the time after which it is: large runs take long.
 const ATTEMPTS: usize = 200_000;
+const LONGEST: Duration = Duration::from_secs(20);
+
+/// What is left to spend on a file.
+struct Budget {
+    attempts: usize,
+    started: Instant,
+}
+
+impl Budget {
+    /// Whether nothing is left.
+    fn is_spent(&self) -> bool {
+        self.attempts > ATTEMPTS || self.started.elapsed() > LONGEST
+    }
+}
 
 /// A smaller file for which the property still holds. It holds for the file given.
 pub fn shrink(start: Vec<u8>, holds: &mut dyn FnMut(&[u8]) -> bool) -> Vec<u8> {
     let mut best = start;
-    let mut attempts = 0;
-    while let Some(smaller) = improve(&best, holds, &mut attempts) {
+    let mut budget = Budget { attempts: 0, started: Instant::now() };
+    while let Some(smaller) = improve(&best, holds, &mut budget) {
         best = smaller;
     }
     best
 }
 
-fn improve(best: &[u8], holds: &mut dyn FnMut(&[u8]) -> bool, attempts: &mut usize) -> Option<Vec<u8>> {
+/// The first candidate that is smaller and has the property.
+fn improve(best: &[u8], holds: &mut dyn FnMut(&[u8]) -> bool, budget: &mut Budget) -> Option<Vec<u8>> {
     let mut found = None;
     candidates(best, &mut |candidate| {
-        *attempts += 1;
-        if *attempts <= ATTEMPTS && measure(&candidate) < measure(best) && holds(&candidate) {
+        budget.attempts += 1;
+        if !budget.is_spent() && measure(&candidate) < measure(best) && holds(&candidate) {
             found = Some(candidate);
         }
-        found.is_some() || *attempts > ATTEMPTS
+        found.is_some() || budget.is_spent()
     });
     found
 }

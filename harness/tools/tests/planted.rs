@@ -1,33 +1,11 @@
 //! Planted errors are found, shrunk to a small recipe and shown; the model itself shows no difference.
 
-use model::check::{answer, check};
 use model::{on_large_stack, run, End};
 use tools::compare::{compare_check, compare_run, compare_stack, missing, Plan};
 use tools::engine::{Check, RecipeRun, Run};
+use tools::stand_in::{check as right_check, run as right_run};
 
 const PLAN: Plan = Plan { files: 3_000, seed: 1, start: 0 };
-
-fn right_check(file: &[u8]) -> u64 {
-    answer(&check(file))
-}
-
-fn right_run(file: &[u8], limit: u32, first: &mut [u32], second: &mut [u32]) -> RecipeRun {
-    let ran = run(file, limit, first.len(), second.len());
-    first.copy_from_slice(&ran.first);
-    second.copy_from_slice(&ran.second);
-    match ran.result {
-        Err(refusal) => RecipeRun { refusal: refusal.number, place: refusal.place, ..RecipeRun::default() },
-        Ok(e) => RecipeRun {
-            refusal: 0,
-            place: 0,
-            end: e.end as u32,
-            code: e.code,
-            steps: e.steps,
-            left: e.left,
-            wanted: e.wanted,
-        },
-    }
-}
 
 fn check_shown(engine: Check) -> String {
     on_large_stack(|| compare_check(engine, PLAN)).err().expect("a difference")

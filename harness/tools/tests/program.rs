@@ -1,27 +1,35 @@
 //! The program `recipe` from outside: what it prints, where, and its status.
 
 use std::io::Write;
-use std::process::{Command, Output, Stdio};
+use std::process::{Child, Command, Output, Stdio};
 
-fn recipe(args: &[&str], input: &[u8]) -> Output {
-    let mut child = Command::new(env!("CARGO_BIN_EXE_recipe"))
+/// The program, started with pipes.
+fn start(args: &[&str]) -> Child {
+    Command::new(env!("CARGO_BIN_EXE_recipe"))
         .args(args)
         .stdin(Stdio::piped())
         .stdout(Stdio::piped())
         .stderr(Stdio::piped())
         .spawn()
-        .expect("the program starts");
+        .expect("the program starts")
+}
+
+/// The program's output for an input.
+fn recipe(args: &[&str], input: &[u8]) -> Output {
+    let mut child = start(args);
     // A program that needs no input may have ended before it is written.
     let _ = child.stdin.take().expect("its input").write_all(input);
     child.wait_with_output().expect("the program ends")
 }
 
+/// Its status, what it prints, and what it says on standard error.
 fn seen(args: &[&str], input: &[u8]) -> (i32, String, String) {
     let output = recipe(args, input);
     let text = |bytes: &[u8]| String::from_utf8_lossy(bytes).into_owned();
     (output.status.code().unwrap_or(-1), text(&output.stdout), text(&output.stderr))
 }
 
+/// The file of words.
 fn words(words: &[u32]) -> Vec<u8> {
     model::file::bytes_of(words)
 }
@@ -60,6 +68,36 @@ fn help_and_faults() {
     assert_eq!(seen(&["bake"], b"").0, 2);
     assert_eq!(seen(&["show", "--loud"], b"").0, 2);
     assert_eq!(seen(&["show", "no such file"], b"").0, 2);
+}
+
+/// The status of the program where nobody reads one of its outputs; its input comes after that is so.
+fn unread(args: &[&str], input: &[u8], shut: fn(&mut Child)) -> (Option<i32>, Vec<u8>) {
+    let mut child = start(args);
+    shut(&mut child);
+    let _ = child.stdin.take().expect("its input").write_all(input);
+    let output = child.wait_with_output().expect("the program ends");
+    (output.status.code(), output.stderr)
+}
+
+#[test]
+fn a_closed_pipe_is_no_fault() {
+    // The text of this file is longer than what a pipe holds.
+    let deep = [vec![1, 4, 4_091, 5, 1], vec![20; 4_090], vec![17]].concat();
+    assert_eq!(unread(&["show"], &words(&deep), |child| drop(child.stdout.take())), (Some(0), Vec::new()));
+    assert_eq!(unread(&["show"], &words(&[1, 4, 1, 5, 1, 99]), |child| drop(child.stderr.take())).0, Some(1));
+}
+
+#[cfg(feature = "run")]
+#[test]
+fn a_step_by_step_that_nobody_reads_on_ends() {
+    use std::io::{BufRead, BufReader};
+    let mut child = start(&["step", "--to", "4294967295"]);
+    child.stdin.take().expect("its input").write_all(b"N (fix (fn N v0))").expect("it reads");
+    let mut line = String::new();
+    BufReader::new(child.stdout.take().expect("its output")).read_line(&mut line).expect("a line");
+    assert_eq!(line, "step 0, 4 words\n");
+    let output = child.wait_with_output().expect("the program ends");
+    assert_eq!((output.status.code(), output.stderr), (Some(0), Vec::new()));
 }
 
 #[cfg(not(feature = "check"))]

@@ -1,16 +1,47 @@
-//! Benchmarks: works measured side by side in one run, compared as ratios.
+//! Benchmarks: works measured side by side in one run.
 
 mod checks;
+mod growth;
 mod recipes;
 mod runs;
+pub mod table;
 mod timing;
+mod works;
 
-pub use checks::bench_checks;
-pub use runs::{bench_growth, bench_runs};
+/// A part of the benchmarks: its name, what its figures are, and the lines of its tables.
+pub struct Part {
+    pub name: &'static str,
+    pub about: &'static str,
+    pub tables: fn() -> Vec<String>,
+}
 
-/// What the ratios are about, printed before them.
+/// The parts, in the order in which they are printed.
+pub const PARTS: [Part; 3] = [
+    Part { name: "check", about: CHECKS, tables: checks::tables },
+    Part { name: "run", about: STEPS, tables: runs::tables },
+    Part { name: "growth", about: STEPS, tables: growth::tables },
+];
+
+/// What holds of all figures, printed before them.
 pub const ABOUT: &str = "\
-Each row's works are measured in turn, again and again in this run; the least time of each counts. All figures are
-ratios between works of this run. Buffers of 16,384 words are lent as the last run left them: they are not cleared
-beforehand, and the engine's own clearing is part of its time.
+The works of a row are measured in turn, again and again in this run, and the least time of each counts.
+Figures of different runs are not to be compared: compare the works of one run.
+";
+
+/// What the figures of files checked are.
+const CHECKS: &str = "\
+check: files checked. tree: the model's reading and checking. engine: recipe_check. A ratio over 1 says that the engine
+takes less time.
+";
+
+/// How a step is measured, printed before the tables of steps.
+const STEPS: &str = "\
+run and growth: steps. tree: the model's reducer on trees. engine: recipe_run. port: the engine's algorithm on words in
+plain Rust, from the term's words on. copy: the words of each next term copied, one copy_from_slice a step, no more.
+A step's time is a difference: the time of the run under its limit less the time of the same run, of the same file in
+the same buffers, under the limit before the first step measured, divided by the steps. So the reading and the check of
+the file, the first words put into the buffer and the clearing of both buffers at the end are not in it. Two buffers
+are lent of just the words needed (lent: the largest term's or the file's, whichever is more, rounded up to 64); they
+are not cleared beforehand but hold what the last run left. words: of a term, on average. A ratio over 1 says that the
+engine takes less time than tree or port, or more than copy.
 ";

@@ -1,34 +1,48 @@
 //! The recipes of the benchmarks, as texts.
 
-use model::file::file;
-use model::text::parse_recipe;
+use crate::make::{file_of_text, sum};
 
+/// A recipe to measure: its name in a table, and its file.
 pub struct Recipe {
     pub name: String,
     pub file: Vec<u8>,
 }
 
+/// The recipe of a text.
 fn recipe(name: impl Into<String>, text: &str) -> Recipe {
-    let parsed = parse_recipe(text).expect("the benchmarks' texts are recipes");
-    Recipe { name: name.into(), file: file(&parsed.declared, &parsed.term) }
+    Recipe { name: name.into(), file: file_of_text(text) }
 }
 
+/// The recipes whose runs are measured; a name has at most 24 letters.
 pub fn recipes() -> Vec<Recipe> {
     vec![
-        recipe("a fix countdown from 500", &format!("N {}", countdown("0", 500))),
-        recipe("a list of 80 through a wrapped curve", &mapped(80)),
-        recipe("wrappers five deep, called 50 times", &wrapped(5, 50)),
-        recipe("a curve of 4,000 words converted", &format!("{{{{N}}}} (ms {{{{N}}}} {})", curve(60, 32))),
-        recipe("an arithmetic tree of 1,000 sums", &format!("N {}", sums(1_000))),
+        recipe("fix countdown from 500", &format!("N {}", countdown("0", 500))),
+        recipe("80 through a pump curve", &mapped(80)),
+        recipe("wrappers 5 deep, called", &wrapped(5, 50)),
+        recipe("4,000-word curve", &format!("{{{{N}}}} (ms {{{{N}}}} {})", curve(60, 32))),
+        recipe("tree of 1,000 sums", &format!("N {}", sums(1_000))),
         recipe("sums nested 250 deep", &format!("N {}", nested("(add 1 ", 250, "1"))),
     ]
 }
 
-/// A spinning node behind so many list elements: each step moves the whole term.
-pub fn spinning(elements: usize) -> Recipe {
-    let spin = "(fix (fn {{N}} v0))".to_string();
-    let list = (0..elements / 100).fold(spin, |rest, _| format!("(cons {} {rest})", numbers(100)));
-    recipe(format!("{elements} elements before a spinning node"), &format!("{{{{N}}}} {list}"))
+/// A node that spins behind four lists of so many rows.
+pub fn spinning_last(rows: usize) -> Recipe {
+    let body = nested("(cons v0 ", 4, "(fix (fn {{{N}}} v0))");
+    recipe(format!("last, 4 x {rows} rows"), &format!("{{{{{{N}}}}}} {}", with_rows(&body, rows)))
+}
+
+/// A node that spins before four lists of so many rows.
+pub fn spinning_first(rows: usize) -> Recipe {
+    let lists = nested("(cons v0 ", 4, "(nil {{N}})");
+    let body = format!("(cons (fix (fn {{{{N}}}} v0)) {lists})");
+    recipe(format!("first, 4 x {rows} rows"), &format!("{{{{{{N}}}}}} {}", with_rows(&body, rows)))
+}
+
+/// A body with a list of so many rows of ten numbers for its variable.
+fn with_rows(body: &str, rows: usize) -> String {
+    let row = numbers(10);
+    let list = (0..rows).fold("(nil {N})".to_string(), |rest, _| format!("(cons {row} {rest})"));
+    format!("(app (fn {{{{N}}}} {body}) {list})")
 }
 
 /// A plain tree of sums with about so many words.
@@ -41,6 +55,7 @@ fn countdown(at_zero: &str, from: usize) -> String {
     format!("(app (fix (fn (N to N) (fn N (if0 v0 {at_zero} (app v1 (subtract v0 1)))))) {from})")
 }
 
+/// A list of so many numbers mapped through a pump curve, a Scheme function that is wrapped anew for each of them.
 fn mapped(elements: usize) -> String {
     let curve = "(ms (N to N) (fn (add v0 (subtract v0 3))))";
     let map = format!(
@@ -49,12 +64,14 @@ fn mapped(elements: usize) -> String {
     format!("{{N}} (app {map} {})", numbers(elements))
 }
 
+/// A function in so many wrappers, called so many times.
 fn wrapped(deep: usize, times: usize) -> String {
     let function = (0..deep).fold("(fn N (add v0 1))".to_string(), |f, _| format!("(ms (N to N) (sm (N to N) {f}))"));
     let again = format!("(if0 v0 0 (app (fn N (app v2 (subtract v1 1))) (app {function} v0)))");
     format!("N (app (fix (fn (N to N) (fn N {again}))) {times})")
 }
 
+/// A list of so many numbers.
 fn numbers(elements: usize) -> String {
     (0..elements).fold("(nil N)".to_string(), |rest, n| format!("(cons {n} {rest})"))
 }
@@ -65,13 +82,12 @@ fn curve(rows: usize, elements: usize) -> String {
     (0..rows).fold("nil".to_string(), |rest, _| format!("(cons {row} {rest})"))
 }
 
+/// A balanced tree of sums with so many leaves.
 fn sums(leaves: usize) -> String {
-    match leaves {
-        0 | 1 => "1".into(),
-        _ => format!("(add {} {})", sums(leaves / 2), sums(leaves - leaves / 2)),
-    }
+    sum(&vec!["1".to_string(); leaves])
 }
 
+/// The same opened so many times around an inner term.
 fn nested(open: &str, deep: usize, inner: &str) -> String {
     format!("{}{inner}{}", open.repeat(deep), ")".repeat(deep))
 }

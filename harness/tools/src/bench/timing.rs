@@ -2,12 +2,17 @@
 
 use std::time::{Duration, Instant};
 
-/// Rounds in which every work is timed once, and the least time that a round gives to each.
-const ROUNDS: usize = 7;
+/// Rounds in which every work is timed once.
+const ROUNDS: usize = 11;
+
+/// The least time that a round gives to each.
 const ROUND: Duration = Duration::from_millis(12);
 
+/// Something to do again and again.
+pub type Work<'a> = Box<dyn FnMut() + 'a>;
+
 /// The seconds of each work, the least of all rounds.
-pub fn side_by_side(works: &mut [Box<dyn FnMut() + '_>]) -> Vec<f64> {
+pub fn side_by_side(works: &mut [Work<'_>]) -> Vec<f64> {
     let counts: Vec<u32> = works.iter_mut().map(|work| enough(work)).collect();
     let mut least = vec![f64::INFINITY; works.len()];
     for _ in 0..ROUNDS {
@@ -37,14 +42,5 @@ fn enough(work: &mut dyn FnMut()) -> u32 {
             return count;
         }
         count *= 2;
-    }
-}
-
-/// A ratio in three digits or so.
-pub fn ratio(value: f64) -> String {
-    match value {
-        v if v >= 100.0 => format!("{v:.0}"),
-        v if v >= 10.0 => format!("{v:.1}"),
-        v => format!("{v:.2}"),
     }
 }

@@ -1,40 +1,45 @@
-//! Benchmarks of the engine against the model: ratios of works measured side by side in one run.
+//! Benchmarks of the engine against the model, the port and a plain copy: works measured side by side in one run.
 #![forbid(unsafe_code)]
 
 use model::on_large_stack;
 use std::process::ExitCode;
 use tools::args::Args;
-use tools::bench::{bench_checks, bench_growth, bench_runs, ABOUT};
+use tools::bench::{Part, ABOUT, PARTS};
+use tools::output::say;
 
 const HELP: &str = "\
 usage: bench [check | run | growth]
 
 check    the check of growing files: engine and checker on trees
-run      recipes run: engine, reducer on trees, a plain copy of the same words
-growth   how a step's time grows with the term
+run      recipes run: a step of the engine, of the reducer on trees and of the port, a plain copy of the same words
+growth   how a step's time grows with the words of the term
 All three where none is named. Build with --release and --features run; without the engine its columns are left out.
 ";
-
-/// A part of the benchmarks: its name, and the lines that it prints.
-type Part = (&'static str, fn() -> Vec<String>);
-
-const PARTS: [Part; 3] = [("check", bench_checks), ("run", bench_runs), ("growth", bench_growth)];
 
 fn main() -> ExitCode {
     let mut args = Args::new(std::env::args().skip(1));
     if args.flag("--help") {
-        print!("{HELP}");
+        say(HELP.trim_end());
         return ExitCode::SUCCESS;
     }
     let name = args.word();
-    let known = name.as_deref().is_none_or(|name| PARTS.iter().any(|part| part.0 == name));
+    let known = name.as_deref().is_none_or(|name| PARTS.iter().any(|part| part.name == name));
     if let (false, _) | (_, Err(_)) = (known, args.finish()) {
         eprintln!("bench: check, run or growth is due; see --help");
         return ExitCode::from(2);
     }
-    println!("{ABOUT}");
-    for (_, part) in PARTS.iter().filter(|part| name.as_deref().is_none_or(|name| part.0 == name)) {
-        println!("{}\n", on_large_stack(part).join("\n"));
-    }
+    let asked = |part: &&Part| name.as_deref().is_none_or(|name| part.name == name);
+    print_parts(&PARTS.iter().filter(asked).collect::<Vec<_>>());
     ExitCode::SUCCESS
+}
+
+/// What the figures are, each said once, and then the tables.
+fn print_parts(parts: &[&Part]) {
+    let mut abouts = vec![ABOUT];
+    abouts.extend(parts.iter().map(|part| part.about));
+    abouts.dedup();
+    say(abouts.concat());
+    for part in parts {
+        say(on_large_stack(part.tables).join("\n") + "\n");
+    }
 }

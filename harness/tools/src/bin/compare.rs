@@ -6,6 +6,7 @@ use std::process::ExitCode;
 use tools::args::Args;
 use tools::compare::{compare_check, compare_run, compare_stack, missing, table, Counts, Plan};
 use tools::engine::{linked_check, linked_run};
+use tools::output::say;
 
 const HELP: &str = "\
 Compares the engine with a checker and a reducer built apart from it.
@@ -15,7 +16,8 @@ usage: compare check [--files N] [--seed S] [--start I] [--all-reached]
        compare stack [--kib K]
 
 check        every term of up to 3 words, files at the edges, and N random files (200000): number and place
-run          every small recipe, edges, and N random files (100000): result and every word of both buffers
+run          every small recipe, edges of files and of what is lent, and N random files (100000): result and every word
+             of both buffers
 stack        the deepest runs of 16,384 words on a stack of K KiB (4096)
 --seed S     random files depend on the seed (1) and their index alone
 --start I    begin with random file I; the files that are the same every time are left out unless I is 0
@@ -27,7 +29,7 @@ Status 0: no difference; 1: a difference, shrunk and shown; 2: not understood, o
 fn main() -> ExitCode {
     let mut args = Args::new(std::env::args().skip(1));
     if args.flag("--help") {
-        print!("{HELP}");
+        say(HELP.trim_end());
         return ExitCode::SUCCESS;
     }
     let outcome = match args.word().as_deref() {
@@ -39,7 +41,7 @@ fn main() -> ExitCode {
     match outcome {
         Ok(()) => ExitCode::SUCCESS,
         Err(Fault::Difference(shown)) => {
-            print!("{shown}");
+            say(shown.trim_end());
             ExitCode::from(1)
         }
         Err(Fault::Usage(message)) => {
@@ -58,7 +60,7 @@ fn check(args: Args) -> Result<(), Fault> {
     let (plan, all_reached) = plan(args, 200_000)?;
     let engine = linked_check().ok_or(without("check"))?;
     let counts = on_large_stack(|| compare_check(engine, plan)).map_err(difference)?;
-    println!("{} files, no difference", counts.files);
+    say(format!("{} files, no difference", counts.files));
     finish(counts.of_checks(), all_reached)
 }
 
@@ -66,7 +68,8 @@ fn run(args: Args) -> Result<(), Fault> {
     let (plan, all_reached) = plan(args, 100_000)?;
     let engine = linked_run().ok_or(without("run"))?;
     let counts: Counts = on_large_stack(|| compare_run(engine, plan)).map_err(difference)?;
-    println!("{} files, {} runs, no difference; demand 3 tried on {} terms", counts.files, counts.runs, counts.laws);
+    let Counts { files, runs, laws, .. } = counts;
+    say(format!("{files} files, {runs} runs, no difference; demand 3 tried on {laws} terms"));
     finish(counts.of_runs(), all_reached)
 }
 
@@ -75,9 +78,9 @@ fn stack(mut args: Args) -> Result<(), Fault> {
     args.finish().map_err(Fault::Usage)?;
     let engine = linked_run().ok_or(without("run"))?;
     for line in compare_stack(engine, kib as usize * 1024).map_err(difference)? {
-        println!("{line}");
+        say(line);
     }
-    println!("a stack of {kib} KiB serves");
+    say(format!("a stack of {kib} KiB serves"));
     Ok(())
 }
 
@@ -87,13 +90,13 @@ fn plan(mut args: Args, files: u64) -> Result<(Plan, bool), Fault> {
     let start = args.number("--start", 0).map_err(Fault::Usage)?;
     let all_reached = args.flag("--all-reached");
     args.finish().map_err(Fault::Usage)?;
-    println!("seed {seed}, random files {start} to {}", start + files);
+    say(format!("seed {seed}, random files {start} to {}", start + files));
     Ok((Plan { files, seed, start }, all_reached))
 }
 
 /// Prints the counts, and fails on a row without any if all must be reached.
 fn finish(rows: Vec<(String, u64)>, all_reached: bool) -> Result<(), Fault> {
-    print!("{}", table(&rows));
+    say(table(&rows).trim_end());
     match missing(&rows)[..] {
         [] => Ok(()),
         _ if !all_reached => Ok(()),

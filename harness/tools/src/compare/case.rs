@@ -6,9 +6,11 @@ use super::Counts;
 use crate::engine::{RecipeRun, Run};
 use crate::random::Random;
 use crate::shrink::shrink;
+use crate::stand_in::told;
 use model::run;
 use std::fmt::Write;
 
+/// A run: its file, its limit, and the lengths of its two buffers.
 #[derive(Clone)]
 pub struct Case {
     pub file: Vec<u8>,
@@ -140,16 +142,9 @@ fn less(number: usize) -> Vec<usize> {
     found
 }
 
+/// What the model answered and left.
 fn seen_of(run: &model::Run) -> Seen {
-    let result = match &run.result {
-        Err(refusal) => RecipeRun { refusal: refusal.number, place: refusal.place, ..RecipeRun::default() },
-        Ok(ended) => {
-            let (end, code, steps, left, wanted) =
-                (ended.end as u32, ended.code, ended.steps, ended.left, ended.wanted);
-            RecipeRun { refusal: 0, place: 0, end, code, steps, left, wanted }
-        }
-    };
-    Seen { result, first: run.first.clone(), second: run.second.clone(), within: true }
+    Seen { result: told(&run.result), first: run.first.clone(), second: run.second.clone(), within: true }
 }
 
 impl Seen {

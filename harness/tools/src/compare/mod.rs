@@ -3,11 +3,13 @@
 mod case;
 mod check;
 mod counts;
+pub mod lent;
 mod plan;
 mod report;
 mod run;
 mod stack;
 
+pub use case::Case;
 pub use check::compare_check;
 pub use counts::{missing, table, Counts};
 pub use report::show_file;

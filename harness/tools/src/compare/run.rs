@@ -1,6 +1,7 @@
 //! The run compared: result and every word of both buffers, under many limits and capacities, with demand 3's laws.
 
 use super::case::Case;
+use super::lent::at_the_edges;
 use super::plan::{follow, plans};
 use super::{Counts, Plan};
 use crate::engine::Run;
@@ -9,6 +10,7 @@ use crate::progress::Progress;
 use crate::random::Random;
 use model::laws::{ends_alike, try_reduction};
 use model::{check, End};
+use std::collections::BTreeSet;
 
 /// Compares on every small recipe, on the edges and on random files. A difference comes back shrunk and shown.
 pub fn compare_run(engine: Run, plan: Plan) -> Result<Counts, String> {
@@ -72,6 +74,11 @@ fn fixed(engine: Run, counts: &mut Counts) -> Result<(), String> {
     for file in edges() {
         counts.files += 1;
         Case::new(file, 3, 9, 8).compare(engine, counts)?;
+    }
+    let lent = at_the_edges();
+    counts.files += lent.iter().map(|case| &case.file).collect::<BTreeSet<_>>().len() as u64;
+    for case in lent {
+        case.compare(engine, counts)?;
     }
     for (file, capacity) in deep_recipes(3_000) {
         counts.files += 1;

@@ -7,9 +7,11 @@ mod forms;
 mod ml;
 mod plan;
 mod scheme;
+mod text;
 mod types;
 
 pub use damage::{damage, telling_word};
 pub use edges::{deep_recipes, edges, nested};
 pub use every::{every_small_recipe, every_small_term, every_small_type};
 pub use plan::{damaged_file, well_typed_file};
+pub use text::{file_of_text, sum};

@@ -2,9 +2,8 @@
 
 use super::explain::explain;
 use super::input::read_input;
-use super::{without, Command, Failure, Outcome};
+use super::{without, Command, Desk, Failure, Outcome};
 use crate::args::Args;
-use crate::engine::linked_check;
 use model::Refusal;
 
 pub const COMMAND: Command = Command { name: "check", help: HELP, work: check };
@@ -17,12 +16,12 @@ sentence, and where it has a place, that is shown: in double brackets in the ter
 standard input where no FILE is named. Status 0: accepted; 1: refused.
 ";
 
-fn check(mut args: Args) -> Outcome {
-    let engine = linked_check().ok_or(without("check"))?;
-    let input = read_input(&mut args)?;
-    args.finish()?;
+/// The engine's answer in words.
+fn check(args: Args, desk: &mut Desk<'_>) -> Outcome {
+    let engine = desk.engine.check.ok_or(without("check"))?;
+    let input = read_input(args, desk)?;
     match engine(&input.bytes) {
-        0 => Ok(b"accepted\n".to_vec()),
+        0 => Ok(desk.output.write_all(b"accepted\n")?),
         answer => {
             let refusal = Refusal::new((answer % 256) as u32, (answer / 256) as usize);
             Err(Failure::Refused(explain(&input, &refusal)))

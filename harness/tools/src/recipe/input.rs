@@ -1,9 +1,9 @@
 //! What a command is given: a recipe file or a recipe's text, from a file or from standard input.
 
+use super::Desk;
 use crate::args::Args;
 use model::file::{file, MOST_BYTES};
 use model::text::{parse_recipe, Parsed};
-use std::io::Read;
 
 /// The bytes of a recipe file, and where they come from text, where each word stands in it.
 pub struct Input {
@@ -11,13 +11,15 @@ pub struct Input {
     pub text: Option<Parsed>,
 }
 
-/// Reads the file named next, or standard input where none or `-` is named.
-pub fn read_bytes(args: &mut Args) -> Result<Vec<u8>, String> {
-    match args.word() {
+/// Reads the file that is named, or standard input where none or `-` is. Nothing else may be left of the command.
+pub fn read_bytes(mut args: Args, desk: &mut Desk<'_>) -> Result<Vec<u8>, String> {
+    let name = args.word();
+    args.finish()?;
+    match name {
         Some(name) if name != "-" => std::fs::read(&name).map_err(|fault| format!("cannot read {name}: {fault}")),
         _ => {
             let mut bytes = Vec::new();
-            let read = std::io::stdin().lock().read_to_end(&mut bytes);
+            let read = desk.input.read_to_end(&mut bytes);
             read.map_err(|fault| format!("cannot read standard input: {fault}"))?;
             Ok(bytes)
         }
@@ -25,8 +27,8 @@ pub fn read_bytes(args: &mut Args) -> Result<Vec<u8>, String> {
 }
 
 /// Reads a recipe file, or a text that is made into one. A text holds no zero byte; a file's first count always does.
-pub fn read_input(args: &mut Args) -> Result<Input, String> {
-    let bytes = read_bytes(args)?;
+pub fn read_input(args: Args, desk: &mut Desk<'_>) -> Result<Input, String> {
+    let bytes = read_bytes(args, desk)?;
     match std::str::from_utf8(&bytes) {
         Ok(text) if !text.is_empty() && !bytes.contains(&0) => {
             let parsed = parse_recipe(text).map_err(|fault| fault.to_string())?;

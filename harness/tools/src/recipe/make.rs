@@ -1,7 +1,7 @@
 //! `recipe make`: a text to a recipe file.
 
 use super::input::{made, read_bytes};
-use super::{Command, Outcome};
+use super::{Command, Desk, Outcome};
 use crate::args::Args;
 
 pub const COMMAND: Command = Command { name: "make", help: HELP, work: make };
@@ -23,8 +23,8 @@ lambda and application may be written for fn and app; a comment runs from ; to t
 Example: printf 'N (add 2 3)' | recipe make > add.bin
 ";
 
-fn make(mut args: Args) -> Outcome {
-    let text = read_bytes(&mut args)?;
-    args.finish()?;
-    Ok(made(&text)?)
+/// The file of a text.
+fn make(args: Args, desk: &mut Desk<'_>) -> Outcome {
+    let text = read_bytes(args, desk)?;
+    Ok(desk.output.write_all(&made(&text)?)?)
 }

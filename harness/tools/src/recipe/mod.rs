@@ -4,18 +4,47 @@ mod check;
 mod explain;
 mod input;
 mod make;
+mod places;
+mod program;
 mod run;
 mod show;
 mod step;
 
 use crate::args::Args;
+use crate::engine::{linked_check, linked_run, Check, Run};
+use std::io::{Error, ErrorKind, Read, Write};
 
-/// Why a command has nothing to print on standard output.
+pub use program::program;
+
+/// The engine's functions, where there are any.
+#[derive(Clone, Copy)]
+pub struct Engine {
+    pub check: Option<Check>,
+    pub run: Option<Run>,
+}
+
+impl Engine {
+    /// The functions that this program was built with.
+    pub fn linked() -> Engine {
+        Engine { check: linked_check(), run: linked_run() }
+    }
+}
+
+/// What a command works with: the engine, standard input, and where it prints.
+pub struct Desk<'a> {
+    pub engine: Engine,
+    pub input: &'a mut (dyn Read + Send),
+    pub output: &'a mut (dyn Write + Send),
+}
+
+/// Why a command has not printed all it has to say on standard output.
 pub enum Failure {
     /// The file is refused, and why.
     Refused(String),
-    /// It cannot be read, or the command is not understood.
+    /// It cannot be read or written, or the command is not understood.
     Other(String),
+    /// Nobody reads on, which is no fault.
+    Unread,
 }
 
 impl From<String> for Failure {
@@ -24,17 +53,29 @@ impl From<String> for Failure {
     }
 }
 
-/// The bytes that a command prints, or its failure.
-pub type Outcome = Result<Vec<u8>, Failure>;
+impl From<Error> for Failure {
+    fn from(fault: Error) -> Failure {
+        match fault.kind() {
+            ErrorKind::BrokenPipe => Failure::Unread,
+            _ => Failure::Other(format!("cannot write: {fault}")),
+        }
+    }
+}
 
+/// All printed, or a failure.
+pub type Outcome = Result<(), Failure>;
+
+/// A command of the program: its name, what `--help` prints, and its work.
 pub struct Command {
     pub name: &'static str,
     pub help: &'static str,
-    pub work: fn(Args) -> Outcome,
+    pub work: fn(Args, &mut Desk<'_>) -> Outcome,
 }
 
+/// All commands.
 pub const COMMANDS: [Command; 5] = [make::COMMAND, show::COMMAND, check::COMMAND, run::COMMAND, step::COMMAND];
 
+/// The failure of a command that needs the engine in a program built without it.
 fn without(feature: &str) -> Failure {
     Failure::Other(format!("built without the engine; build with --features {feature}"))
 }

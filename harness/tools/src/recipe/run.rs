@@ -2,9 +2,10 @@
 
 use super::explain::explain;
 use super::input::{read_input, Input};
-use super::{without, Command, Failure, Outcome};
+use super::{without, Command, Desk, Failure, Outcome};
 use crate::args::Args;
-use crate::engine::{linked_run, RecipeRun, Run};
+use crate::engine::{RecipeRun, Run};
+use model::check::read_recipe;
 use model::node::Node;
 use model::read::read_ml;
 use model::text::pretty;
@@ -27,8 +28,9 @@ pub struct Lent {
 }
 
 impl Lent {
-    pub fn new(args: &mut Args) -> Result<Lent, Failure> {
-        let engine = linked_run().ok_or(without("run"))?;
+    /// The engine, and the capacity that the command asks for.
+    pub fn new(args: &mut Args, desk: &Desk<'_>) -> Result<Lent, Failure> {
+        let engine = desk.engine.run.ok_or(without("run"))?;
         let capacity = args.number("--words", 4_096)? as usize;
         Ok(Lent { engine, capacity: capacity.min(1 << 20) })
     }
@@ -39,20 +41,27 @@ impl Lent {
         let result = (self.engine)(&input.bytes, limit, &mut first, &mut second);
         if result.refusal != 0 {
             let refusal = Refusal::new(result.refusal, result.place as usize);
-            return Err(Failure::Refused(explain(input, &refusal)));
+            let lent = if result.refusal == 8 { too_large(input, self.capacity) } else { String::new() };
+            return Err(Failure::Refused(explain(input, &refusal) + &lent));
         }
         first.truncate(result.left as usize);
         Ok((result, first))
     }
 }
 
-fn run(mut args: Args) -> Outcome {
-    let lent = Lent::new(&mut args)?;
-    let limit = args.number("--limit", 1_000_000)?;
-    let input = read_input(&mut args)?;
-    args.finish()?;
-    let (result, words) = lent.run(&input, steps(limit)?)?;
-    Ok(format!("{}\n{}", ended(&result), left(&words)?).into_bytes())
+/// The end of a run and the term left.
+fn run(mut args: Args, desk: &mut Desk<'_>) -> Outcome {
+    let lent = Lent::new(&mut args, desk)?;
+    let limit = steps(args.number("--limit", 1_000_000)?)?;
+    let input = read_input(args, desk)?;
+    let (result, words) = lent.run(&input, limit)?;
+    Ok(write!(desk.output, "{}\n{}", ended(&result), left(&words)?)?)
+}
+
+/// How many words a refused term has, and how many were lent.
+fn too_large(input: &Input, capacity: usize) -> String {
+    let term = read_recipe(&input.bytes, usize::MAX).map_or(0, |recipe| Node::Ml(&recipe.term).size());
+    format!("  the term has {}, the buffers {}\n", count(term as u32, "word"), count(capacity as u32, "word"))
 }
 
 /// A number of steps.
@@ -72,6 +81,7 @@ pub fn ended(result: &RecipeRun) -> String {
     }
 }
 
+/// What the rules mean by a code.
 fn meaning(code: u32) -> &'static str {
     match code {
         1 => ": no number, or the recipe's own code",
@@ -83,6 +93,7 @@ fn meaning(code: u32) -> &'static str {
     }
 }
 
+/// A number of things.
 pub fn count(number: u32, what: &str) -> String {
     format!("{number} {what}{}", if number == 1 { "" } else { "s" })
 }
@@ -93,6 +104,7 @@ pub fn term(words: &[u32]) -> Result<Rc<Ml>, String> {
     read.map_err(|refusal| format!("the engine left words that are no term, from word {}", refusal.place))
 }
 
+/// The text of the term left; none after an error.
 fn left(words: &[u32]) -> Result<String, String> {
     if words.is_empty() {
         return Ok(String::new());

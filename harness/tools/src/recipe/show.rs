@@ -2,7 +2,7 @@
 
 use super::explain::explain;
 use super::input::read_input;
-use super::{Command, Failure, Outcome};
+use super::{Command, Desk, Failure, Outcome};
 use crate::args::Args;
 use model::check::read_recipe;
 use model::node::Node;
@@ -18,11 +18,11 @@ Writes a recipe file as text, from which `recipe make` makes the same file again
 named. Of a file whose words are not in order it says on standard error what is wrong and where; status 1.
 ";
 
-fn show(mut args: Args) -> Outcome {
-    let input = read_input(&mut args)?;
-    args.finish()?;
+/// The text of a file.
+fn show(args: Args, desk: &mut Desk<'_>) -> Outcome {
+    let input = read_input(args, desk)?;
     match read_recipe(&input.bytes, usize::MAX) {
-        Ok(recipe) => Ok(text(&recipe).into_bytes()),
+        Ok(recipe) => Ok(desk.output.write_all(text(&recipe).as_bytes())?),
         Err(refusal) => Err(Failure::Refused(explain(&input, &refusal))),
     }
 }

@@ -1,0 +1,28 @@
+//! The model in the engine's place: its check and its run with the engine's own signatures.
+
+use crate::engine::RecipeRun;
+use model::check::answer;
+use model::{Ended, Refusal};
+
+/// The model's check: 0 for accepted, else number + 256 x place.
+pub fn check(file: &[u8]) -> u64 {
+    answer(&model::check(file))
+}
+
+/// The model's run in two lent buffers.
+pub fn run(file: &[u8], limit: u32, first: &mut [u32], second: &mut [u32]) -> RecipeRun {
+    let ran = model::run(file, limit, first.len(), second.len());
+    first.copy_from_slice(&ran.first);
+    second.copy_from_slice(&ran.second);
+    told(&ran.result)
+}
+
+/// A result as the engine tells it.
+pub fn told(result: &Result<Ended, Refusal>) -> RecipeRun {
+    match *result {
+        Err(Refusal { number, place }) => RecipeRun { refusal: number, place, ..RecipeRun::default() },
+        Ok(Ended { end, code, steps, left, wanted }) => {
+            RecipeRun { refusal: 0, place: 0, end: end as u32, code, steps, left, wanted }
+        }
+    }
+}

@@ -1,0 +1,26 @@
+//! What the tests of the program `recipe` share: its parts called in this process, the model in the engine's place.
+#![allow(dead_code)]
+
+use std::io::Write;
+use tools::recipe::{program, Desk, Engine};
+use tools::stand_in;
+
+/// The status, what is printed, and what is said on standard error.
+pub fn typed(words: &[&str], input: &[u8]) -> (u8, Vec<u8>, String) {
+    let (mut output, mut errors) = (Vec::new(), Vec::new());
+    let status = typed_into(words, input, &mut output, &mut errors);
+    (status, output, String::from_utf8(errors).expect("text"))
+}
+
+/// The same of a program that prints text.
+pub fn printed(words: &[&str], input: &[u8]) -> (u8, String, String) {
+    let (status, output, errors) = typed(words, input);
+    (status, String::from_utf8(output).expect("text"), errors)
+}
+
+/// The status of a program that writes to these two.
+pub fn typed_into(words: &[&str], mut input: &[u8], output: &mut (dyn Write + Send), errors: &mut dyn Write) -> u8 {
+    let engine = Engine { check: Some(stand_in::check), run: Some(stand_in::run) };
+    let mut desk = Desk { engine, input: &mut input, output };
+    program(words.iter().map(|word| word.to_string()).collect(), &mut desk, errors)
+}
