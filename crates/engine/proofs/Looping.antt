@@ -1,5 +1,5 @@
 -- The loop's invariant: the run of the term it started with is the run of the term at hand, with the steps that are left. Assumes nothing.
-use Prim.Native.Nat.{ℕ, _+_, _-_, _≤_}
+use Prim.Native.Nat.{ℕ, _+_, _*_, _-_, _≤_}
 use mathlib.Core.Bool.{Bool, true, false, not}
 use mathlib.Core.List.{List, []}
 use mathlib.Core.Path.{_≡_, refl, sym, ap, _∙_, subst}
@@ -15,7 +15,12 @@ use Rattle.calculus.specs.Run as spec
 use Rattle.calculus.proofs.Sizes.{tree-length}
 use Rattle.calculus.proofs.Soundness.{Kept, sound}
 use Rattle.calculus.proofs.Ranges.{OutcomeInRange, step-in-range}
+use Rattle.reducer.specs.declared.turns.From.{From}
 use Rattle.reducer.specs.declared.steps.Move.{Move}
+use Rattle.reducer.specs.declared.steps.Move.the-variants as move
+use Rattle.reducer.specs.Around.{root, Standing}
+use Rattle.reducer.specs.Placed.{beginning}
+use Rattle.reducer.specs.Moves.{Few}
 use Rattle.engine.specs.declared.ends.Counts.{Counts}
 use Rattle.engine.specs.declared.ends.Report.{Report}
 use Rattle.engine.specs.declared.ends.Choice.the-variants.{Stop, Go}
@@ -23,7 +28,7 @@ use Rattle.engine.specs.declared.turns.Halt.{Halt}
 use Rattle.calculus.specs.File.{padded}
 use Rattle.engine.specs.Buffered.{held, Settled}
 use Rattle.engine.specs.Decided.{chosen}
-use Rattle.engine.specs.Ran.{lineOf, countsOf, told, Good, Advanced, Ran, Reduced}
+use Rattle.engine.specs.Ran.{lineOf, countsOf, told, Good, resumed, Advanced, Ran, Reduced}
 use Rattle.engine.proofs.Bridge.{moved}
 use Rattle.engine.proofs.Moving.{Moved, run-by, stops, goes, go-fits, end-short}
 
@@ -40,32 +45,42 @@ size-words : (e : Term ml) → length (words e) ≡ size e
 size-words e = omega (arith, tree-length (term ml) e [])
 
 -- The term at hand: its words are the first n of the buffer that holds it, and the whole run is the run from it.
-pub record At (whole : spec.Result) (limit cap : ℕ) (made : Counts) (n : ℕ) (b : List ℕ) : Type 0 where
+pub record At (whole : spec.Result) (limit cap : ℕ) (made : Counts) (n : ℕ) (from : From) (b : List ℕ) : Type 0 where
   pub term : Term ml
   pub good : Good term
   pub words-are : take n b ≡ words term
   pub same : whole ≡ spec.run (limit - made .steps) cap (countsOf made) term
+  pub standing : Standing term (from .place) (from .due)
 
-pub record Running (first₀ second₀ : List ℕ) (count cap limit : ℕ) (first second : List ℕ) (n : ℕ) (made : Counts) (front : Bool) : Type 0 where
+pub record Running (first₀ second₀ : List ℕ) (count cap limit : ℕ) (first second : List ℕ) (n : ℕ) (made : Counts) (front : Bool)
+    (from : From) : Type 0 where
   pub first-length : length first ≡ length first₀
   pub second-length : length second ≡ length second₀
   pub room : n ≤ cap
   pub left : made .steps ≤ limit
-  pub at : (e : Term ml) → take count first₀ ≡ words e → Good e → At (spec.run limit cap spec.uncounted e) limit cap made n (held front first second)
+  pub at : (e : Term ml) → take count first₀ ≡ words e → Good e → At (spec.run limit cap spec.uncounted e) limit cap made n from (held front first second)
+  pub few : from .due ≤ 1 + 3 * from .place
 
-pub running-start : (first second : List ℕ) (count cap limit : ℕ) → count ≤ cap → Running first second count cap limit first second count (record { steps = 0 }) true
+pub running-start : (first second : List ℕ) (count cap limit : ℕ) → count ≤ cap → Running first second count cap limit first second count (record { steps = 0 }) true beginning
 running-start first second count cap limit h =
     record {
       first-length = refl;
       second-length = refl;
       room = h;
       left = omega arith;
-      at = λ e q g. record { term = e; good = g; words-are = q; same = rw (sub-zero limit) };
+      at = λ e q g. record { term = e; good = g; words-are = q; same = rw (sub-zero limit); standing = record { lang = ml; around = root; part = e; is = refl; reached = tt; place = refl; due-is = refl } };
+      few = omega arith;
     }
 
+few-resumed : (r : Move) → Few r → resumed r .due ≤ 1 + 3 * resumed r .place
+few-resumed move.Value h = omega arith
+few-resumed (move.Raised c) h = omega arith
+few-resumed (move.Next x) h = h
+few-resumed move.Stuck h = omega arith
+
 -- The buffer lengths after a step: one stays as it is, the other keeps its length.
-module _ {first₀ second₀ first second first′ second′ : List ℕ} {count cap limit n : ℕ} {made : Counts} {front : Bool} {r : Move}
-    (i : Running first₀ second₀ count cap limit first second n made front) (s : Advanced front n first second r first′ second′)
+module _ {first₀ second₀ first second first′ second′ : List ℕ} {count cap limit n : ℕ} {made : Counts} {front : Bool} {from : From} {r : Move}
+    (i : Running first₀ second₀ count cap limit first second n made front from) (s : Advanced front n from first second r first′ second′)
     (capF : cap ≤ length first₀) (capS : cap ≤ length second₀) where
   held-long : n ≤ length (held front first second)
   held-long = by front (i .first-length) (i .second-length)
@@ -81,19 +96,21 @@ module _ {first₀ second₀ first second first′ second′ : List ℕ} {count 
       by true p q = omega arith
       by false p q = omega arith
 
-  module _ {whole : spec.Result} (a : At whole limit cap made n (held front first second)) where
+  module _ {whole : spec.Result} (a : At whole limit cap made n from (held front first second)) where
     size-of : n ≡ length (words (a .term))
     size-of = sym (length-take-le n (held front first second) held-long) ∙ ap length (a .words-are)
 
     outcome : Moved (step (a .term)) (held (not front) first second) r (held (not front) first′ second′)
-    outcome = moved (s .stepped) (a .term) (a .words-are)
+    outcome = moved (s .stepped) (a .term) (a .words-are) (a .standing)
 
-    at-next : (m : ℕ) (more : Counts) → chosen r n cap made limit ≡ Go m more → At whole limit cap more m (held (not front) first′ second′)
+    at-next : (m : ℕ) (more : Counts) → chosen r n cap made limit ≡ Go m more → At whole limit cap more m (resumed r) (held (not front) first′ second′)
     at-next m more q =
         let g = goes (a .term) n cap limit made size-of (i .left) (limit - made .steps) (step (a .term)) _ _ r m more refl outcome q in
         let u = g .term in
         let f = go-fits n cap limit made (i .left) r m more q in
         let l : m ≡ length (words u) = g .size-is ∙ sym (size-words u) in
+        let o : Moved (next u) (held (not front) first second) r (held (not front) first′ second′) =
+        subst (λ o. Moved o (held (not front) first second) r (held (not front) first′ second′)) (g .outcome-is) outcome in
         record {
           term = u;
           good = good-next (a .term) u (a .good) (g .outcome-is);
@@ -101,6 +118,7 @@ module _ {first₀ second₀ first second first′ second′ : List ℕ} {count 
               ∙ take-at (words u) (drop (0 + length (words u)) (held (not front) first second)) m (sym l);
           same = a .same ∙ run-by (limit - made .steps) cap (countsOf made) (a .term) ∙ g .same
               ∙ ap (λ (c : Counts). spec.run (limit - c .steps) cap (countsOf c) u) (sym (g .counted));
+          standing = subst (λ (f : From). Standing u (f .place) (f .due)) (sym (ap resumed (o .1))) (o .4);
         }
 
     at-end : (x : Report) → chosen r n cap made limit ≡ Stop x
@@ -115,7 +133,7 @@ module _ {first₀ second₀ first second first′ second′ : List ℕ} {count 
         )
 
   pub running-next : (m : ℕ) (more : Counts) → chosen r n cap made limit ≡ Go m more → length first′ ≡ length first → length second′ ≡ length second
-      → Running first₀ second₀ count cap limit first′ second′ m more (not front)
+      → Running first₀ second₀ count cap limit first′ second′ m more (not front) (resumed r)
   running-next m more q p o =
       let f = go-fits n cap limit made (i .left) r m more q in
       record {
@@ -124,6 +142,7 @@ module _ {first₀ second₀ first second first′ second′ : List ℕ} {count 
         room = f .0;
         left = omega (arith, f);
         at = λ e w g. at-next (i .at e w g) m more q;
+        few = few-resumed r (s .few);
       }
 
   pub running-end : (x : Report) → chosen r n cap made limit ≡ Stop x → Ran limit cap (take count first₀) (record { report = x; front = front }) first′ second′

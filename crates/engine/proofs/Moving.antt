@@ -17,6 +17,7 @@ use Rattle.calculus.specs.Kinds.{term}
 use Rattle.reducer.specs.declared.steps.Change.{Change}
 use Rattle.reducer.specs.declared.steps.Move.{Move}
 use Rattle.reducer.specs.declared.steps.Move.the-variants as m
+use Rattle.reducer.specs.Around.{Standing}
 use Rattle.engine.specs.declared.ends.Counts.{Counts}
 use Rattle.engine.specs.declared.ends.End.{End}
 use Rattle.engine.specs.declared.ends.End.the-variants as ends
@@ -25,11 +26,11 @@ use Rattle.engine.specs.declared.ends.Choice.the-variants.{Stop, Go}
 use Rattle.engine.specs.Decided.{stopped, oneMore, chosen}
 use Rattle.engine.specs.Ran.{lineOf, endOf, countsOf, told}
 
--- A move is that of an outcome; the next term is put into the buffer b, which is b′ then.
+-- A move is that of an outcome; the next term is put into the buffer b, which is b′ then, and the next walk may begin where it is said to.
 abbrev pub Moved : Outcome ml → List ℕ → Move → List ℕ → Type 0
 Moved value b r b′ = r ≡ m.Value
 Moved (raised c) b r b′ = r ≡ m.Raised c
-Moved (next u) b r b′ = (x : Change) × (r ≡ m.Next x) × (x .size ≡ size u) × (b′ ≡ sets b 0 (words u))
+Moved (next u) b r b′ = (x : Change) × (r ≡ m.Next x) × (x .size ≡ size u) × (b′ ≡ sets b 0 (words u)) × Standing u (x .back .place) (x .back .due)
 Moved stuck b r b′ = r ≡ m.Stuck
 
 -- A report is that of a result, whose words left are the first of ws.

@@ -9,8 +9,11 @@ use Rattle.calculus.specs.Words.{words}
 use Rattle.calculus.specs.Limits.{InRange}
 use Rattle.calculus.specs.Typing.{Typed}
 use Rattle.calculus.specs.Run as spec
+use Rattle.reducer.specs.declared.turns.From.{From}
 use Rattle.reducer.specs.declared.steps.Move.{Move}
-use Rattle.reducer.specs.Moves.{Steps}
+use Rattle.reducer.specs.declared.steps.Move.the-variants as move
+use Rattle.reducer.specs.Placed.{beginning}
+use Rattle.reducer.specs.Moves.{Few, Steps}
 use Rattle.engine.specs.declared.ends.Counts.{Counts}
 use Rattle.engine.specs.declared.ends.End.{End}
 use Rattle.engine.specs.declared.ends.End.the-variants.{Value, Spent, Error, Full}
@@ -48,10 +51,18 @@ pub record Good (e : Term ml) : Type 0 where
   pub type : Ty
   pub typed : Typed [] e type
 
+-- Where the walk of the next step begins.
+abbrev pub resumed : Move → From
+resumed move.Value = beginning
+resumed (move.Raised c) = beginning
+resumed (move.Next x) = x .back
+resumed move.Stuck = beginning
+
 -- A step of the first n words of the buffer that holds the term, into the other.
-pub record Advanced (front : Bool) (n : ℕ) (first second : List ℕ) (r : Move) (first′ second′ : List ℕ) : Type 0 where
+pub record Advanced (front : Bool) (n : ℕ) (from : From) (first second : List ℕ) (r : Move) (first′ second′ : List ℕ) : Type 0 where
   pub kept : held front first′ second′ ≡ held front first second
-  pub stepped : Steps (take n (held front first second)) (held (not front) first second) r (held (not front) first′ second′)
+  pub few : Few r
+  pub stepped : Steps (take n (held front first second)) from (held (not front) first second) r (held (not front) first′ second′)
 
 -- Where the loop halts: the report and the term left are the run's.
 pub record Halted (r : spec.Result) (h : Halt) (first′ second′ : List ℕ) : Type 0 where

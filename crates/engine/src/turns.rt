@@ -6,12 +6,13 @@ use crate::ends::Report;
 use crate::ends::decide;
 use reducer::steps::Move;
 use reducer::steps::step;
+use reducer::turns::From;
 ghost use mathlib.Core.Path.{_≡_};
-ghost use Prim.Native.Nat.{_≤_};
+ghost use Prim.Native.Nat.{_+_, _*_, _≤_};
 ghost use lib.ListN.{length, take};
 ghost use Rattle.calculus.specs.Run.{capacity};
 ghost use Rattle.nodes.specs.Table.{kinds};
-ghost use Rattle.engine.specs.Ran.{Advanced, Ran, Reduced};
+ghost use Rattle.engine.specs.Ran.{resumed, Advanced, Ran, Reduced};
 
 // A report, and whether the term stands in the first buffer.
 pub struct Halt {
@@ -20,14 +21,33 @@ pub struct Halt {
 }
 
 // One step, from the buffer that holds the term into the other.
-fn advance(table: &[u64; 48], front: bool, first: &mut [u32], second: &mut [u32], n: usize) -> Move
-    requires { ⌜ (now table ≡ kinds) × (n ≤ length (now first)) × (n ≤ length (now second)) × (n ≤ 16384) ⌝ }
-    ensures { λ r. ⌜ Advanced front n (now (first .entry)) (now (second .entry)) r (now (first .exit)) (now (second .exit)) ⌝ }
+fn advance(
+    table: &[u64; 48],
+    front: bool,
+    first: &mut [u32],
+    second: &mut [u32],
+    n: usize,
+    from: From,
+) -> Move
+    requires { ⌜ (now table ≡ kinds) × (n ≤ length (now first)) × (n ≤ length (now second)) × (n ≤ 16384) × (from .due ≤ 1 + 3 * from .place) ⌝ }
+    ensures { λ r. ⌜ Advanced front n from (now (first .entry)) (now (second .entry)) r (now (first .exit)) (now (second .exit)) ⌝ }
 {
     if front {
-        return step(table, &first[..n], second);
+        return step(table, &first[..n], second, from);
     }
-    step(table, &second[..n], first)
+    step(table, &second[..n], first, from)
+}
+
+// Where the walk of the next step begins.
+fn resume(moved: Move) -> From
+    ensures { λ r. ⌜ r ≡ resumed moved ⌝ }
+{
+    match moved {
+        Move::Value => From { place: 0, due: 1 },
+        Move::Raised(_) => From { place: 0, due: 1 },
+        Move::Next(change) => change.back,
+        Move::Stuck => From { place: 0, due: 1 },
+    }
 }
 
 // Steps until the run ends.
@@ -45,8 +65,9 @@ fn turns(
     let mut n = count;
     let mut made = Counts { steps: 0 };
     let mut front = true;
+    let mut from = From { place: 0, due: 1 };
     loop {
-        let moved = advance(table, front, first, second, n);
+        let moved = advance(table, front, first, second, n, from);
         match decide(moved, n, cap, made, limit) {
             Choice::Stop(report) => {
                 return Halt {
@@ -58,6 +79,7 @@ fn turns(
                 n = size;
                 made = more;
                 front = !front;
+                from = resume(moved);
             }
         }
     }

@@ -1,3 +1,4 @@
 pub mod Turning
+pub mod Onward
 pub mod Walking
 pub mod Stepping

@@ -32,11 +32,14 @@ use Rattle.reducer.specs.declared.steps.Move.{Move}
 use Rattle.reducer.specs.declared.steps.Move.the-variants.{Value, Raised, Next, Stuck}
 use Rattle.reducer.specs.declared.steps.End.{End}
 use Rattle.reducer.specs.declared.steps.End.the-variants as end
-use Rattle.reducer.specs.Placed.{placed, Turns}
+use Rattle.reducer.specs.declared.turns.From.{From}
+use Rattle.reducer.specs.Around.{root, Standing, Ripe}
+use Rattle.reducer.specs.Placed.{beginning, Told, Turns}
 use Rattle.reducer.specs.Moves.{endOf, Fits, Spliced, Moved, Steps}
+use Rattle.reducer.proofs.Onward.{contextAt, context-place, context-is, part-stands, ripe-turn}
 
 -- The splice: what the node becomes is written first, and the words before it and after it around that.
-module _ (source : List ℕ) (place end : ℕ) (rl : Rule) (fits : Fits source place end rl) (b b₀ b′ : List ℕ) (after k : ℕ)
+module _ (source : List ℕ) (place end : ℕ) (rl : Rule) (fits : Fits source place end rl) (b b₀ b′ : List ℕ) (after k : ℕ) (back : From)
     (wrote : Writes (take (length source - place) (drop place source)) rl b place after b₀) (next : writer.Next source place after end 1 b₀ k b′) where
   writes : Writes (drop place source) rl b place after b₀
   writes = subst (λ (v : List ℕ). Writes v rl b place after b₀) (part-to-end source place) wrote
@@ -47,13 +50,13 @@ module _ (source : List ℕ) (place end : ℕ) (rl : Rule) (fits : Fits source p
   passed : (next .k₂ ≡ after) × (next .b₂ ≡ next .b₁)
   passed = next .piece .passed (λ z. omega (arith, z))
 
-  back : Wrote (next .b₁) after (drop end source) k b′
-  back =
+  rear : Wrote (next .b₁) after (drop end source) k b′
+  rear =
       subst (λ (j : ℕ). Wrote (next .b₁) j (drop end source) k b′) (passed .0)
       (subst (λ (v : List ℕ). Wrote v (next .k₂) (drop end source) k b′) (passed .1) (wrote-as (part-to-end source end) (next .back .copied refl)))
 
   abbrev change : Change
-  change = record { place = place; stood = end - place; stands = after - place; size = k }
+  change = record { place = place; stood = end - place; stands = after - place; size = k; back = back }
 
   spliced-of : (P : List ℕ) (m : Lang) (n u : Term m) (Q : List ℕ) → source ≡ P ++ put n Q → place ≡ length P → contract n ≡ becomes u
       → (end - place ≡ size n) × (after - place ≡ size u) × Wrote b 0 (P ++ put u Q) k b′
@@ -67,20 +70,22 @@ module _ (source : List ℕ) (place end : ℕ) (rl : Rule) (fits : Fits source p
       let became : Wrote b place (words u) after b₀ = writes .of m u tells in
       let f : Wrote b₀ 0 P place (next .b₁) =
       subst (λ (j : ℕ). Wrote b₀ 0 P j (next .b₁)) (front .place ∙ omega (arith, h, ap length before-it)) (wrote-as before-it front) in
-      let w = then (before became f) (wrote-as after-it back) in
+      let w = then (before became f) (wrote-as after-it rear) in
       let z : (P ++ words u) ++ Q ≡ P ++ put u Q = append-assoc P (words u) Q ∙ ap (λ (v : List ℕ). P ++ v) (sym (put-append u [] Q)) in
       (omega (arith, e), omega (arith, became .place, tree-length (term m) u []), wrote-as z w)
 
-  pub spliced : Spliced source place b change b′
-  spliced = record { where-it-was = refl; of = spliced-of }
+  pub spliced : Spliced source place back b change b′
+  spliced = record { where-it-was = refl; from-there = refl; of = spliced-of }
 
-abbrev isValue : Found → Bool
-isValue found.Value = true
-isValue (found.At p e) = false
+-- A walk may begin at the start, whatever place was told; and the node that a walk from a place finds is that of a walk from the start.
+pub from-the-start : {ws : List ℕ} {from : From} {r : Found} → Turns ws beginning beginning r → Turns ws from beginning r
+from-the-start t =
+    record { of = λ e q s. t .of e q (record { lang = ml; around = root; part = e; is = refl; reached = tt; place = refl; due-is = refl }) }
 
-abbrev placeOf : Found → ℕ
-placeOf found.Value = 0
-placeOf (found.At p e) = p
+pub at-any-rate : {ws : List ℕ} {from : From} {r : Found} → Turns ws from from r → (place end : ℕ) (back : From) → r ≡ found.At place end back
+    → Turns ws from beginning r
+at-any-rate {ws} {from} {r} t place end back q =
+    record { of = λ e w s. subst (Told e beginning) (sym q) (subst (Told e from) q (t .of e w s)) }
 
 abbrev isWriting : End → Bool
 isWriting end.Stuck = false
@@ -96,47 +101,6 @@ abbrev isStuck : End → Bool
 isStuck end.Stuck = true
 isStuck (end.Raised c) = false
 isStuck end.Writes = false
-
--- A step by the turn that was found.
-module _ (source b b′ : List ℕ) (r : Move) where
-  by-turn : (e : Term ml) (o : calculus.Turn ml) → turns.Found e o
-      → (o ≡ done → Moved e r b b′ calculus.value)
-      → ((m : Lang) (F : Context m ml) (n : Term m) → o ≡ calculus.at m F n → fill F n ≡ e → Moved e r b b′ (outcome F (contract n)))
-      → Moved e r b b′ (stepped o)
-  by-turn e done f v p = v refl
-  by-turn e (calculus.at m F n) f v p = p m F n refl (f .0)
-
-module _ (source b : List ℕ) (x : Found) (x-is : Turns source x) where
-  -- A value.
-  pub step-value : x ≡ found.Value → Steps source b Value b
-  unfolding step
-  step-value h =
-      record {
-        of = λ e q.
-            by-turn source b b Value e (turn e) (turns.turn-found e) (λ z. (refl, refl))
-            (λ m F n′ z s. absurd (subst T (ap isValue (sym h ∙ x-is .of ml e [] q ∙ ap (λ t. placed 0 t found.Value) z)) tt));
-      }
-
-  module _ (place last : ℕ) (h : x ≡ found.At place last) (rl : Rule) (told : OfNode (drop place source) rl) (b′ : List ℕ) (r : Move) where
-    module _ (e : Term ml) (q : source ≡ words e) where
-      -- Where the node stands.
-      module _ {m : Lang} (F : Context m ml) (n : Term m) (z : turn e ≡ calculus.at m F n) (s : fill F n ≡ e) where
-        stands : source ≡ wordsBefore F ++ put n (wordsAfter F ++ [])
-        stands = q ∙ ap words (sym s) ∙ put-fill F n []
-
-        place-is : place ≡ length (wordsBefore F)
-        place-is = ap placeOf (sym h ∙ x-is .of ml e [] q ∙ ap (λ t. placed 0 t found.Value) z) ∙ omega arith
-
-        tells : Tells (drop place source) rl (contract n)
-        tells =
-            let d : drop place source ≡ put n (wordsAfter F ++ []) = ap (drop place) stands ∙ drop-at (wordsBefore F) _ place (sym place-is) in
-            told .of m n (wordsAfter F ++ []) d
-
-      step-is : ((m : Lang) (F : Context m ml) (n : Term m) → turn e ≡ calculus.at m F n → fill F n ≡ e → Moved e r b b′ (outcome F (contract n)))
-          → Moved e r b b′ (step e)
-      unfolding step
-      step-is p =
-          by-turn source b b′ r e (turn e) (turns.turn-found e) (λ z. absurd (subst T (ap isValue (ap (λ t. placed 0 t found.Value) (sym z) ∙ sym (x-is .of ml e [] q) ∙ h)) tt)) p
 
 -- A rule that gives a term is one that writes.
 gives-writes : {m : Lang} (ws : List ℕ) (rl : Rule) (u : Term m) → Gives ws rl u → endOf rl ≡ end.Writes
@@ -166,50 +130,69 @@ module _ {m : Lang} (e : Term ml) (b ws : List ℕ) (rl : Rule) (F : Context m m
   raised-moved n h (raises c) t = (ap Raised (ap codeOf (sym h ∙ ap endOf t)), refl)
   raised-moved n h nothing t = absurd (subst T (ap isStuck (sym (ap endOf t) ∙ h)) tt)
 
-module _ (source b : List ℕ) (x : Found) (x-is : Turns source x) (place last : ℕ) (h : x ≡ found.At place last) (rl : Rule)
-    (told : OfNode (drop place source) rl) where
-  pub step-stuck : endOf rl ≡ end.Stuck → Steps source b Stuck b
-  step-stuck g =
-      record {
-        of = λ e q.
-            step-is source b x x-is place last h rl told b Stuck e q
-            (λ m F n z s. stuck-moved e b (drop place source) rl F g (contract n) (tells source b x x-is place last h rl told b Stuck e q F n z s));
-      }
+module _ (source : List ℕ) (from : From) (b : List ℕ) (x : Found) (x-is : Turns source from beginning x) where
+  -- A value.
+  pub step-value : x ≡ found.Nothing → Steps source from b Value b
+  unfolding step
+  step-value h =
+      record { of = λ e q s. subst (λ t. Moved e Value b b (stepped t)) (sym (subst (Told e beginning) h (x-is .of e q s) refl)) (refl, refl) }
 
-  pub step-raised : (c : ℕ) → endOf rl ≡ end.Raised c → Steps source b (Raised c) b
-  step-raised c g =
-      record {
-        of = λ e q.
-            step-is source b x x-is place last h rl told b (Raised c) e q
-            (λ m F n z s. raised-moved e b (drop place source) rl F c g (contract n) (tells source b x x-is place last h rl told b (Raised c) e q F n z s));
-      }
+  module _ (place last : ℕ) (back : From) (h : x ≡ found.At place last back) (rl : Rule) (told : OfNode (drop place source) rl) where
+    -- The node whose turn it is, and the rule.
+    module _ (e : Term ml) (q : source ≡ words e) (s₀ : Standing e (from .place) (from .due)) where
+      ripe : Ripe e place (back .place) (back .due)
+      ripe = subst (Told e beginning) h (x-is .of e q s₀)
 
-  module _ (b′ : List ℕ) (c : Change) (sp : Spliced source place b c b′) (g : endOf rl ≡ end.Writes) where
-    next-moved : (e : Term ml) (q : source ≡ words e) {m : Lang} (F : Context m ml) (n : Term m) (z : turn e ≡ calculus.at m F n) (s : fill F n ≡ e)
-        (o : Became m) → contract n ≡ o → Tells (drop place source) rl o → Moved e (Next c) b b′ (outcome F o)
-    next-moved e q {m} F n z s (becomes u) k t =
-        let p = place-is source b x x-is place last h rl told b′ (Next c) e q F n z s in
-        let w = sp .of (wordsBefore F) m n u (wordsAfter F ++ []) (stands source b x x-is place last h rl told b′ (Next c) e q F n z s) p k in
-        let v : Wrote b 0 (words (fill F u)) (c .size) b′ = wrote-as (sym (put-fill F u [])) (w .2) in (
-          c,
-          refl,
-          record {
-            splice =
-                record { lang = m; place = F; node = n; became = u; turns = z; contracts = k; was = ap words (sym s) ∙ words-fill F n; is = words-fill F u };
-            place = sp .where-it-was ∙ p;
-            stood = w .0;
-            stands = w .1;
-            sized = omega (arith, v .place, tree-length (term ml) (fill F u) []);
-            written = v;
-          },
-        )
-    next-moved e q F n z s (raises i) k t = absurd (subst T (ap isWriting (sym g ∙ ap endOf t)) tt)
-    next-moved e q F n z s nothing k t = absurd (subst T (ap isWriting (sym g ∙ ap endOf t)) tt)
+      abbrev at : Standing e place (ripe .here)
+      at = ripe .standing
 
-    pub step-next : Steps source b (Next c) b′
-    step-next =
-        record {
-          of = λ e q.
-              step-is source b x x-is place last h rl told b′ (Next c) e q
-              (λ m F n z s. next-moved e q F n z s (contract n) refl (tells source b x x-is place last h rl told b′ (Next c) e q F n z s));
-        }
+      tells : Tells (drop place source) rl (contract (at .part))
+      tells = told .of (at .lang) (at .part) _ (part-stands at source q)
+
+      by-node : (r : Move) (b′ : List ℕ) → Moved e r b b′ (outcome (contextAt at) (contract (at .part))) → Moved e r b b′ (step e)
+      unfolding step
+      by-node r b′ m = subst (λ t. Moved e r b b′ (stepped t)) (sym (ripe-turn ripe)) m
+
+    pub step-stuck : endOf rl ≡ end.Stuck → Steps source from b Stuck b
+    step-stuck g = record { of = λ e q s. by-node e q s Stuck b (stuck-moved e b (drop place source) rl (contextAt (at e q s)) g (contract (at e q s .part)) (tells e q s)) }
+
+    pub step-raised : (c : ℕ) → endOf rl ≡ end.Raised c → Steps source from b (Raised c) b
+    step-raised c g = record { of = λ e q s. by-node e q s (Raised c) b (raised-moved e b (drop place source) rl (contextAt (at e q s)) c g (contract (at e q s .part)) (tells e q s)) }
+
+    module _ (b′ : List ℕ) (c : Change) (sp : Spliced source place back b c b′) (g : endOf rl ≡ end.Writes) where
+      next-moved : (e : Term ml) (q : source ≡ words e) (s : Standing e (from .place) (from .due)) (o : Became (at e q s .lang)) → contract (at e q s .part) ≡ o → Tells (drop place source) rl o
+          → Moved e (Next c) b b′ (outcome (contextAt (at e q s)) o)
+      next-moved e q s₀ (becomes u) k t =
+          let s = at e q s₀ in
+          let F = contextAt s in
+          let f : fill F (s .part) ≡ e = context-is s (s .part) ∙ s .is in
+          let stands : source ≡ wordsBefore F ++ put (s .part) (wordsAfter F ++ []) = q ∙ ap words (sym f) ∙ put-fill F (s .part) [] in
+          let w = sp .of (wordsBefore F) (s .lang) (s .part) u (wordsAfter F ++ []) stands (sym (context-place s)) k in
+          let v : Wrote b 0 (words (fill F u)) (c .size) b′ = wrote-as (sym (put-fill F u [])) (w .2) in (
+            c,
+            refl,
+            record {
+              splice =
+                  record {
+                    lang = s .lang;
+                    place = F;
+                    node = s .part;
+                    became = u;
+                    turns = ripe-turn (ripe e q s₀);
+                    contracts = k;
+                    was = ap words (sym f) ∙ words-fill F (s .part);
+                    is = words-fill F u;
+                  };
+              place = sp .where-it-was ∙ sym (context-place s);
+              stood = w .0;
+              stands = w .1;
+              sized = omega (arith, v .place, tree-length (term ml) (fill F u) []);
+              written = v;
+              resumes = rw (sp .from-there) (subst (λ (y : Term ml). Standing y (back .place) (back .due)) (sym (context-is s u)) (ripe e q s₀ .resumes u));
+            },
+          )
+      next-moved e q s₀ (raises i) k t = absurd (subst T (ap isWriting (sym g ∙ ap endOf t)) tt)
+      next-moved e q s₀ nothing k t = absurd (subst T (ap isWriting (sym g ∙ ap endOf t)) tt)
+
+      pub step-next : Steps source from b (Next c) b′
+      step-next = record { of = λ e q s. by-node e q s (Next c) b′ (next-moved e q s (contract (at e q s .part)) refl (tells e q s)) }

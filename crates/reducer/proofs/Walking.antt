@@ -1,82 +1,76 @@
 -- The walk that finds whose turn it is: what is known before each turn of its loop, and its end. Assumes nothing.
 use Prim.Native.Nat.{ℕ, suc, _+_, _*_, _-_, _≤_, _<_}
 use mathlib.Core.Bool.{Bool, true, false, cond}
-use mathlib.Core.List.{List, [], _∷_, _++_}
+use mathlib.Core.List.{List, [], _++_}
 use mathlib.Core.Logic.{_⊎_, inl, inr}
 use mathlib.Core.Path.{_≡_, refl, sym, ap, _∙_, subst}
 use lib.Dec.{T}
-use lib.ListN.{length, drop, length-append, length-drop, drop-of-length-le}
+use lib.ListN.{length, drop, length-drop, drop-of-length-le}
 use lib.Seq.{drop-drop}
 use native.Mathlib.Omega.{arith}
-use Rattle.calculus.specs.Trees.{Lang, Term}
-use Rattle.calculus.specs.Words.{put, size}
+use Rattle.calculus.specs.Trees.{Lang, ml, Term}
+use Rattle.calculus.specs.Words.{put, words, size}
 use Rattle.calculus.specs.Kinds.{term}
-use Rattle.calculus.specs.Reduction.{turn}
+use Rattle.calculus.specs.Reduction.{plug, done, turn}
+use Rattle.calculus.specs.Rules.{Value}
 use Rattle.calculus.proofs.Sizes.{tree-length}
+use Rattle.calculus.proofs.Splices.{wordsAfter}
+use Rattle.calculus.proofs.Values.{value-turn}
 use Rattle.writing.specs.Spans.{span}
-use Rattle.writing.proofs.Measures.{span-tree, span-end}
+use Rattle.writing.proofs.Measures.{span-end}
 use Rattle.writing.proofs.Lengths.{span-next, span-join}
 use Rattle.contraction.proofs.Views.{size-some}
 use Rattle.reducer.specs.declared.turns.Found.{Found}
-use Rattle.reducer.specs.declared.turns.Found.the-variants.{Value, At}
+use Rattle.reducer.specs.declared.turns.Found.the-variants.{Nothing, At}
+use Rattle.reducer.specs.declared.turns.From.{From}
 use Rattle.reducer.specs.declared.turns.Look.{Look}
-use Rattle.reducer.specs.Placed.{placed, Turns, Spanned, Parts, putParts, firstTurn, finished, Seen, Looked}
+use Rattle.reducer.specs.Around.{inside, whole, waitsFor, pending, Standing, Ripe}
+use Rattle.reducer.specs.Placed.{beginning, Told, Turns, Spanned, finished, Alone, Enters, Looked}
+use Rattle.reducer.proofs.Onward.{contextAt, part-stands, Owner, Owns, owner-standing, Free, start-free, Further, Over, onward}
 
-abbrev sizeParts : Parts → ℕ
-sizeParts [] = 0
-sizeParts (p ∷ ps) = size (p .1) + sizeParts ps
+-- The walk stands at a part; if a node was met that waits, the last such is the nearest around.
+pub record Stood (from : From) (e : Term ml) (i due : ℕ) (node back : From) (waits : Bool) : Type 0 where
+  pub standing : Standing e i due
+  pub owned : waits ≡ true → Owns (standing .around) node back
+  pub free : waits ≡ false → from .place ≡ 0 → Free (standing .around)
 
-parts-length : (ps : Parts) (k : List ℕ) → length (putParts ps k) ≡ sizeParts ps + length k
-parts-length [] k = omega arith
-parts-length (p ∷ ps) k = omega (arith, tree-length (term (p .0)) (p .1) (putParts ps k), parts-length ps k)
-
-parts-append : (ps qs : Parts) (k : List ℕ) → putParts (ps ++ qs) k ≡ putParts ps (putParts qs k)
-parts-append [] qs k = refl
-parts-append (p ∷ ps) qs k = ap (put (p .1)) (parts-append ps qs k)
-
-turns-append : (at : ℕ) (ps qs : Parts) (next : Found) → firstTurn at (ps ++ qs) next ≡ firstTurn at ps (firstTurn (at + sizeParts ps) qs next)
-turns-append at [] qs next = let z : at ≡ at + 0 = omega arith in ap (λ (i : ℕ). firstTurn i qs next) z
-turns-append at (p ∷ ps) qs next =
-    let z : at + size (p .1) + sizeParts ps ≡ at + (size (p .1) + sizeParts ps) = omega arith in
-    ap (placed at (turn (p .1))) (turns-append (at + size (p .1)) ps qs next ∙ ap (λ (i : ℕ). firstTurn (at + size (p .1)) ps (firstTurn i qs next)) z)
-
--- From the place i on stand the parts that are due, and their first turn is the answer; if all are values, that of the node that waits.
-pub record Walked {l : Lang} (ws : List ℕ) (i due place : ℕ) (waits : Bool) (e : Term l) : Type 0 where
-  pub parts : Parts
-  pub more : List ℕ
-  pub as-many : due ≡ length parts
-  pub stand : drop i ws ≡ putParts parts more
-  pub answer : placed 0 (turn e) Value ≡ firstTurn i parts (finished waits place (place + span (drop place ws) 1))
+-- Nothing is due any more.
+pub record Came (from : From) (e : Term ml) (due : ℕ) (node back : From) (waits : Bool) : Type 0 where
+  pub none : due ≡ 0
+  pub ripe : waits ≡ true → Ripe e (node .place) (back .place) (back .due)
+  pub value : waits ≡ false → from .place ≡ 0 → turn e ≡ done
 
 -- Before each turn of the loop. Of any words: the node that waits ends where the nodes due and its rest do.
-pub record Walking (ws : List ℕ) (i due rest place : ℕ) (waits : Bool) : Type 0 where
+pub record Waiting (ws : List ℕ) (i due rest : ℕ) (node back : From) : Type 0 where
   pub inside : i ≤ length ws
+  pub met : node .place ≤ length ws
+  pub ends : node .place + span (drop (node .place) ws) 1 ≡ i + span (drop i ws) (due + rest)
+  pub few : node .due ≤ 1 + 3 * node .place
+  pub back-few : back .due ≤ 1 + 3 * back .place
+
+pub record Walking (ws : List ℕ) (from : From) (i due rest : ℕ) (node back : From) (waits : Bool) : Type 0 where
   pub few : due ≤ 1 + 3 * i
   pub small : rest ≤ 3
-  pub waiting : waits ≡ true → (place ≤ length ws) × (place + span (drop place ws) 1 ≡ i + span (drop i ws) (due + rest))
-  pub of : (l : Lang) (e : Term l) (k : List ℕ) → ws ≡ put e k → Walked ws i due place waits e
+  pub waiting : waits ≡ true → Waiting ws i due rest node back
+  pub of : (e : Term ml) → ws ≡ words e → Standing e (from .place) (from .due) → Stood from e i due node back waits ⊎ Came from e due node back waits
 
-pub walking-start : (ws : List ℕ) → Walking ws 0 1 0 0 false
-walking-start ws =
+pub walking-start : (ws : List ℕ) (from : From) → from .due ≤ 1 + 3 * from .place → Walking ws from (from .place) (from .due) 0 beginning beginning false
+walking-start ws from r =
     record {
-      inside = omega arith;
-      few = omega arith;
+      few = r;
       small = omega arith;
       waiting = λ h. absurd (subst T (sym h) tt);
-      of = λ l e k q. record { parts = (l, e) ∷ []; more = k; as-many = refl; stand = q; answer = refl };
+      of = λ e q s.
+          inl (record { standing = s; owned = λ h. absurd (subst T (sym h) tt); free = λ _ z. start-free (s .around) (sym z ∙ s .place) });
     }
 
-module _ {ws : List ℕ} {i due rest place : ℕ} {waits : Bool} (w : Walking ws i due rest place waits) (some : due ≡ 0 → ⊥) (r : Look)
-    (seen : Looked (drop i ws) r) where
+module _ {ws : List ℕ} {from : From} {i due rest : ℕ} {node back : From} {waits : Bool} (w : Walking ws from i due rest node back waits)
+    (some : due ≡ 0 → ⊥) (within : i < length ws) (r : Look) (seen : Looked (drop i ws) r) where
   abbrev i′ : ℕ
   i′ = i + r .start
 
-  -- The answer once all that is due are values.
-  abbrev last : Found
-  last = finished waits place (place + span (drop place ws) 1)
-
   inside′ : i′ ≤ length ws
-  inside′ = omega (arith, seen .within, length-drop i ws, w .inside)
+  inside′ = omega (arith, seen .within, length-drop i ws)
 
   past : drop (r .start) (drop i ws) ≡ drop i′ ws
   past = drop-drop (r .start) i ws
@@ -84,128 +78,185 @@ module _ {ws : List ℕ} {i due rest place : ℕ} {waits : Bool} (w : Walking ws
   ends : i + span (drop i ws) 1 ≡ i′ + span (drop i′ ws) (r .takes + r .rest)
   ends = omega (arith, seen .ends, ap (λ (v : List ℕ). span v (r .takes + r .rest)) past)
 
-  -- The first of the parts due, which was looked at, and the others.
-  record Split {l : Lang} (e : Term l) : Type 0 where
-    lang : Lang
-    item : Term lang
-    others : Parts
-    more : List ℕ
-    left : due ≡ suc (length others)
-    stand : drop i ws ≡ put item (putParts others more)
-    answer : placed 0 (turn e) Value ≡ placed i (turn item) (firstTurn (i + size item) others last)
-    look : Seen (drop i ws) r item (putParts others more)
+  -- What was seen of the part where the walk stands.
+  sight : {e : Term ml} → ws ≡ words e → (s : Standing e i due) → Alone r (s .part) ⊎ Enters r (s .part)
+  sight q s = seen .of (s .lang) (s .part) (wordsAfter (contextAt s) ++ []) (part-stands s ws q)
 
-  split : (l : Lang) (e : Term l) (k : List ℕ) → ws ≡ put e k → Split e
-  split l e k q = by (w .of l e k q)
+  -- Into its first part.
+  abbrev entered : {e : Term ml} (s : Standing e i due) (n : Enters r (s .part)) (due′ : ℕ) → due′ ≡ 1 + pending (inside (n .frame) (s .around)) → Standing e i′ due′
+  entered s n due′ h =
+      record {
+        lang = n .lang;
+        around = inside (n .frame) (s .around);
+        part = n .part;
+        is = ap (whole (s .around)) (n .is) ∙ s .is;
+        reached = (n .taken, s .reached);
+        place = omega (arith, s .place, n .start);
+        due-is = h;
+      }
+
+  -- Where the node stands, and where the next walk may begin.
+  abbrev at : From
+  at = record { place = i; due = due }
+
+  abbrev back′ : From
+  back′ = cond waits node at
+
+  resumes : {e : Term ml} (s : Stood from e i due node back waits) → (x : Term (s .standing .lang)) → Standing (whole (s .standing .around) x) (back′ .place) (back′ .due)
+  resumes s x = by waits refl
     where
-      by : Walked ws i due place waits e → Split e
-      by u = cases (u .parts) (u .as-many) (u .stand) (u .answer)
-        where
-          cases : (ps : Parts) → due ≡ length ps → drop i ws ≡ putParts ps (u .more)
-              → placed 0 (turn e) Value ≡ firstTurn i ps last → Split e
-          cases [] n s a = absurd (some n)
-          cases (p ∷ ps) n s a =
+      by : (b : Bool) → waits ≡ b → Standing (whole (s .standing .around) x) (cond b node at .place) (cond b node at .due)
+      by true b = let t = s .standing in owner-standing (t .around) node back (t .reached) (s .owned b) x
+      by false b =
+          let t = s .standing in
+          record { lang = t .lang; around = t .around; part = x; is = refl; reached = t .reached; place = t .place; due-is = t .due-is }
+
+  back-few : back′ .due ≤ 1 + 3 * back′ .place
+  back-few = by waits refl
+    where
+      by : (b : Bool) → waits ≡ b → cond b node at .due ≤ 1 + 3 * cond b node at .place
+      by true b = w .waiting b .few
+      by false b = w .few
+
+  module _ (h : r .own ≡ true) where
+    own-stood : {e : Term ml} (s₁ : Stood from e i due node back waits) → Alone r (s₁ .standing .part) ⊎ Enters r (s₁ .standing .part)
+        → Stood from e i′ (1 - 1 + r .takes) at back′ true ⊎ Came from e (1 - 1 + r .takes) at back′ true
+    own-stood s₁ (inl a) =
+        inr
+        (record {
+          none = omega (arith, a .none);
+          ripe = λ _. record { here = due; standing = s₁ .standing; ready = a .ready h; resumes = resumes s₁ };
+          value = λ z. absurd (subst T z tt);
+        })
+    own-stood s₁ (inr n) =
+        let s = s₁ .standing in
+        let u : waitsFor (n .frame) ≡ true = sym (n .own) ∙ h in
+        inl
+        (record {
+          standing = entered s n (1 - 1 + r .takes) (rw u (omega (arith, n .takes)));
+          owned = λ _. (λ _. record { place = s .place; due = s .due-is; resumes = resumes s₁ }, λ z. absurd (subst T (sym u ∙ z) tt));
+          free = λ z. absurd (subst T z tt);
+        })
+
+    -- The node waits: its parts are due.
+    pub walking-own : Walking ws from i′ (1 - 1 + r .takes) (r .rest) at back′ true
+    walking-own =
+        let z : 1 - 1 + r .takes ≡ r .takes = omega arith in
+        record {
+          few = omega (arith, seen .few, seen .some);
+          small = omega (arith, seen .few);
+          waiting = λ _. record { inside = inside′; met = omega arith; ends = rw z ends; few = w .few; back-few = back-few };
+          of = λ e q s₀. by e q (w .of e q s₀);
+        }
+      where
+        by : (e : Term ml) → ws ≡ words e → Stood from e i due node back waits ⊎ Came from e due node back waits
+            → Stood from e i′ (1 - 1 + r .takes) at back′ true ⊎ Came from e (1 - 1 + r .takes) at back′ true
+        by e q (inl s) = own-stood s (sight q (s .standing))
+        by e q (inr c) = absurd (some (c .none))
+
+  module _ (h : r .own ≡ false) where
+    -- Past a value on its own.
+    value-alone : {e : Term ml} (s : Stood from e i due node back waits) → Alone r (s .standing .part)
+        → Further (s .standing .around) (s .standing .part) ⊎ Over (s .standing .around) (s .standing .part)
+        → Stood from e i′ (due - 1 + r .takes) node back waits ⊎ Came from e (due - 1 + r .takes) node back waits
+    value-alone s a (inl g) =
+        let t = s .standing in
+        inl
+        (record {
+          standing =
               record {
-                lang = p .0;
-                item = p .1;
-                others = ps;
-                more = u .more;
-                left = n;
-                stand = s;
-                answer = a;
-                look = seen .of (p .0) (p .1) (putParts ps (u .more)) s;
-              }
+                lang = g .lang;
+                around = g .around;
+                part = g .part;
+                is = g .is ∙ t .is;
+                reached = g .reached;
+                place = omega (arith, g .place, t .place, a .start);
+                due-is = omega (arith, g .left, t .due-is, a .none);
+              };
+          owned = λ b. g .owns node back (s .owned b);
+          free = λ b z. g .free (s .free b z);
+        })
+    value-alone {e} s a (inr g) =
+        let t = s .standing in
+        inr
+        (record {
+          none = omega (arith, g .none, t .due-is, a .none);
+          ripe = λ b. subst (λ (x : Term ml). Ripe x (node .place) (back .place) (back .due)) (t .is) (g .ripe node back (s .owned b));
+          value = λ b z. ap turn (sym (t .is)) ∙ value-turn (g .value (s .free b z));
+        })
 
-  -- The node waits: its parts are due.
-  pub walking-own : r .own ≡ true → Walking ws i′ (1 - 1 + r .takes) (r .rest) i true
-  walking-own h =
-      let z : 1 - 1 + r .takes ≡ r .takes = omega arith in
-      record {
-        inside = inside′;
-        few = omega (arith, seen .few, seen .some);
-        small = omega (arith, seen .few);
-        waiting = λ _. (w .inside, rw z ends);
-        of = λ l e k q.
-            let u = split l e k q in
-            let v = u .look in
-            let s : size (u .item) ≡ span (drop i ws) 1 = sym (span-tree (term (u .lang)) (u .item) (putParts (u .others) (u .more)) (drop i ws) (u .stand)) in
-            record {
-              parts = v .parts;
-              more = v .more;
-              as-many = z ∙ v .taken;
-              stand = sym past ∙ v .stand;
-              answer =
-                  u .answer ∙ v .turns i (firstTurn (i + size (u .item)) (u .others) last)
-                  ∙ ap (λ (b : Bool). firstTurn i′ (v .parts) (cond b (At i (i + size (u .item))) (firstTurn (i + size (u .item)) (u .others) last))) h
-                  ∙ ap (λ (n : ℕ). firstTurn i′ (v .parts) (At i (i + n))) s;
-            };
-      }
+    value-stood : {e : Term ml} (s : Stood from e i due node back waits) → Alone r (s .standing .part) ⊎ Enters r (s .standing .part)
+        → Stood from e i′ (due - 1 + r .takes) node back waits ⊎ Came from e (due - 1 + r .takes) node back waits
+    value-stood s (inl a) = let t = s .standing in value-alone s a (onward (t .lang) (t .around) (t .part) (t .reached) (a .value h))
+    value-stood s (inr n) =
+        let u : waitsFor (n .frame) ≡ false = sym (n .own) ∙ h in
+        inl
+        (record {
+          standing = entered (s .standing) n (due - 1 + r .takes) (rw u (omega (arith, n .takes, s .standing .due-is)));
+          owned = λ b. (λ z. absurd (subst T (sym z ∙ u) tt), λ _. s .owned b);
+          free = λ b z. (u, s .free b z);
+        })
 
-  -- The node is a value if its parts are: they are due, and then the others.
-  pub walking-value : r .own ≡ false → Walking ws i′ (due - 1 + r .takes) rest place waits
-  walking-value h =
-      record {
-        inside = inside′;
-        few = omega (arith, w .few, seen .few, seen .some);
-        small = w .small;
-        waiting = λ b.
-            let p = w .waiting b in
-            let m : i + span (drop i ws) 1 ≡ i′ + span (drop i′ ws) (r .takes) =
-            ends ∙ ap (λ (n : ℕ). i′ + span (drop i′ ws) n) (omega (arith, seen .closed h)) in
-            let d : 1 + (due - 1 + rest) ≡ due + rest = omega arith in
-            let a : due - 1 + r .takes + rest ≡ r .takes + (due - 1 + rest) = omega arith in
-            let o = span-next ws i (i + span (drop i ws) 1) 1 (due - 1 + rest) refl (place + span (drop place ws) 1) (rw d (p .1)) in
-            (p .0, rw a (span-join ws i′ (i + span (drop i ws) 1) (r .takes) (due - 1 + rest) m (place + span (drop place ws) 1) o));
-        of = λ l e k q.
-            let u = split l e k q in
-            let v = u .look in
-            let c = v .whole h in
-            let s : drop i′ ws ≡ putParts (v .parts ++ u .others) (u .more) =
-            sym past ∙ v .stand ∙ ap (putParts (v .parts)) c ∙ sym (parts-append (v .parts) (u .others) (u .more)) in
-            let n : i′ + sizeParts (v .parts) ≡ i + size (u .item) =
-            omega (arith, ap length (u .stand), tree-length (term (u .lang)) (u .item) (putParts (u .others) (u .more)), ap length (sym past ∙ v .stand ∙ ap (putParts (v .parts)) c), parts-length (v .parts) (putParts (u .others) (u .more)), length-drop i ws, length-drop i′ ws, inside′, w .inside) in
-            record {
-              parts = v .parts ++ u .others;
-              more = u .more;
-              as-many = omega (arith, u .left, v .taken, length-append (v .parts) (u .others));
-              stand = s;
-              answer =
-                  u .answer ∙ v .turns i (firstTurn (i + size (u .item)) (u .others) last)
-                  ∙ ap (λ (b : Bool). firstTurn i′ (v .parts) (cond b (At i (i + size (u .item))) (firstTurn (i + size (u .item)) (u .others) last))) h
-                  ∙ ap (λ (j : ℕ). firstTurn i′ (v .parts) (firstTurn j (u .others) last)) (sym n)
-                  ∙ sym (turns-append i′ (v .parts) (u .others) last);
-            };
-      }
+    waiting-on : waits ≡ true → Waiting ws i′ (due - 1 + r .takes) rest node back
+    waiting-on b =
+        let p = w .waiting b in
+        let m : i + span (drop i ws) 1 ≡ i′ + span (drop i′ ws) (r .takes) =
+        ends ∙ ap (λ (n : ℕ). i′ + span (drop i′ ws) n) (omega (arith, seen .closed h)) in
+        let d : 1 + (due - 1 + rest) ≡ due + rest = omega arith in
+        let a : due - 1 + r .takes + rest ≡ r .takes + (due - 1 + rest) = omega arith in
+        let o = span-next ws i (i + span (drop i ws) 1) 1 (due - 1 + rest) refl (node .place + span (drop (node .place) ws) 1) (rw d (p .ends)) in
+        record {
+          inside = inside′;
+          met = p .met;
+          ends = rw a (span-join ws i′ (i + span (drop i ws) 1) (r .takes) (due - 1 + rest) m (node .place + span (drop (node .place) ws) 1) o);
+          few = p .few;
+          back-few = p .back-few;
+        }
+
+    -- The node is a value if its parts are: they are due, and then the others.
+    pub walking-value : Walking ws from i′ (due - 1 + r .takes) rest node back waits
+    walking-value =
+        record {
+          few = omega (arith, w .few, seen .few, seen .some);
+          small = w .small;
+          waiting = waiting-on;
+          of = λ e q s₀. by e q (w .of e q s₀);
+        }
+      where
+        by : (e : Term ml) → ws ≡ words e → Stood from e i due node back waits ⊎ Came from e due node back waits
+            → Stood from e i′ (due - 1 + r .takes) node back waits ⊎ Came from e (due - 1 + r .takes) node back waits
+        by e q (inl s) = value-stood s (sight q (s .standing))
+        by e q (inr c) = absurd (some (c .none))
 
 -- Nothing is due, or no words are left.
-module _ {ws : List ℕ} {i due rest place : ℕ} {waits : Bool} (w : Walking ws i due rest place waits) (r : Found)
-    (r-is : r ≡ finished waits place (i + span (drop i ws) rest)) where
+module _ {ws : List ℕ} {from : From} {i due rest : ℕ} {node back : From} {waits : Bool} (w : Walking ws from i due rest node back waits) (r : Found)
+    (r-is : r ≡ finished waits (node .place) (i + span (drop i ws) rest) back) (over : (due ≡ 0) ⊎ (length ws ≤ i)) where
   -- Where the node that waited ends.
-  end-is : (due ≡ 0) ⊎ (length ws ≤ i) → waits ≡ true → i + span (drop i ws) rest ≡ place + span (drop place ws) 1
+  end-is : (due ≡ 0) ⊎ (length ws ≤ i) → waits ≡ true → i + span (drop i ws) rest ≡ node .place + span (drop (node .place) ws) 1
   end-is (inl z) b =
       let d : due + rest ≡ rest = omega arith in
-      sym (w .waiting b .1 ∙ ap (λ (n : ℕ). i + span (drop i ws) n) d)
-  end-is (inr h) b = omega (arith, w .waiting b .1, span-end ws (due + rest) i h, span-end ws rest i h)
+      sym (w .waiting b .ends ∙ ap (λ (n : ℕ). i + span (drop i ws) n) d)
+  end-is (inr h) b = omega (arith, w .waiting b .ends, span-end ws (due + rest) i h, span-end ws rest i h)
 
-  waited : (due ≡ 0) ⊎ (length ws ≤ i) → (b : Bool) → waits ≡ b
-      → (Spanned ws (finished b place (i + span (drop i ws) rest)))
-      × (finished b place (i + span (drop i ws) rest) ≡ finished b place (place + span (drop place ws) 1))
-  waited h true b = ((w .waiting b .0, end-is h b), ap (At place) (end-is h b))
-  waited h false b = (tt, refl)
+  pub walk-spanned : Spanned ws r
+  walk-spanned = rw r-is (by waits refl)
+    where
+      by : (b : Bool) → waits ≡ b → Spanned ws (finished b (node .place) (i + span (drop i ws) rest) back)
+      by true b = let p = w .waiting b in (p .met, end-is over b, p .back-few)
+      by false b = tt
 
-  pub walk-spanned : (due ≡ 0) ⊎ (length ws ≤ i) → Spanned ws r
-  walk-spanned h = rw r-is (waited h waits refl .0)
+  came : (e : Term ml) → ws ≡ words e → (due ≡ 0) ⊎ (length ws ≤ i) → Stood from e i due node back waits ⊎ Came from e due node back waits
+      → Came from e due node back waits
+  came e q o (inr c) = c
+  came e q (inl z) (inl s) = absurd (omega (arith, z, s .standing .due-is))
+  came e q (inr h) (inl s) =
+      let t = s .standing in
+      absurd
+      (omega (arith, ap length (sym (drop-of-length-le ws h) ∙ part-stands t ws q), tree-length (term (t .lang)) (t .part) (wordsAfter (contextAt t) ++ []), size-some (t .lang) (t .part)))
 
-  no-part : (due ≡ 0) ⊎ (length ws ≤ i) → (ps : Parts) (more : List ℕ) → due ≡ length ps → drop i ws ≡ putParts ps more → (z : Found) → firstTurn i ps z ≡ z
-  no-part h [] more n s z = refl
-  no-part (inl g) (p ∷ ps) more n s z = absurd (omega (arith, g, n))
-  no-part (inr g) (p ∷ ps) more n s z =
-      absurd (omega (arith, ap length (sym (drop-of-length-le ws g) ∙ s), tree-length (term (p .0)) (p .1) (putParts ps more), size-some (p .0) (p .1)))
-
-  pub walk-turns : (due ≡ 0) ⊎ (length ws ≤ i) → Turns ws r
-  walk-turns h =
-      record {
-        of = λ l e k q.
-            let u = w .of l e k q in
-            r-is ∙ waited h waits refl .1 ∙ sym (u .answer ∙ no-part h (u .parts) (u .more) (u .as-many) (u .stand) (finished waits place (place + span (drop place ws) 1)));
-      }
+  pub walk-turns : Turns ws from from r
+  walk-turns = record { of = λ e q s₀. rw r-is (by e (came e q over (w .of e q s₀)) waits refl) }
+    where
+      by : (e : Term ml) → Came from e due node back waits → (b : Bool) → waits ≡ b → Told e from (finished b (node .place) (i + span (drop i ws) rest) back)
+      by e c true b = c .ripe b
+      by e c false b = c .value b

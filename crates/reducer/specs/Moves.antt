@@ -1,5 +1,5 @@
 -- One step in words: what the code answers, and what it leaves in the target, is the calculus's step.
-use Prim.Native.Nat.{ℕ, _+_, _-_, _≤_}
+use Prim.Native.Nat.{ℕ, _+_, _*_, _-_, _≤_}
 use mathlib.Core.List.{List, _++_}
 use mathlib.Core.Path.{_≡_}
 use lib.ListN.{length, drop}
@@ -13,11 +13,13 @@ use Rattle.contraction.specs.Told.{Placed}
 use Rattle.contraction.specs.Chosen.{OfNode}
 use Rattle.contraction.specs.declared.rules.Rule.{Rule}
 use Rattle.contraction.specs.declared.rules.Rule.the-variants as rule
+use Rattle.reducer.specs.declared.turns.From.{From}
 use Rattle.reducer.specs.declared.steps.Change.{Change}
 use Rattle.reducer.specs.declared.steps.Move.{Move}
 use Rattle.reducer.specs.declared.steps.Move.the-variants.{Value, Raised, Next, Stuck}
 use Rattle.reducer.specs.declared.steps.End.{End}
 use Rattle.reducer.specs.declared.steps.End.the-variants as end
+use Rattle.reducer.specs.Around.{Standing}
 
 abbrev pub endOf : Rule → End
 endOf rule.Stuck = end.Stuck
@@ -40,12 +42,14 @@ pub record Fits (source : List ℕ) (place end : ℕ) (r : Rule) : Type 0 where
 
 -- Where the node n stands in the source behind the words P, and it becomes u: how many words stood and stand there, and the words that are
 -- written.
-pub record Spliced (source : List ℕ) (place : ℕ) (b : List ℕ) (c : Change) (b′ : List ℕ) : Type 0 where
+pub record Spliced (source : List ℕ) (place : ℕ) (back : From) (b : List ℕ) (c : Change) (b′ : List ℕ) : Type 0 where
   pub where-it-was : c .place ≡ place
+  pub from-there : c .back ≡ back
   pub of : (P : List ℕ) (m : Lang) (n u : Term m) (Q : List ℕ) → source ≡ P ++ put n Q → place ≡ length P → contract n ≡ becomes u
       → (c .stood ≡ size n) × (c .stands ≡ size u) × Wrote b 0 (P ++ put u Q) (c .size) b′
 
--- The next term r of e: the change is that of the step's splice, and the words of r are written, as far as they fit.
+-- The next term r of e: the change is that of the step's splice, the words of r are written, as far as they fit, and the next walk may begin
+-- where it is said to.
 pub record Changed (e r : Term ml) (b : List ℕ) (c : Change) (b′ : List ℕ) : Type 0 where
   pub splice : Splice e r
   pub place : c .place ≡ length (wordsBefore (splice .place))
@@ -53,6 +57,7 @@ pub record Changed (e r : Term ml) (b : List ℕ) (c : Change) (b′ : List ℕ)
   pub stands : c .stands ≡ size (splice .became)
   pub sized : c .size ≡ size r
   pub written : Wrote b 0 (words r) (c .size) b′
+  pub resumes : Standing r (c .back .place) (c .back .due)
 
 -- The answer to each outcome; only a next term is written.
 abbrev pub Moved : Term ml → Move → List ℕ → List ℕ → Outcome ml → Type 0
@@ -61,5 +66,13 @@ Moved e r b b′ (raised c) = (r ≡ Raised c) × (b′ ≡ b)
 Moved e r b b′ (next e′) = (c : Change) × (r ≡ Next c) × Changed e e′ b c b′
 Moved e r b b′ stuck = (r ≡ Stuck) × (b′ ≡ b)
 
-pub record Steps (source b : List ℕ) (r : Move) (b′ : List ℕ) : Type 0 where
-  pub of : (e : Term ml) → source ≡ words e → Moved e r b b′ (step e)
+-- Not more parts are due than the words before the place have.
+abbrev pub Few : Move → Type 0
+Few Value = Unit {0}
+Few (Raised c) = Unit {0}
+Few (Next c) = c .back .due ≤ 1 + 3 * c .back .place
+Few Stuck = Unit {0}
+
+-- Of every term whose words these are, if the walk may begin where it is said to.
+pub record Steps (source : List ℕ) (from : From) (b : List ℕ) (r : Move) (b′ : List ℕ) : Type 0 where
+  pub of : (e : Term ml) → source ≡ words e → Standing e (from .place) (from .due) → Moved e r b b′ (step e)

@@ -1,59 +1,65 @@
--- Whose turn it is, in words: the place of the node, and where its words end.
-use Prim.Native.Nat.{ℕ, _+_, _≤_}
-use mathlib.Core.Bool.{Bool, false, cond}
-use mathlib.Core.List.{List, [], _∷_}
+-- Whose turn it is, in words: the place of the node, where its words end, and where the next walk may begin.
+use Prim.Native.Nat.{ℕ, _+_, _*_, _≤_}
+use mathlib.Core.Bool.{Bool, true, false, cond}
+use mathlib.Core.List.{List}
+use mathlib.Core.Logic.{_⊎_}
 use mathlib.Core.Path.{_≡_}
 use lib.ListN.{length, drop}
-use Rattle.calculus.specs.Trees.{Lang, Term}
-use Rattle.calculus.specs.Words.{put, size}
-use Rattle.calculus.specs.Reduction as calculus
-use Rattle.calculus.proofs.Splices.{wordsBefore}
+use Rattle.calculus.specs.Trees.{Lang, ml, Term}
+use Rattle.calculus.specs.Words.{put, words, size}
+use Rattle.calculus.specs.Reduction.{Frame, plug, done, turn}
+use Rattle.calculus.specs.Rules.{Value, Taken}
+use Rattle.calculus.proofs.Contraction.{Ready}
 use Rattle.writing.specs.Spans.{span}
 use Rattle.reducer.specs.declared.turns.Found.{Found}
-use Rattle.reducer.specs.declared.turns.Found.the-variants.{Value, At}
+use Rattle.reducer.specs.declared.turns.Found.the-variants.{Nothing, At}
+use Rattle.reducer.specs.declared.turns.From.{From}
 use Rattle.reducer.specs.declared.turns.Look.{Look}
+use Rattle.reducer.specs.Around.{lengthBefore, waitsFor, follows, Standing, Ripe}
 
--- By the turn of a term at the place `at`: no node's, and then what follows; or that of a node within.
-abbrev pub placed : {l : Lang} → ℕ → calculus.Turn l → Found → Found
-placed at calculus.done next = next
-placed at (calculus.at m F n) next = At (at + length (wordsBefore F)) (at + length (wordsBefore F) + size n)
+-- What a walk from a place tells: the node whose turn it is; or that all parts from there on are values, up to the end of a node that waits,
+-- or of the term.
+abbrev pub Told : Term ml → From → Found → Type 0
+Told e from Nothing = from .place ≡ 0 → turn e ≡ done
+Told e from (At place end back) = Ripe e place (back .place) (back .due)
 
-pub record Turns (ws : List ℕ) (r : Found) : Type 0 where
-  pub of : (l : Lang) (e : Term l) (k : List ℕ) → ws ≡ put e k → r ≡ placed 0 (calculus.turn e) Value
+-- The start of a term.
+abbrev pub beginning : From
+beginning = record { place = 0; due = 1 }
+
+-- A walk may begin where it would come to; `whole` is where it is said to have begun.
+pub record Turns (ws : List ℕ) (from whole : From) (r : Found) : Type 0 where
+  pub of : (e : Term ml) → ws ≡ words e → Standing e (from .place) (from .due) → Told e whole r
 
 -- The node stands within the words, and ends where one node's words do.
 abbrev pub Spanned : List ℕ → Found → Type 0
-Spanned ws Value = Unit {0}
-Spanned ws (At place end) = (place ≤ length ws) × (end ≡ place + span (drop place ws) 1)
+Spanned ws Nothing = Unit {0}
+Spanned ws (At place end back) = (place ≤ length ws) × (end ≡ place + span (drop place ws) 1) × (back .due ≤ 1 + 3 * back .place)
 
--- Terms of either language, one after the other: their words, and the first whose turn it is, or one in it; else what follows.
-abbrev pub Parts : Type 0
-Parts = List ((l : Lang) × Term l)
-
-abbrev pub putParts : Parts → List ℕ → List ℕ
-putParts [] k = k
-putParts (p ∷ ps) k = put (p .1) (putParts ps k)
-
-abbrev pub firstTurn : ℕ → Parts → Found → Found
-firstTurn at [] next = next
-firstTurn at (p ∷ ps) next = placed at (calculus.turn (p .1)) (firstTurn (at + size (p .1)) ps next)
-
--- The walk's answer: the node at the place, if one waited, whose words end there.
-abbrev pub finished : Bool → ℕ → ℕ → Found
-finished waits place end = cond waits (At place end) Value
+-- The walk's answer: the node at the place, if one waited.
+abbrev pub finished : Bool → ℕ → ℕ → From → Found
+finished waits place end back = cond waits (At place end back) Nothing
 
 abbrev pub taking : ℕ → ℕ → ℕ → Bool → Look
 taking start takes rest own = record { start = start; takes = takes; rest = rest; own = own }
 
--- What a look at the node e tells, where ws are its words and then k: past `start` words stand the parts that evaluation takes. Once they are
--- values it is the node's own turn, or it is a value too and nothing is left of it.
-pub record Seen {l : Lang} (ws : List ℕ) (r : Look) (e : Term l) (k : List ℕ) : Type 0 where
-  pub parts : Parts
-  pub more : List ℕ
-  pub taken : r .takes ≡ length parts
-  pub stand : drop (r .start) ws ≡ putParts parts more
-  pub whole : r .own ≡ false → more ≡ k
-  pub turns : (at : ℕ) (next : Found) → placed at (calculus.turn e) next ≡ firstTurn (at + r .start) parts (cond (r .own) (At at (at + size e)) next)
+-- What a look tells of the node e: evaluation takes none of its parts, and it is its turn or it is a value;
+pub record Alone {l : Lang} (r : Look) (e : Term l) : Type 0 where
+  pub none : r .takes ≡ 0
+  pub start : r .start ≡ size e
+  pub ready : r .own ≡ true → Ready e
+  pub value : r .own ≡ false → Value l e
+
+-- or evaluation goes into a first part, past `start` words.
+pub record Enters {l : Lang} (r : Look) (e : Term l) : Type 0 where
+  pub lang : Lang
+  pub frame : Frame lang l
+  pub part : Term lang
+  pub is : plug frame part ≡ e
+  pub taken : Taken frame
+  pub start : r .start ≡ lengthBefore frame
+  pub takes : r .takes ≡ 1 + follows frame
+  pub own : r .own ≡ waitsFor frame
 
 -- Of any words: the parts taken and the rest end where one node does.
 pub record Looked (ws : List ℕ) (r : Look) : Type 0 where
@@ -62,4 +68,4 @@ pub record Looked (ws : List ℕ) (r : Look) : Type 0 where
   pub within : r .start ≤ length ws
   pub few : r .takes + r .rest ≤ 3
   pub closed : r .own ≡ false → r .rest ≡ 0
-  pub of : (l : Lang) (e : Term l) (k : List ℕ) → ws ≡ put e k → Seen ws r e k
+  pub of : (l : Lang) (e : Term l) (k : List ℕ) → ws ≡ put e k → Alone r e ⊎ Enters r e

@@ -1,24 +1,27 @@
 // One step of the term in the source: the next term is put together in the target.
 
 use crate::turns::Found;
+use crate::turns::From;
 use crate::turns::turn;
 use contraction::choices::chosen;
 use contraction::pieces::contract;
 use contraction::rules::Rule;
 use writer::write_next;
 ghost use mathlib.Core.Path.{_≡_};
-ghost use Prim.Native.Nat.{_≤_};
+ghost use Prim.Native.Nat.{_+_, _*_, _≤_};
 ghost use lib.ListN.{length};
 ghost use Rattle.nodes.specs.Table.{kinds};
-ghost use Rattle.reducer.specs.Moves.{endOf, Fits, Spliced, Steps};
+ghost use Rattle.reducer.specs.Placed.{beginning, Spanned, Turns};
+ghost use Rattle.reducer.specs.Moves.{endOf, Fits, Spliced, Few, Steps};
 
-// The place of the node whose turn it was, how many words stood there, how many stand there now, and how many words the next term has,
-// whether it fits or not.
+// The place of the node whose turn it was, how many words stood there, how many stand there now, how many words the next term has, whether it
+// fits or not, and where the next walk may begin.
 pub struct Change {
     pub place: usize,
     pub stood: usize,
     pub stands: usize,
     pub size: usize,
+    pub back: From,
 }
 
 pub enum Move {
@@ -58,11 +61,12 @@ fn splice(
     source: &[u32],
     place: usize,
     end: usize,
+    back: From,
     rule: Rule,
     target: &mut [u32],
 ) -> Change
     requires { ⌜ (now table ≡ kinds) × (length (now source) ≤ 1048576) × Fits (now source) place end rule ⌝ }
-    ensures { λ r. ⌜ Spliced (now (source .entry)) place (now (target .entry)) r (now (target .exit)) ⌝ }
+    ensures { λ r. ⌜ Spliced (now (source .entry)) place back (now (target .entry)) r (now (target .exit)) ⌝ }
 {
     let after = contract(table, &source[place..], rule, target, place);
     let size = write_next(target, source, place, after, end, 1);
@@ -71,22 +75,37 @@ fn splice(
         stood: end - place,
         stands: after - place,
         size: size,
+        back: back,
     }
 }
 
-// The step of the term in the source, which may have 2^20 words.
-pub fn step(table: &[u64; 48], source: &[u32], target: &mut [u32]) -> Move
-    requires { ⌜ (now table ≡ kinds) × (length (now source) ≤ 1048576) ⌝ }
-    ensures { λ r. ⌜ Steps (now (source .entry)) (now (target .entry)) r (now (target .exit)) ⌝ }
+// The walk to the turn, from a place on; and from the start, if all is a value from there on.
+fn whose(table: &[u64; 48], source: &[u32], from: From) -> Found
+    requires { ⌜ (now table ≡ kinds) × (length (now source) ≤ 1048576) × (from .due ≤ 1 + 3 * from .place) ⌝ }
+    ensures spanned { λ r. ⌜ Spanned (now (source .entry)) r ⌝ }
+    ensures is { λ r. ⌜ Turns (now (source .entry)) from beginning r ⌝ }
 {
-    let found = turn(table, source);
-    let Found::At(place, end) = found else {
+    let found = turn(table, source, from);
+    let Found::Nothing = found else {
+        return found;
+    };
+    turn(table, source, From { place: 0, due: 1 })
+}
+
+// The step of the term in the source, which may have 2^20 words; the walk to the turn begins at a place.
+pub fn step(table: &[u64; 48], source: &[u32], target: &mut [u32], from: From) -> Move
+    requires { ⌜ (now table ≡ kinds) × (length (now source) ≤ 1048576) × (from .due ≤ 1 + 3 * from .place) ⌝ }
+    ensures few { λ r. ⌜ Few r ⌝ }
+    ensures is { λ r. ⌜ Steps (now (source .entry)) from (now (target .entry)) r (now (target .exit)) ⌝ }
+{
+    let found = whose(table, source, from);
+    let Found::At(place, end, back) = found else {
         return Move::Value;
     };
     let rule = chosen(table, &source[place..], end - place);
     match end_of(rule) {
         End::Stuck => Move::Stuck,
         End::Raised(code) => Move::Raised(code),
-        End::Writes => Move::Next(splice(table, source, place, end, rule, target)),
+        End::Writes => Move::Next(splice(table, source, place, end, back, rule, target)),
     }
 }

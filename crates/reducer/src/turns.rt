@@ -4,17 +4,25 @@
 use contraction::forms::form_at;
 use nodes::kinds::row_at;
 use writing::spans::skip;
+ghost use mathlib.Core.Bool.{true, cond};
 ghost use mathlib.Core.Path.{_≡_};
-ghost use Prim.Native.Nat.{_+_, _≤_};
+ghost use Prim.Native.Nat.{_+_, _*_, _≤_};
 ghost use lib.ListN.{length, drop};
 ghost use Rattle.nodes.specs.Table.{kinds};
 ghost use Rattle.writing.specs.Spans.{span};
 ghost use Rattle.reducer.specs.Placed.{taking, Looked, finished, Spanned, Turns};
 
-// No node's: a value. Or the place of the node whose turn it is, and where its words end.
+// Where a walk begins: a place, and how many parts are due there.
+pub struct From {
+    pub place: usize,
+    pub due: usize,
+}
+
+// No node's: all parts that were due are values. Or the place of the node whose turn it is, where its words end, and where the next walk may
+// begin: a step leaves the words before the node as they were, so at the node that waits for it, or else at itself.
 pub enum Found {
-    Value,
-    At(usize, usize),
+    Nothing,
+    At(usize, usize, From),
 }
 
 // What evaluation does at a node: past so many words it takes so many parts, and leaves the rest. Then it is the node's own turn, unless the
@@ -69,41 +77,55 @@ fn finish(
     i: usize,
     rest: usize,
     place: usize,
+    back: From,
     waits: bool,
 ) -> Found
-    requires { ⌜ (now table ≡ kinds) × (length (now words) ≤ 1048576) × (i ≤ length (now words)) × (rest ≤ 3) ⌝ }
-    ensures { λ r. ⌜ r ≡ finished waits place (i + span (drop i (now (words .entry))) rest) ⌝ }
+    requires { ⌜ (now table ≡ kinds) × (length (now words) ≤ 1048576) × (waits ≡ true → i ≤ length (now words)) × (rest ≤ 3) ⌝ }
+    ensures { λ r. ⌜ r ≡ finished waits place (i + span (drop i (now (words .entry))) rest) back ⌝ }
 {
     if waits {
-        return Found::At(place, i + skip(table, &words[i..], rest));
+        return Found::At(place, i + skip(table, &words[i..], rest), back);
     }
-    Found::Value
+    Found::Nothing
 }
 
-// The term that the words start with. The words may be 2^20. `due` parts that evaluation takes stand from the place i on.
-pub fn turn(table: &[u64; 48], words: &[u32]) -> Found
-    requires { ⌜ (now table ≡ kinds) × (length (now words) ≤ 1048576) ⌝ }
-    ensures spanned { λ r. ⌜ Spanned (now (words .entry)) r ⌝ }
-    ensures is { λ r. ⌜ Turns (now (words .entry)) r ⌝ }
+// Where the next walk may begin: at the node that waits for this one, if one was met, or else here.
+fn around(waits: bool, node: From, here: From) -> From
+    ensures { λ r. ⌜ r ≡ cond waits node here ⌝ }
 {
-    let mut i = 0;
-    let mut due = 1;
+    if waits {
+        return node;
+    }
+    here
+}
+
+// A walk from a place of a term whose words these are, which may be 2^20. `due` parts that evaluation takes stand from the place i on.
+pub fn turn(table: &[u64; 48], words: &[u32], from: From) -> Found
+    requires { ⌜ (now table ≡ kinds) × (length (now words) ≤ 1048576) × (from .due ≤ 1 + 3 * from .place) ⌝ }
+    ensures spanned { λ r. ⌜ Spanned (now (words .entry)) r ⌝ }
+    ensures is { λ r. ⌜ Turns (now (words .entry)) from from r ⌝ }
+{
+    let mut i = from.place;
+    let mut due = from.due;
     let mut rest = 0;
-    let mut place = 0;
+    let mut node = From { place: 0, due: 1 };
+    let mut back = From { place: 0, due: 1 };
     let mut waits = false;
     while i < words.len() {
         if due == 0 {
-            return finish(table, words, i, rest, place, waits);
+            return finish(table, words, i, rest, node.place, back, waits);
         }
         let seen = look_at(table, &words[i..]);
         if seen.own {
+            let here = From { place: i, due: due };
+            back = around(waits, node, here);
+            node = here;
             waits = true;
-            place = i;
             rest = seen.rest;
             due = 1;
         }
         due = due - 1 + seen.takes;
         i += seen.start;
     }
-    finish(table, words, i, rest, place, waits)
+    finish(table, words, i, rest, node.place, back, waits)
 }

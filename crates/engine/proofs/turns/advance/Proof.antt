@@ -13,7 +13,7 @@ slice-aggregate-step : tie.Need-slice-aggregate-step
 slice-aggregate-step c = let s = c .before .before .before .before in sym (length-take-le (s .args .n) (s .args .first .now) (s .pre .1))
 
 step-requires : tie.Need-step-requires
-step-requires c κs = let s = c .before .before .before .before .before in (s .pre .0, omega (arith, length-take-le (s .args .n) (s .args .first .now) (s .pre .1), s .pre .3))
+step-requires c κs = let s = c .before .before .before .before .before in (s .pre .0, omega (arith, length-take-le (s .args .n) (s .args .first .now) (s .pre .1), s .pre .3), s .pre .4)
 
 same-length : tie.Need-same-length
 same-length c = search needs
@@ -22,7 +22,9 @@ same-length-2 : tie.Need-same-length-2
 same-length-2 c = search needs
 
 returns : tie.Need-returns
-returns c = rw (c .before .before .before .before .before .if1 .taken) (record { kept = refl; stepped = c .before .before .step .ensures })
+returns c =
+    let r = c .before .before .step .ensures in
+    rw (c .before .before .before .before .before .if1 .taken) (record { kept = refl; few = r .0; stepped = r .1 })
 
 slice-reshare-prefix-step-2 : tie.Need-slice-reshare-prefix-step-2
 slice-reshare-prefix-step-2 c = search needs
@@ -31,7 +33,7 @@ slice-aggregate-step-2 : tie.Need-slice-aggregate-step-2
 slice-aggregate-step-2 c = let s = c .before .before .before .before in sym (length-take-le (s .args .n) (s .args .second .now) (s .pre .2))
 
 step-requires-2 : tie.Need-step-requires-2
-step-requires-2 c κs = let s = c .before .before .before .before .before in (s .pre .0, omega (arith, length-take-le (s .args .n) (s .args .second .now) (s .pre .2), s .pre .3))
+step-requires-2 c κs = let s = c .before .before .before .before .before in (s .pre .0, omega (arith, length-take-le (s .args .n) (s .args .second .now) (s .pre .2), s .pre .3), s .pre .4)
 
 same-length-3 : tie.Need-same-length-3
 same-length-3 c = search needs
@@ -40,7 +42,9 @@ same-length-4 : tie.Need-same-length-4
 same-length-4 c = search needs
 
 returns-2 : tie.Need-returns-2
-returns-2 c = rw (c .before .before .before .before .before .if1 .left) (record { kept = refl; stepped = c .before .before .step2 .ensures })
+returns-2 c =
+    let r = c .before .before .step2 .ensures in
+    rw (c .before .before .before .before .before .if1 .left) (record { kept = refl; few = r .0; stepped = r .1 })
 
 pub advance-spec : {M : Type 1} → statement M
 advance-spec =

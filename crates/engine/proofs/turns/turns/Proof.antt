@@ -9,10 +9,11 @@ use Rattle.engine.proofs.turns.turns.Statement.{statement}
 use Rattle.engine.proofs.turns.turns.Tie as tie
 
 abbrev Inv-loop : tie.InvT-loop
-Inv-loop table first₀ second₀ count cap limit n₀ made₀ front₀ first second n made front = Running first₀ second₀ count cap limit first second n made front
+Inv-loop table first₀ second₀ count cap limit n₀ made₀ front₀ from₀ first second n made front from =
+    Running first₀ second₀ count cap limit first second n made front from
 
 abbrev μ-loop : tie.MeasureT-loop
-μ-loop table first₀ second₀ count cap limit n₀ made₀ front₀ first second n made front = limit - made .steps
+μ-loop table first₀ second₀ count cap limit n₀ made₀ front₀ from₀ first second n made front from = limit - made .steps
 
 loop-holds : tie.Need-loop-holds Inv-loop μ-loop
 loop-holds c = let s = c .before .before in running-start (s .args .first .now) (s .args .second .now) (s .args .count) (s .args .cap) (s .args .limit) (s .pre .1)
@@ -21,7 +22,7 @@ advance-requires : tie.Need-advance-requires Inv-loop μ-loop
 advance-requires c κs =
     let s = c .before .before .before .before .before in
     let i = c .before .before .loop .inv in
-    (s .pre .0, omega (arith, i .room, i .first-length, s .pre .2), omega (arith, i .room, i .second-length, s .pre .3), omega (arith, i .room, s .pre .4))
+    (s .pre .0, omega (arith, i .room, i .first-length, s .pre .2), omega (arith, i .room, i .second-length, s .pre .3), omega (arith, i .room, s .pre .4), i .few)
 
 decide-requires : tie.Need-decide-requires Inv-loop μ-loop
 decide-requires c κs = c .before .before .before .before .before .before .before .loop .inv .left
@@ -38,25 +39,31 @@ same-length-2 c = c .before .before .before .before .before .before .before .bef
 returns : tie.Need-returns Inv-loop μ-loop
 returns c =
     let s = c .before .before .before .before .before .before .before .before .before .before .before .before .before .before in
-    running-end (c .before .before .before .before .before .before .before .before .before .before .before .loop .inv) (c .before .before .before .before .before .before .before .before .advance .ensures) (s .pre .2) (s .pre .3) (c .before .report .given .0 .0)
+    let a = c .before .before .before .before .before .before .before .before .advance in
+    running-end (c .before .before .before .before .before .before .before .before .before .before .before .loop .inv) (a .ensures) (s .pre .2) (s .pre .3) (c .before .report .given .0 .0)
     (sym (c .before .before .before .decide .ensures) ∙ c .before .report .given .1)
 
 enum-known-size : tie.Need-enum-known-size Inv-loop μ-loop
 enum-known-size c = search needs
 
+resume-requires : tie.Need-resume-requires Inv-loop μ-loop
+resume-requires c κs = search needs
+
 loop-less : tie.Need-loop-less Inv-loop μ-loop
 loop-less c =
-    let i = c .before .before .before .before .before .before .before .before .before .before .before .loop .inv in
-    let q = sym (c .before .before .before .decide .ensures) ∙ c .before .size .given .1 in
-    let f = go-fits (c .before .before .before .before .before .before .before .before .before .before .before .loop .n) (c .before .before .before .before .before .before .before .before .before .before .before .before .before .before .args .cap) (c .before .before .before .before .before .before .before .before .before .before .before .before .before .before .args .limit) (c .before .before .before .before .before .before .before .before .before .before .before .loop .made) (i .left) (c .before .before .before .before .before .before .before .before .advance .result) (c .before .size .given .0 .0) (c .before .size .given .0 .1 .0) q in
-    omega (arith, f)
+    let s = c .before .before .before .before .before .before .before .before .before .before .before .before .before .before .before in
+    let l = c .before .before .before .before .before .before .before .before .before .before .before .before .loop in
+    let g = c .before .before .size .given in
+    let q = sym (c .before .before .before .before .decide .ensures) ∙ g .1 in
+    omega (arith, go-fits (l .n) (s .args .cap) (s .args .limit) (l .made) (l .inv .left) (c .before .before .before .before .before .before .before .before .before .advance .result) (g .0 .0) (g .0 .1 .0) q)
 
 loop-again : tie.Need-loop-again Inv-loop μ-loop
 loop-again c =
-    let s = c .before .before .before .before .before .before .before .before .before .before .before .before .before .before in
-    let a = c .before .before .before .before .before .before .before .before .advance in
-    running-next (c .before .before .before .before .before .before .before .before .before .before .before .loop .inv) (a .ensures) (s .pre .2) (s .pre .3) (c .before .size .given .0 .0) (c .before .size .given .0 .1 .0)
-    (sym (c .before .before .before .decide .ensures) ∙ c .before .size .given .1) (a .kept .1 .1 .0) (a .kept .1 .1 .1 .0)
+    let s = c .before .before .before .before .before .before .before .before .before .before .before .before .before .before .before in
+    let a = c .before .before .before .before .before .before .before .before .before .advance in
+    let g = c .before .before .size .given in
+    let q = sym (c .before .before .before .before .decide .ensures) ∙ g .1 in
+    rw (c .resume .ensures) (running-next (c .before .before .before .before .before .before .before .before .before .before .before .before .loop .inv) (a .ensures) (s .pre .2) (s .pre .3) (g .0 .0) (g .0 .1 .0) q (a .kept .1 .1 .0) (a .kept .1 .1 .1 .0))
 
 pub turns-spec : {M : Type 1} → statement M
 turns-spec =
@@ -72,5 +79,6 @@ turns-spec =
     same-length-2
     returns
     enum-known-size
+    resume-requires
     loop-less
     loop-again)

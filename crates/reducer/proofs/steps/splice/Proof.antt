@@ -48,17 +48,17 @@ write-next-requires c κs =
     let s = c .before .before .before .before .before .before .before .before in
     record { size = s .pre .1; first = s .pre .2 .inside; order = λ z. absurd (omega (arith, z)); within = end-in s; far = omega (arith, c .before .before .before .contract .ensures .1 .1, s .pre .1, s .pre .2 .inside) }
 
-sub-t9 : tie.Need-sub-t9
-sub-t9 c = end-past (c .before .before .before .before .before .before .before .before .before .before .before)
+sub-t10 : tie.Need-sub-t10
+sub-t10 c = end-past (c .before .before .before .before .before .before .before .before .before .before .before)
 
-sub-t11 : tie.Need-sub-t11
-sub-t11 c = c .before .before .before .before .before .before .contract .ensures .1 .0
+sub-t12 : tie.Need-sub-t12
+sub-t12 c = c .before .before .before .before .before .before .contract .ensures .1 .0
 
 same-length : tie.Need-same-length
 same-length c = search needs
 
 returns : tie.Need-returns
-returns c = spliced _ _ _ _ (c .before .before .before .before .before .before .before .before .before .before .before .pre .2) _ _ _ _ _ (c .before .before .before .before .before .before .contract .ensures .0) (c .before .before .write-next .ensures)
+returns c = spliced _ _ _ _ (c .before .before .before .before .before .before .before .before .before .before .before .pre .2) _ _ _ _ _ _ (c .before .before .before .before .before .before .contract .ensures .0) (c .before .before .write-next .ensures)
 
 pub splice-spec : {M : Type 1} → statement M
 splice-spec =
@@ -70,7 +70,7 @@ splice-spec =
     part-contract-end
     contract-requires
     write-next-requires
-    sub-t9
-    sub-t11
+    sub-t10
+    sub-t12
     same-length
     returns)
