@@ -1,22 +1,21 @@
 -- The ways out of a step, and the splice: the words before the node, what it becomes, and the words after it. Assumes nothing.
-use Prim.Native.Nat.{ℕ, _+_, _-_, _≤_}
+use Prim.Native.Nat.{ℕ, _+_, _-_}
 use mathlib.Core.Bool.{Bool, true, false}
 use mathlib.Core.List.{List, [], _++_, append-nil, append-assoc}
 use mathlib.Core.Path.{_≡_, refl, sym, ap, _∙_, subst}
 use lib.Dec.{T}
-use lib.ListN.{length, take, drop, length-append, length-drop}
-use lib.Seq.{length-take-le, take-at, drop-at, drop-drop}
+use lib.ListN.{length, take, drop}
+use lib.Seq.{take-at, drop-at, drop-drop}
 use borrow.Rule.Slice.PartAt.{part-to-end}
 use native.Mathlib.Omega.{arith}
 use Rattle.calculus.specs.Trees.{Lang, ml, Term}
 use Rattle.calculus.specs.Words.{put, words, size}
 use Rattle.calculus.specs.Kinds.{term}
-use Rattle.calculus.specs.Reduction.{Became, becomes, raises, nothing, contract, Context, fill, done, turn, stepped, outcome, step}
+use Rattle.calculus.specs.Reduction.{Became, becomes, raises, nothing, contract, Context, fill, turn, stepped, outcome, step}
 use Rattle.calculus.specs.Reduction as calculus
 use Rattle.calculus.proofs.Sizes.{put-append, tree-length, drop-tree}
-use Rattle.calculus.proofs.Splices.{wordsBefore, wordsAfter, put-fill, Splice}
+use Rattle.calculus.proofs.Splices.{wordsBefore, wordsAfter, put-fill}
 use Rattle.calculus.proofs.Turns as turns
-use Rattle.writing.specs.Spans.{span}
 use Rattle.writing.specs.Wrote.{Wrote}
 use Rattle.writing.proofs.Measures.{span-tree}
 use Rattle.writing.proofs.Stores.{then, before, wrote-as}

@@ -1,7 +1,7 @@
 -- A look at a node: whether evaluation goes into it, and where. Assumes nothing.
 use Prim.Native.Nat.{ℕ, _+_, _%_, _≤_}
-use mathlib.Core.Bool.{Bool, true, false, cond, not}
-use mathlib.Core.List.{List, []}
+use mathlib.Core.Bool.{Bool, true, false, not}
+use mathlib.Core.List.{List}
 use mathlib.Core.Logic.{_⊎_, inl, inr}
 use mathlib.Core.Path.{_≡_, refl, sym, ap, _∙_, subst}
 use lib.Dec.{T, eqb}
@@ -19,7 +19,6 @@ use Rattle.writing.proofs.Measures.{span-tree, span-none}
 use Rattle.writing.proofs.Lengths.{span-next, span-parts, shape-parts}
 use Rattle.contraction.specs.Forms.{formNumber, formAt}
 use Rattle.contraction.proofs.Views.{Shaped, a-variable, a-number, a-lambda, one-part, two-parts, a-choice, a-nil, a-wrong, an-ms, an-sm, by-shape, form-at}
-use Rattle.reducer.specs.declared.turns.Look.{Look}
 use Rattle.reducer.specs.Placed.{taking, Alone, Enters, Looked}
 
 module _ (ws : List ℕ) (shape : ℕ) (shape-is : shape ≡ rowOf (getD ws 0 0 % 256) .shape) (some : 1 ≤ length ws) where

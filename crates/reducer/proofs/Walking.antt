@@ -1,5 +1,5 @@
 -- The walk that finds whose turn it is: what is known before each turn of its loop, and its end. Assumes nothing.
-use Prim.Native.Nat.{ℕ, suc, _+_, _*_, _-_, _≤_, _<_}
+use Prim.Native.Nat.{ℕ, _+_, _*_, _-_, _≤_, _<_}
 use mathlib.Core.Bool.{Bool, true, false, cond}
 use mathlib.Core.List.{List, [], _++_}
 use mathlib.Core.Logic.{_⊎_, inl, inr}
@@ -8,11 +8,10 @@ use lib.Dec.{T}
 use lib.ListN.{length, drop, length-drop, drop-of-length-le}
 use lib.Seq.{drop-drop}
 use native.Mathlib.Omega.{arith}
-use Rattle.calculus.specs.Trees.{Lang, ml, Term}
-use Rattle.calculus.specs.Words.{put, words, size}
+use Rattle.calculus.specs.Trees.{ml, Term}
+use Rattle.calculus.specs.Words.{words}
 use Rattle.calculus.specs.Kinds.{term}
-use Rattle.calculus.specs.Reduction.{plug, done, turn}
-use Rattle.calculus.specs.Rules.{Value}
+use Rattle.calculus.specs.Reduction.{done, turn}
 use Rattle.calculus.proofs.Sizes.{tree-length}
 use Rattle.calculus.proofs.Splices.{wordsAfter}
 use Rattle.calculus.proofs.Values.{value-turn}
@@ -21,12 +20,12 @@ use Rattle.writing.proofs.Measures.{span-end}
 use Rattle.writing.proofs.Lengths.{span-next, span-join}
 use Rattle.contraction.proofs.Views.{size-some}
 use Rattle.reducer.specs.declared.turns.Found.{Found}
-use Rattle.reducer.specs.declared.turns.Found.the-variants.{Nothing, At}
+use Rattle.reducer.specs.declared.turns.Found.the-variants.{Nothing}
 use Rattle.reducer.specs.declared.turns.From.{From}
 use Rattle.reducer.specs.declared.turns.Look.{Look}
 use Rattle.reducer.specs.Around.{inside, whole, waitsFor, pending, Standing, Ripe}
 use Rattle.reducer.specs.Placed.{beginning, Told, Turns, Spanned, finished, Alone, Enters, Looked}
-use Rattle.reducer.proofs.Onward.{contextAt, part-stands, Owner, Owns, owner-standing, Free, start-free, Further, Over, onward}
+use Rattle.reducer.proofs.Onward.{contextAt, part-stands, Owns, owner-standing, Free, start-free, Further, Over, onward}
 
 -- The walk stands at a part; if a node was met that waits, the last such is the nearest around.
 pub record Stood (from : From) (e : Term ml) (i due : ℕ) (node back : From) (waits : Bool) : Type 0 where

@@ -1,5 +1,6 @@
 // Whose turn it is: one pass over the words, which looks at each at most once. Of the nodes that wait for their parts only the last one met is
-// remembered, since it is the first whose parts are all values.
+// remembered, since it is the first whose parts are all values. The pass need not begin at the root: a step leaves the words before its node as
+// they were, so the next pass may begin at the node that waits for it.
 
 use contraction::forms::form_at;
 use nodes::kinds::row_at;

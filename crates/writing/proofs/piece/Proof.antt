@@ -1,6 +1,6 @@
 -- `writing::piece` meets its contract. Assumes nothing.
 use borrow.Author.Needs.{needs}
-use mathlib.Core.Path.{_≡_, refl}
+use mathlib.Core.Path.{refl}
 use Prim.Native.Nat.{_-_, _≤_}
 use lib.ListN.{length, drop, length-take, length-drop}
 use native.Mathlib.Omega.{arith}

@@ -1,16 +1,12 @@
 -- `reducer::steps::splice` meets its contract. Assumes nothing.
 use borrow.Author.Needs.{needs}
-use mathlib.Core.List.{List}
-use mathlib.Core.Path.{_≡_, sym, subst}
-use Prim.Native.Nat.{ℕ, _+_, _-_, _≤_}
+use mathlib.Core.Path.{sym, subst}
+use Prim.Native.Nat.{ℕ, _≤_}
 use lib.ListN.{length, drop}
-use borrow.Rule.Slice.PartAt.{part-to-end}
 use native.Mathlib.Omega.{arith}
 use Rattle.nodes.proofs.Ways.{part-length}
-use Rattle.writing.specs.Spans.{span}
 use Rattle.writing.proofs.Lengths.{span-within}
 use Rattle.contraction.specs.Told.{Placed}
-use Rattle.contraction.specs.Chosen.{Writes}
 use Rattle.reducer.proofs.Stepping.{spliced}
 use Rattle.reducer.proofs.steps.splice.Statement.{statement}
 use Rattle.reducer.proofs.steps.splice.Tie as tie

@@ -1,14 +1,12 @@
 -- `reducer::turns::turn` meets its contract: the loop's invariant is Walking. Assumes nothing.
 use borrow.Author.Needs.{needs}
-use mathlib.Core.Bool.{Bool, true, false}
 use mathlib.Core.List.{List}
 use mathlib.Core.Logic.{⊎-elim, inl, inr}
-use mathlib.Core.Path.{_≡_, refl, sym, _∙_, subst}
-use Prim.Native.Nat.{ℕ, _+_, _-_, _*_, _≤_, _<_}
-use lib.ListN.{length, drop, length-drop}
+use mathlib.Core.Path.{subst}
+use Prim.Native.Nat.{ℕ, _+_, _-_, _*_, _≤_}
+use lib.ListN.{length, drop}
 use borrow.Rule.Slice.PartAt.{part-to-end}
 use native.Mathlib.Omega.{arith}
-use Rattle.nodes.proofs.Ways.{part-length}
 use Rattle.reducer.specs.Placed.{Looked}
 use Rattle.reducer.proofs.Walking.{Walking, walking-start, walking-own, walking-value, walk-spanned, walk-turns}
 use Rattle.reducer.proofs.turns.turn.Statement.{statement}
