@@ -42,7 +42,7 @@ use Rattle.writer.proofs.filled.Statement as stated
 use Rattle.writer.proofs.filled.Code as code
 
 abbrev stayed : Stays (filled.ended .signature .params) (filled.ended .kept)
-stayed = (writer-stay, tt)
+stayed = (writer-stay 1 tt, tt)
 
 module _ {M : Type 1} (𝓤 : URA M) (H : Heap 𝓤) (A : Atoms 𝓤) (W : Given 𝓤 H A) (mem : Memory → SProp 𝓤) (run : Routine → Fun 𝓤) (κ : Lft) (q : Share) (b o : ℕ) (γ : GName) (ys : List ℕ) (n : ℕ) where
   abbrev α : NamedLft
@@ -86,7 +86,7 @@ module _ {M : Type 1} (𝓤 : URA M) (H : Heap 𝓤) (A : Atoms 𝓤) (W : Given
 filled-meets : {M : Type 1} (𝓤 : URA M) (H : Heap 𝓤) (A : Atoms 𝓤) → Given 𝓤 H A → (mem : Memory → SProp 𝓤) (run : Routine → Fun 𝓤) (𝓣 : Tables 𝓤 H)
     → Meets 𝓤 H A filled.signature (WpFn 𝓤 H (𝓣 .C) (𝓣 .Λ) code.function) (filled.spec 𝓤 H A mem run)
 filled-meets 𝓤 H A W mem run 𝓣 =
-    walk-meets 𝓤 H A filled.ended stayed W (writer-goes 𝓤 H A W, tt) (filled.clauses 𝓤 H A mem run)
+    walk-meets 𝓤 H A filled.ended stayed W (writer-goes 1 tt 𝓤 H A W, tt) (filled.clauses 𝓤 H A mem run)
     (WpFn 𝓤 H (𝓣 .C) (𝓣 .Λ) code.function) (WpFn-mono 𝓤 H (W .laws) 𝓣 code.function) (filled-walks 𝓤 H A W mem run (𝓣 .C) (𝓣 .Λ))
 
 pub filled-spec : {M : Type 1} → stated.statement M

@@ -1,5 +1,5 @@
 -- `writer::put` meets its contract: a walk of its MIR, by hand. The writer's slice is lent again to `writing::piece`, for a lifetime that is made for the call, and comes back at the list that `piece` left (`Again.antt`). What `src` owns is had twice: a copy goes to the call.
--- All that the proof knows of `piece` is that it meets its contract. The writer is spent, since the result names its lifetime (`Held2.antt`'s `writer-spent`).
+-- All that the proof knows of `piece` is that it meets its contract. The writer is spent, since the result names its lifetime (`Held.antt`'s `writer-spent`).
 -- Assumes nothing.
 use mathlib.Core.Path.{_≡_, refl, ap}
 use Prim.Native.Nat.{ℕ, _<_, _^_}
@@ -45,7 +45,7 @@ use denote.Signature.Struct.{inStruct, makes}
 use Rattle.writer.specs.declared.Writer.{Writer}
 use Rattle.writer.proofs.Writer as T
 use Rattle.writer.proofs.Writer.Laws as T′
-use Rattle.writer.proofs.Held2.{writer-spent, writer-spent-goes}
+use Rattle.writer.proofs.Held.{writer-spent, writer-spent-goes}
 use Rattle.writer.proofs.Again.{LentAgain, lends-again, comes-back}
 use Rattle.writing.specs.Pieces.{Ready, Emitted}
 use Rattle.writer.specs.Kept.{Put}
@@ -59,7 +59,7 @@ use Rattle.writer.proofs.put.Statement as stated
 use Rattle.writer.proofs.put.Code as code
 
 abbrev stayed : Stays (put.ended .signature .params) (put.ended .kept)
-stayed = (writer-spent, (stay-none-slice (1 ∷ []) tt (plain (λ _. u32)) yes, (stay-none (λ _. usize) yes, (stay-none (λ _. usize) yes, (stay-none (λ _. u32) yes, tt)))))
+stayed = (writer-spent 2 tt, (stay-none-slice (1 ∷ []) tt (plain (λ _. u32)) yes, (stay-none (λ _. usize) yes, (stay-none (λ _. usize) yes, (stay-none (λ _. u32) yes, tt)))))
 
 -- the contract that the proof cites
 abbrev Piece : {M : Type 1} (𝓤 : URA M) (H : Heap 𝓤) (A : Atoms 𝓤) (mem : Memory → SProp 𝓤) (run : Routine → Fun 𝓤) → Contract 𝓤
@@ -184,7 +184,7 @@ module _ {M : Type 1} (𝓤 : URA M) (H : Heap 𝓤) (A : Atoms 𝓤) (W : Given
 put-meets : {M : Type 1} (𝓤 : URA M) (H : Heap 𝓤) (A : Atoms 𝓤) → Given 𝓤 H A → (mem : Memory → SProp 𝓤) (run : Routine → Fun 𝓤) (𝓣 : Tables 𝓤 H) → Triple 𝓤 (𝓣 .C #writing·piece) (Piece 𝓤 H A mem run)
     → Meets 𝓤 H A put.signature (WpFn 𝓤 H (𝓣 .C) (𝓣 .Λ) code.function) (put.spec 𝓤 H A mem run)
 put-meets 𝓤 H A W mem run 𝓣 known =
-    walk-meets 𝓤 H A put.ended stayed W (writer-spent-goes 𝓤 H A W, (goes-none-slice 𝓤 H A W 2 (1 ∷ []) tt (plain (λ _. u32)) yes, (goes-none 𝓤 H A W 2 (λ _. usize) yes (λ κs x f. refl), (goes-none 𝓤 H A W 2 (λ _. usize) yes (λ κs x f. refl), (goes-none 𝓤 H A W 2 (λ _. u32) yes (λ κs x f. refl), tt))))) (put.clauses 𝓤 H A mem run)
+    walk-meets 𝓤 H A put.ended stayed W (writer-spent-goes 2 tt 𝓤 H A W, (goes-none-slice 𝓤 H A W 2 (1 ∷ []) tt (plain (λ _. u32)) yes, (goes-none 𝓤 H A W 2 (λ _. usize) yes (λ κs x f. refl), (goes-none 𝓤 H A W 2 (λ _. usize) yes (λ κs x f. refl), (goes-none 𝓤 H A W 2 (λ _. u32) yes (λ κs x f. refl), tt))))) (put.clauses 𝓤 H A mem run)
     (WpFn 𝓤 H (𝓣 .C) (𝓣 .Λ) code.function) (WpFn-mono 𝓤 H (W .laws) 𝓣 code.function) (put-walks 𝓤 H A W mem run (𝓣 .C) (𝓣 .Λ) (fmOf 𝓤 H (W .laws) 𝓣) known)
 
 pub put-spec : {M : Type 1} → stated.statement M
