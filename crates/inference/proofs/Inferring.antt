@@ -2,14 +2,14 @@
 use Prim.Native.Nat.{ℕ, suc, _+_, _/_, _%_, _≤_, _<_}
 use mathlib.Core.Bool.{cond}
 use mathlib.Core.List.{List, _∷_}
-use mathlib.Core.Logic.{_⊎_, inl, inr}
+use mathlib.Core.Logic.{inl}
 use mathlib.Core.Option.{none, some}
 use mathlib.Core.Path.{_≡_, refl, sym, ap, _∙_, subst}
 use lib.ListN.{length, getD, drop}
 use lib.Seq.{getD-drop}
 use native.Mathlib.Nat.{add-zero}
 use native.Mathlib.Omega.{arith}
-use Rattle.calculus.specs.Trees.{Lang, ml, sc, Static, numbers, lists, functions, Term, var, num, lam, op1, op2, if0, nil, wrong, ms, sm}
+use Rattle.calculus.specs.Trees.{Lang, ml, sc, Static, numbers, lists, functions, Op2, Term, var, num, lam, op1, op2, if0, nil, wrong, ms, sm}
 use Rattle.calculus.specs.Verdicts.{found}
 use Rattle.calculus.specs.Words.{word, by as by-language, put, size, sizeTy, sizeStatic}
 use Rattle.calculus.specs.Kinds.{type, term}
@@ -21,6 +21,8 @@ use Rattle.calculus.proofs.Views.{view, sized}
 use Rattle.nodes.specs.declared.kinds.Row as code
 use Rattle.nodes.specs.Table.{sortNumber, shapeNumber, rowOf}
 use Rattle.nodes.proofs.Shapes.{sort-first, shape-first}
+use Rattle.nodes.proofs.Terms as node
+use Rattle.nodes.proofs.Terms.{Shaped, by-shape}
 use Rattle.types.specs.References.{shapeAt, former, Means}
 use Rattle.types.proofs.Meanings.{shape-of, written-means, means-in}
 use Rattle.types.proofs.Frames.{means-widen, means-frame}
@@ -37,6 +39,11 @@ use Rattle.inference.proofs.Scoping.{scope-later, scope-inside, binds-s
 lead-lam : (l : Lang) (t : Static l) → found (leadStatic l t) 0 (λ u. sizeTy u) ≡ sizeStatic l t
 lead-lam ml t = refl
 lead-lam sc t = refl
+
+-- A term of two parts or three that are terms.
+pub data Several : (l : Lang) → Term l → Type 0 where
+  two : {l : Lang} (o : Op2) (a b : Term l) → Several l (op2 o a b)
+  three : {l : Lang} (a b c : Term l) → Several l (if0 a b c)
 
 -- Nothing is written past the end.
 pub run-out : (w ls : List ℕ) (at scope : ℕ) → length (drop at w) ≡ 0 → Infers w at scope ls ls (Bad at)
@@ -70,30 +77,34 @@ module _ (w ls : List ℕ) (at scope x : ℕ) (row : code.Row) (X : x ≡ getD (
   place : (l : Lang) (e : Term l) (k : List ℕ) → drop at w ≡ put e k → shapeAt w at ≡ shapeNumber (term l) e
   place l e k d = shape-of (term l) w at e k P d
 
+  -- By the shape that the table has, whichever term is written there.
+  told : (n : ℕ) → row .shape ≡ n → (l : Lang) (e : Term l) (k : List ℕ) → drop at w ≡ put e k → Shaped l n e
+  told n h l e k d = by-shape l e k (drop at w) d n (ap (λ (j : ℕ). rowOf (j % 256) .shape) (sym X) ∙ ap (λ (r : code.Row). r .shape) (sym R) ∙ h)
+
   -- A node that is of no other shape has two or three parts that are terms.
   pub several : (row .shape ≡ 1 → ⊥) → (row .shape ≡ 2 → ⊥) → (row .shape ≡ 3 → ⊥) → (row .shape ≡ 4 → ⊥) → (row .shape ≡ 7 → ⊥) → (row .shape ≡ 8 → ⊥)
-      → (row .shape ≡ 9 → ⊥) → (l : Lang) (e : Term l) → row .shape ≡ shapeNumber (term l) e → (shapeNumber (term l) e ≡ 5) ⊎ (shapeNumber (term l) e ≡ 6)
-  several n1 n2 n3 n4 n7 n8 n9 = by
+      → (row .shape ≡ 9 → ⊥) → (l : Lang) (e : Term l) (k : List ℕ) → drop at w ≡ put e k → Several l e
+  several n1 n2 n3 n4 n7 n8 n9 l e k d = by l e (shape-told l e k d)
     where
-      by : (l : Lang) (e : Term l) → row .shape ≡ shapeNumber (term l) e → (shapeNumber (term l) e ≡ 5) ⊎ (shapeNumber (term l) e ≡ 6)
+      by : (l : Lang) (e : Term l) → row .shape ≡ shapeNumber (term l) e → Several l e
       by l (var i) q = absurd (n1 q)
       by l (num n) q = absurd (n2 q)
       by l (lam t b) q = absurd (n3 q)
       by l (op1 o a) q = absurd (n4 q)
-      by l (op2 o a b) q = inl refl
-      by l (if0 a b c) q = inr refl
+      by l (op2 o a b) q = two o a b
+      by l (if0 a b c) q = three a b c
       by l (nil t) q = absurd (n7 q)
       by l (wrong c t) q = absurd (n8 q)
       by ml (ms t a) q = absurd (n9 q)
       by sc (sm t a) q = absurd (n9 q)
 
-  pub choice : ((l : Lang) (e : Term l) → row .shape ≡ shapeNumber (term l) e → (shapeNumber (term l) e ≡ 5) ⊎ (shapeNumber (term l) e ≡ 6)) → (row .shape ≡ 5 → ⊥)
-      → (l : Lang) (e : Term l) → row .shape ≡ shapeNumber (term l) e → shapeNumber (term l) e ≡ 6
-  choice f n l e q = by (f l e q)
+  pub choice : ((l : Lang) (e : Term l) (k : List ℕ) → drop at w ≡ put e k → Several l e) → (row .shape ≡ 5 → ⊥)
+      → (l : Lang) (e : Term l) (k : List ℕ) → drop at w ≡ put e k → Shaped l 6 e
+  choice f n l e k d = by l e (shape-told l e k d) (f l e k d)
     where
-      by : (shapeNumber (term l) e ≡ 5) ⊎ (shapeNumber (term l) e ≡ 6) → shapeNumber (term l) e ≡ 6
-      by (inl h) = absurd (n (q ∙ h))
-      by (inr h) = h
+      by : (l : Lang) (e : Term l) → row .shape ≡ shapeNumber (term l) e → Several l e → Shaped l 6 e
+      by l e q (two o a b) = absurd (n q)
+      by l e q (three a b c) = node.a-choice a b c
 
   pub a-variable : (r : Inferred) → row .shape ≡ 1 → Variable w ls (row .sort) scope x at r → Infers w at scope ls ls r
   unfolding infer fault size put
@@ -102,102 +113,66 @@ module _ (w ls : List ℕ) (at scope x : ℕ) (row : code.Row) (X : x ≡ getD (
         same = refl;
         kept = λ i j. refl;
         advances = passes-on at (length w) (at + 1) r (omega arith) (omega arith) (v .passes);
-        is = λ l e Γ k d s. by l e (sym (shape-told l e k d) ∙ h) Γ k d s;
+        is = λ l e Γ k d s. by l e (told _ h l e k d) Γ k d s;
       }
     where
       index : (l : Lang) (i : ℕ) → x ≡ word (by-language l 16 32) i → x / 256 ≡ i
       index ml i q = omega (arith, q)
       index sc i q = omega (arith, q)
 
-      by : (l : Lang) (e : Term l) → shapeNumber (term l) e ≡ 1 → Goal ls r l e
-      by l (var i) q Γ k d s =
+      by : (l : Lang) (e : Term l) → Shaped l 1 e → Goal ls r l e
+      by l e (node.a-variable {i = i}) Γ k d s =
           subst (λ (j : ℕ). Answers l w ls at (at + 1) at (at + 1) (typeAt l Γ j) r) (index l i (word-told l (var i) k d))
           (v .is l Γ at (at + 1) (sort-told l (var i) k d) (omega arith) s)
-      by l (num n) q Γ k d s = absurd (omega (arith, q))
-      by l (lam t b) q Γ k d s = absurd (omega (arith, q))
-      by l (op1 o a) q Γ k d s = absurd (omega (arith, q))
-      by l (op2 o a b) q Γ k d s = absurd (omega (arith, q))
-      by l (if0 a b c) q Γ k d s = absurd (omega (arith, q))
-      by l (nil t) q Γ k d s = absurd (omega (arith, q))
-      by l (wrong c t) q Γ k d s = absurd (omega (arith, q))
-      by ml (ms t a) q Γ k d s = absurd (omega (arith, q))
-      by sc (sm t a) q Γ k d s = absurd (omega (arith, q))
 
   -- Nodes without a part that is a term.
   module _ (start : ℕ) (S : PartsStart w (row .sort) (row .shape) at start) where
     starts : (l : Lang) (e : Term l) (k : List ℕ) → drop at w ≡ put e k → start ≡ at + 1 + leadSize e
     starts l e k d = S .is l e k (sort-told l e k d) (shape-told l e k d) d
 
-    leaf : (p : ℕ) → ((l : Lang) (e : Term l) → row .shape ≡ shapeNumber (term l) e → Goal ls (Typed p start) l e) → Infers w at scope ls ls (Typed p start)
+    leaf : (p : ℕ) → ((l : Lang) (e : Term l) (k : List ℕ) → drop at w ≡ put e k → Goal ls (Typed p start) l e) → Infers w at scope ls ls (Typed p start)
     leaf p f =
         record {
           same = refl;
           kept = λ i j. refl;
           advances = (omega (arith, S .least), S .most);
-          is = λ l e Γ k d s. f l e (shape-told l e k d) Γ k d s;
+          is = λ l e Γ k d s. f l e k d Γ k d s;
         }
 
     pub a-number : row .shape ≡ 2 → Infers w at scope ls ls (Typed at start)
     unfolding infer fault size put Answers Means former
-    a-number h = leaf at (λ l e q. by l e (sym q ∙ h))
+    a-number h = leaf at (λ l e k d. by l e (told _ h l e k d))
       where
         refers : (l : Lang) (n : ℕ) (k : List ℕ) → drop at w ≡ put (num {l = l} n) k → Refers l w ls at (at + 1) at (numbers l)
         refers ml n k d = ap former (place ml (num n) k d)
         refers sc n k d = tt
 
-        by : (l : Lang) (e : Term l) → shapeNumber (term l) e ≡ 2 → Goal ls (Typed at start) l e
-        by l (var i) q Γ k d s = absurd (omega (arith, q))
-        by l (num n) q Γ k d s = (at, ap (Typed at) (omega (arith, starts l (num n) k d)), refers l n k d)
-        by l (lam t b) q Γ k d s = absurd (omega (arith, q))
-        by l (op1 o a) q Γ k d s = absurd (omega (arith, q))
-        by l (op2 o a b) q Γ k d s = absurd (omega (arith, q))
-        by l (if0 a b c) q Γ k d s = absurd (omega (arith, q))
-        by l (nil t) q Γ k d s = absurd (omega (arith, q))
-        by l (wrong c t) q Γ k d s = absurd (omega (arith, q))
-        by ml (ms t a) q Γ k d s = absurd (omega (arith, q))
-        by sc (sm t a) q Γ k d s = absurd (omega (arith, q))
+        by : (l : Lang) (e : Term l) → Shaped l 2 e → Goal ls (Typed at start) l e
+        by l e (node.a-number {n = n}) Γ k d s = (at, ap (Typed at) (omega (arith, starts l (num n) k d)), refers l n k d)
 
     pub a-nil : row .shape ≡ 7 → Infers w at scope ls ls (Typed at start)
     unfolding infer fault size put Answers Means former
-    a-nil h = leaf at (λ l e q. by l e (sym q ∙ h))
+    a-nil h = leaf at (λ l e k d. by l e (told _ h l e k d))
       where
         refers : (l : Lang) (t : Static l) (k : List ℕ) (hi : ℕ) → drop at w ≡ put (nil {l = l} t) k → Refers l w ls at hi at (lists l t)
         refers ml t k hi d = (ap former (place ml (nil t) k d), lead-written ml (nil t) w k at t d refl)
         refers sc t k hi d = tt
 
-        by : (l : Lang) (e : Term l) → shapeNumber (term l) e ≡ 7 → Goal ls (Typed at start) l e
-        by l (var i) q Γ k d s = absurd (omega (arith, q))
-        by l (num n) q Γ k d s = absurd (omega (arith, q))
-        by l (lam t b) q Γ k d s = absurd (omega (arith, q))
-        by l (op1 o a) q Γ k d s = absurd (omega (arith, q))
-        by l (op2 o a b) q Γ k d s = absurd (omega (arith, q))
-        by l (if0 a b c) q Γ k d s = absurd (omega (arith, q))
-        by l (nil t) q Γ k d s =
+        by : (l : Lang) (e : Term l) → Shaped l 7 e → Goal ls (Typed at start) l e
+        by l e (node.a-nil {t = t}) Γ k d s =
             (at, ap (Typed at) (omega (arith, starts l (nil t) k d, lead-lam l t)), refers l t k (at + suc (sizeStatic l t)) d)
-        by l (wrong c t) q Γ k d s = absurd (omega (arith, q))
-        by ml (ms t a) q Γ k d s = absurd (omega (arith, q))
-        by sc (sm t a) q Γ k d s = absurd (omega (arith, q))
 
     pub a-wrong : row .shape ≡ 8 → Infers w at scope ls ls (Typed (at + 1) start)
     unfolding infer fault size put Answers
-    a-wrong h = leaf (at + 1) (λ l e q. by l e (sym q ∙ h))
+    a-wrong h = leaf (at + 1) (λ l e k d. by l e (told _ h l e k d))
       where
         refers : (l : Lang) (c : ℕ) (t : Static l) (k : List ℕ) (hi : ℕ) → drop at w ≡ put (wrong {l = l} c t) k → Refers l w ls at hi (at + 1) t
         refers ml c t k hi d = written-means w ls at hi (at + 1) t (omega arith) (lead-written ml (wrong c t) w k at t d refl)
         refers sc c t k hi d = tt
 
-        by : (l : Lang) (e : Term l) → shapeNumber (term l) e ≡ 8 → Goal ls (Typed (at + 1) start) l e
-        by l (var i) q Γ k d s = absurd (omega (arith, q))
-        by l (num n) q Γ k d s = absurd (omega (arith, q))
-        by l (lam t b) q Γ k d s = absurd (omega (arith, q))
-        by l (op1 o a) q Γ k d s = absurd (omega (arith, q))
-        by l (op2 o a b) q Γ k d s = absurd (omega (arith, q))
-        by l (if0 a b c) q Γ k d s = absurd (omega (arith, q))
-        by l (nil t) q Γ k d s = absurd (omega (arith, q))
-        by l (wrong c t) q Γ k d s =
+        by : (l : Lang) (e : Term l) → Shaped l 8 e → Goal ls (Typed (at + 1) start) l e
+        by l e (node.a-wrong c t) Γ k d s =
             (at + 1, ap (Typed (at + 1)) (omega (arith, starts l (wrong c t) k d, lead-lam l t)), refers l c t k (at + suc (sizeStatic l t)) d)
-        by ml (ms t a) q Γ k d s = absurd (omega (arith, q))
-        by sc (sm t a) q Γ k d s = absurd (omega (arith, q))
 
   -- Nodes with one: it is inferred first, inside the lambda where the node is one.
   module _ (start : ℕ) (S : PartsStart w (row .sort) (row .shape) at start) (ls1 : List ℕ) (inner : ℕ) (E : Entered (row .shape) at scope ls ls1 inner)
@@ -286,7 +261,7 @@ module _ (w ls : List ℕ) (at scope x : ℕ) (row : code.Row) (X : x ≡ getD (
             same = f .same ∙ same-1;
             kept = λ i j. f .kept i (λ q. omega (arith, q)) ∙ kept-1 i j;
             advances = subst (Advances at (length w)) (sym (f .answer)) (omega (arith, S .least, bounds-1), bounds-1 .1);
-            is = λ l e Γ k d s. by l e (sym (shape-told l e k d) ∙ h) Γ k d s;
+            is = λ l e Γ k d s. by l e (told _ h l e k d) Γ k d s;
           }
         where
           refers : (l : Lang) (τ u : Static l) (b : Term l) (k : List ℕ) (p : ℕ) → drop at w ≡ put (lam τ b) k → at < p → p < second → Refers l w ls2 p second t u
@@ -299,10 +274,8 @@ module _ (w ls : List ℕ) (at scope x : ℕ) (row : code.Row) (X : x ≡ getD (
               )
           refers sc τ u b k p d i j m = tt
 
-          by : (l : Lang) (e : Term l) → shapeNumber (term l) e ≡ 3 → Goal ls′ r l e
-          by l (var i) q Γ k d s = absurd (omega (arith, q))
-          by l (num n) q Γ k d s = absurd (omega (arith, q))
-          by l (lam τ b) q Γ k d s =
+          by : (l : Lang) (e : Term l) → Shaped l 3 e → Goal ls′ r l e
+          by l e (node.a-lambda {t = τ} {b = b}) Γ k d s =
               let p = at + 1 + sizeStatic l τ in
               let g = good-part l w ls2 p (p + size b) (p + size b) (fault p (of l τ ∷ Γ) b) t second (infer (of l τ ∷ Γ) b) r1 T (body h l τ b Γ k d s) in
               let n : second ≡ at + suc (sizeStatic l τ + size b) = omega (arith, g .ends) in
@@ -312,13 +285,6 @@ module _ (w ls : List ℕ) (at scope x : ℕ) (row : code.Row) (X : x ≡ getD (
                 f .answer ∙ ap (Typed at) n,
                 subst (λ (i : ℕ). Refers l w ls′ at i at (functions l τ (g .static))) n (refers l τ (g .static) b k p d (omega arith) (omega (arith, starts start S l (lam τ b) k d, lead-lam l τ, bounds-1)) m),
               )
-          by l (op1 o a) q Γ k d s = absurd (omega (arith, q))
-          by l (op2 o a b) q Γ k d s = absurd (omega (arith, q))
-          by l (if0 a b c) q Γ k d s = absurd (omega (arith, q))
-          by l (nil t) q Γ k d s = absurd (omega (arith, q))
-          by l (wrong c t) q Γ k d s = absurd (omega (arith, q))
-          by ml (ms t a) q Γ k d s = absurd (omega (arith, q))
-          by sc (sm t a) q Γ k d s = absurd (omega (arith, q))
 
       pub a-boundary : (r : Inferred) → row .shape ≡ 9 → Crossed w ls2 (row .sort) at t second r → Infers w at scope ls ls2 r
       unfolding infer fault size put
@@ -327,19 +293,11 @@ module _ (w ls : List ℕ) (at scope x : ℕ) (row : code.Row) (X : x ≡ getD (
             same = same-1;
             kept = kept-1;
             advances = passes-on at (length w) second r (omega (arith, S .least, bounds-1)) (bounds-1 .1) (f .passes);
-            is = λ l e Γ k d s. by l e (sym (shape-told l e k d) ∙ h) Γ k d s;
+            is = λ l e Γ k d s. by l e (told _ h l e k d) Γ k d s;
           }
         where
-          by : (l : Lang) (e : Term l) → shapeNumber (term l) e ≡ 9 → Goal ls2 r l e
-          by l (var i) q Γ k d s = absurd (omega (arith, q))
-          by l (num n) q Γ k d s = absurd (omega (arith, q))
-          by l (lam t b) q Γ k d s = absurd (omega (arith, q))
-          by l (op1 o a) q Γ k d s = absurd (omega (arith, q))
-          by l (op2 o a b) q Γ k d s = absurd (omega (arith, q))
-          by l (if0 a b c) q Γ k d s = absurd (omega (arith, q))
-          by l (nil t) q Γ k d s = absurd (omega (arith, q))
-          by l (wrong c t) q Γ k d s = absurd (omega (arith, q))
-          by ml (ms τ a) q Γ k d s =
+          by : (l : Lang) (e : Term l) → Shaped l 9 e → Goal ls2 r l e
+          by l e (node.an-ms τ a) Γ k d s =
               let p = at + 1 + sizeTy τ in
               let y = first (λ z. omega (arith, z, h)) p (starts start S ml (ms τ a) k d) sc a Γ k (past-tree type τ (at + 1) w _ (past-word at _ w _ d)) s in
               let g = good-part sc w ls2 p (p + size a) (p + size a) (fault p Γ a) t second (infer Γ a) r1 T y in
@@ -347,7 +305,7 @@ module _ (w ls : List ℕ) (at scope x : ℕ) (row : code.Row) (X : x ≡ getD (
               rw (g .typed)
               (subst (λ (i : ℕ). Answers ml w ls2 at i at i (some τ) r) n
               (f .is ml τ tt at second (bounds-1 .1) (sort-told ml (ms τ a) k d) (lead-written ml (ms τ a) w k at τ d refl) tt))
-          by sc (sm τ a) q Γ k d s =
+          by l e (node.an-sm τ a) Γ k d s =
               let p = at + 1 + sizeTy τ in
               let y = first (λ z. omega (arith, z, h)) p (starts start S sc (sm τ a) k d) ml a Γ k (past-tree type τ (at + 1) w _ (past-word at _ w _ d)) s in
               let g = good-part ml w ls2 p (p + size a) (p + size a) (fault p Γ a) t second (infer Γ a) r1 T y in
@@ -364,14 +322,11 @@ module _ (w ls : List ℕ) (at scope x : ℕ) (row : code.Row) (X : x ≡ getD (
             same = same-1;
             kept = kept-1;
             advances = passes-on at (length w) second r (omega (arith, S .least, bounds-1)) (bounds-1 .1) (f .passes);
-            is = λ l e Γ k d s. by l e (sym (shape-told l e k d) ∙ h) Γ k d s;
+            is = λ l e Γ k d s. by l e (told _ h l e k d) Γ k d s;
           }
         where
-          by : (l : Lang) (e : Term l) → shapeNumber (term l) e ≡ 4 → Goal ls2 r l e
-          by l (var i) q Γ k d s = absurd (omega (arith, q))
-          by l (num n) q Γ k d s = absurd (omega (arith, q))
-          by l (lam t b) q Γ k d s = absurd (omega (arith, q))
-          by l (op1 o a) q Γ k d s =
+          by : (l : Lang) (e : Term l) → Shaped l 4 e → Goal ls2 r l e
+          by l e (node.one-part o a) Γ k d s =
               let p = at + 1 in
               let y = first (λ z. omega (arith, z, h)) p (omega (arith, starts start S l (op1 o a) k d)) l a Γ k (past-word at _ w _ d) s in
               let g = good-part l w ls2 p (p + size a) (p + size a) (fault p Γ a) t second (infer Γ a) r1 T y in
@@ -380,12 +335,6 @@ module _ (w ls : List ℕ) (at scope x : ℕ) (row : code.Row) (X : x ≡ getD (
               rw (g .typed)
               (subst (λ (i : ℕ). Answers l w ls2 at i at i (result1 o (g .static)) r) n
               (f .is l o (g .static) at second (bounds-1 .1) (sort-told l (op1 o a) k d) (word-told l (op1 o a) k d) (place l (op1 o a) k d) m))
-          by l (op2 o a b) q Γ k d s = absurd (omega (arith, q))
-          by l (if0 a b c) q Γ k d s = absurd (omega (arith, q))
-          by l (nil t) q Γ k d s = absurd (omega (arith, q))
-          by l (wrong c t) q Γ k d s = absurd (omega (arith, q))
-          by ml (ms t a) q Γ k d s = absurd (omega (arith, q))
-          by sc (sm t a) q Γ k d s = absurd (omega (arith, q))
 
       -- The first of several parts, which is behind the node's word.
       first-good : (l : Lang) (a : Term l) (Γ : Lambdas) (k : List ℕ) → (row .shape ≡ 3 → ⊥) → start ≡ at + 1 → drop (at + 1) w ≡ put a k
@@ -407,7 +356,7 @@ module _ (w ls : List ℕ) (at scope x : ℕ) (row : code.Row) (X : x ≡ getD (
             subst (λ (i : ℕ). Answers l w ls3 i (i + size b) (fault i Γ b) (i + size b) (infer Γ b) r2) q
             (J .is l b Γ k (subst (λ (i : ℕ). drop i w ≡ put b k) (sym q) d) (scope-later w ls ls2 at second scope Γ (omega (arith, S .least, bounds-1)) kept-1 s))
 
-        pub two-bad : (b : ℕ) → r2 ≡ Bad b → ((l : Lang) (e : Term l) → row .shape ≡ shapeNumber (term l) e → (shapeNumber (term l) e ≡ 5) ⊎ (shapeNumber (term l) e ≡ 6))
+        pub two-bad : (b : ℕ) → r2 ≡ Bad b → ((l : Lang) (e : Term l) (k : List ℕ) → drop at w ≡ put e k → Several l e)
             → Infers w at scope ls ls3 r2
         unfolding infer fault size put
         two-bad b z n =
@@ -415,36 +364,24 @@ module _ (w ls : List ℕ) (at scope x : ℕ) (row : code.Row) (X : x ≡ getD (
               same = same-2;
               kept = kept-2;
               advances = advances-later at second (length w) r2 (omega (arith, S .least, bounds-1)) (J .advances);
-              is = λ l e Γ k d s. by l e (n l e (shape-told l e k d)) Γ k d s;
+              is = λ l e Γ k d s. by l e (n l e k d) Γ k d s;
             }
           where
-            neither : {A : Type 0} (i : ℕ) → (i ≡ 5 → ⊥) → (i ≡ 6 → ⊥) → (i ≡ 5) ⊎ (i ≡ 6) → A
-            neither i f g (inl q) = absurd (f q)
-            neither i f g (inr q) = absurd (g q)
-
-            by : (l : Lang) (e : Term l) → (shapeNumber (term l) e ≡ 5) ⊎ (shapeNumber (term l) e ≡ 6) → Goal ls3 r2 l e
-            by l (op2 o a c) q Γ k d s =
+            by : (l : Lang) (e : Term l) → Several l e → Goal ls3 r2 l e
+            by l e (two o a c) Γ k d s =
                 let g = first-good l a Γ (put c k) (λ h. omega (arith, h, shape-told l (op2 o a c) k d)) (omega (arith, starts start S l (op2 o a c) k d)) (past-word at _ w _ d) s in
                 let p = at + 1 + size a in
                 rw (g .typed)
                 (bad-part l l w ls3 ls3 p (p + size c) (p + size c) at (at + suc (size a + size c)) (at + suc (size a + size c)) (fault p Γ c) (infer Γ c)
                 (λ u. result2 l o (g .static) u) (λ u. at) r2 b z
                 (next-part p (g .ends) l c Γ k (past-tree (term l) a (at + 1) w _ (past-word at _ w _ d)) s))
-            by l (if0 a c e) q Γ k d s =
+            by l i (three a c e) Γ k d s =
                 let g = first-good l a Γ (put c (put e k)) (λ h. omega (arith, h, shape-told l (if0 a c e) k d)) (omega (arith, starts start S l (if0 a c e) k d)) (past-word at _ w _ d) s in
                 let p = at + 1 + size a in
                 rw (g .typed)
                 (bad-part l l w ls3 ls3 p (p + size c) (p + size c) at (at + suc (size a + size c + size e)) (at + suc (size a + size c + size e)) (fault p Γ c) (infer Γ c)
                 (λ u. found (infer Γ e) none (λ v. result3 l (g .static) u v)) (λ u. found (infer Γ e) (fault (at + 1 + size a + size c) Γ e) (λ v. at)) r2 b z
                 (next-part p (g .ends) l c Γ (put e k) (past-tree (term l) a (at + 1) w _ (past-word at _ w _ d)) s))
-            by l (var i) q Γ k d s = neither 1 (λ h. omega (arith, h)) (λ h. omega (arith, h)) q
-            by l (num n′) q Γ k d s = neither 2 (λ h. omega (arith, h)) (λ h. omega (arith, h)) q
-            by l (lam t b′) q Γ k d s = neither 3 (λ h. omega (arith, h)) (λ h. omega (arith, h)) q
-            by l (op1 o a) q Γ k d s = neither 4 (λ h. omega (arith, h)) (λ h. omega (arith, h)) q
-            by l (nil t) q Γ k d s = neither 7 (λ h. omega (arith, h)) (λ h. omega (arith, h)) q
-            by l (wrong c t) q Γ k d s = neither 8 (λ h. omega (arith, h)) (λ h. omega (arith, h)) q
-            by ml (ms t a) q Γ k d s = neither 9 (λ h. omega (arith, h)) (λ h. omega (arith, h)) q
-            by sc (sm t a) q Γ k d s = neither 9 (λ h. omega (arith, h)) (λ h. omega (arith, h)) q
 
         module _ (u third : ℕ) (U : r2 ≡ Typed u third) where
           bounds-2 : (second < third) × (third ≤ length w)
@@ -462,15 +399,11 @@ module _ (w ls : List ℕ) (at scope x : ℕ) (row : code.Row) (X : x ≡ getD (
                 same = same-2;
                 kept = kept-2;
                 advances = passes-on at (length w) third r (omega (arith, S .least, bounds-1, bounds-2)) (bounds-2 .1) (f .passes);
-                is = λ l e Γ k d s. by l e (sym (shape-told l e k d) ∙ h) Γ k d s;
+                is = λ l e Γ k d s. by l e (told _ h l e k d) Γ k d s;
               }
             where
-              by : (l : Lang) (e : Term l) → shapeNumber (term l) e ≡ 5 → Goal ls3 r l e
-              by l (var i) q Γ k d s = absurd (omega (arith, q))
-              by l (num n) q Γ k d s = absurd (omega (arith, q))
-              by l (lam t b) q Γ k d s = absurd (omega (arith, q))
-              by l (op1 o a) q Γ k d s = absurd (omega (arith, q))
-              by l (op2 o a c) q Γ k d s =
+              by : (l : Lang) (e : Term l) → Shaped l 5 e → Goal ls3 r l e
+              by l e (node.two-parts o a c) Γ k d s =
                   let g = first-good l a Γ (put c k) (λ z. omega (arith, z, h)) (omega (arith, starts start S l (op2 o a c) k d)) (past-word at _ w _ d) s in
                   let p = at + 1 + size a in
                   let j = second-good p (g .ends) l c Γ k (past-tree (term l) a (at + 1) w _ (past-word at _ w _ d)) s in
@@ -480,11 +413,6 @@ module _ (w ls : List ℕ) (at scope x : ℕ) (row : code.Row) (X : x ≡ getD (
                   rw (g .typed, j .typed)
                   (subst (λ (i : ℕ). Answers l w ls3 at i at i (result2 l o (g .static) (j .static)) r) n
                   (f .is l o (g .static) (j .static) at third (bounds-2 .1) (sort-told l (op2 o a c) k d) (word-told l (op2 o a c) k d) m m′))
-              by l (if0 a b c) q Γ k d s = absurd (omega (arith, q))
-              by l (nil t) q Γ k d s = absurd (omega (arith, q))
-              by l (wrong c t) q Γ k d s = absurd (omega (arith, q))
-              by ml (ms t a) q Γ k d s = absurd (omega (arith, q))
-              by sc (sm t a) q Γ k d s = absurd (omega (arith, q))
 
           -- And so is the third.
           module _ (ls4 : List ℕ) (r3 : Inferred) (K : Infers w third scope ls3 ls4 r3) where
@@ -501,23 +429,18 @@ module _ (w ls : List ℕ) (at scope x : ℕ) (row : code.Row) (X : x ≡ getD (
                 (K .is l c Γ k (subst (λ (i : ℕ). drop i w ≡ put c k) (sym q) d)
                 (scope-later w ls ls3 at third scope Γ (omega (arith, S .least, bounds-1, bounds-2)) kept-2 s))
 
-            pub three-bad : (b : ℕ) → r3 ≡ Bad b → ((l : Lang) (e : Term l) → row .shape ≡ shapeNumber (term l) e → shapeNumber (term l) e ≡ 6) → Infers w at scope ls ls4 r3
+            pub three-bad : (b : ℕ) → r3 ≡ Bad b → ((l : Lang) (e : Term l) (k : List ℕ) → drop at w ≡ put e k → Shaped l 6 e) → Infers w at scope ls ls4 r3
             unfolding infer fault size put
             three-bad b z six =
                 record {
                   same = same-3;
                   kept = kept-3;
                   advances = advances-later at third (length w) r3 (omega (arith, S .least, bounds-1, bounds-2)) (K .advances);
-                  is = λ l e Γ k d s. by l e (six l e (shape-told l e k d)) Γ k d s;
+                  is = λ l e Γ k d s. by l e (six l e k d) Γ k d s;
                 }
               where
-                by : (l : Lang) (e : Term l) → shapeNumber (term l) e ≡ 6 → Goal ls4 r3 l e
-                by l (var i) q Γ k d s = absurd (omega (arith, q))
-                by l (num n) q Γ k d s = absurd (omega (arith, q))
-                by l (lam t b) q Γ k d s = absurd (omega (arith, q))
-                by l (op1 o a) q Γ k d s = absurd (omega (arith, q))
-                by l (op2 o a b) q Γ k d s = absurd (omega (arith, q))
-                by l (if0 a c e) q Γ k d s =
+                by : (l : Lang) (e : Term l) → Shaped l 6 e → Goal ls4 r3 l e
+                by l i (node.a-choice a c e) Γ k d s =
                     let g = first-good l a Γ (put c (put e k)) (λ h. omega (arith, h, shape-told l (if0 a c e) k d)) (omega (arith, starts start S l (if0 a c e) k d)) (past-word at _ w _ d) s in
                     let p = at + 1 + size a in
                     let y = past-tree (term l) a (at + 1) w _ (past-word at _ w _ d) in
@@ -526,12 +449,8 @@ module _ (w ls : List ℕ) (at scope x : ℕ) (row : code.Row) (X : x ≡ getD (
                     rw (g .typed, j .typed)
                     (bad-part l l w ls4 ls4 p′ (p′ + size e) (p′ + size e) at (at + suc (size a + size c + size e)) (at + suc (size a + size c + size e)) (fault p′ Γ e)
                     (infer Γ e) (λ v. result3 l (g .static) (j .static) v) (λ v. at) r3 b z (last-part p′ (j .ends) l e Γ k (past-tree (term l) c p w _ y) s))
-                by l (nil t) q Γ k d s = absurd (omega (arith, q))
-                by l (wrong c t) q Γ k d s = absurd (omega (arith, q))
-                by ml (ms t a) q Γ k d s = absurd (omega (arith, q))
-                by sc (sm t a) q Γ k d s = absurd (omega (arith, q))
 
-            pub a-choice : (v next : ℕ) → r3 ≡ Typed v next → (r : Inferred) → ((l : Lang) (e : Term l) → row .shape ≡ shapeNumber (term l) e → shapeNumber (term l) e ≡ 6)
+            pub a-choice : (v next : ℕ) → r3 ≡ Typed v next → (r : Inferred) → ((l : Lang) (e : Term l) (k : List ℕ) → drop at w ≡ put e k → Shaped l 6 e)
                 → Concluded3 w ls4 (row .sort) at t u v next r → Infers w at scope ls ls4 r
             unfolding infer fault size put
             a-choice v next told r six f =
@@ -539,19 +458,14 @@ module _ (w ls : List ℕ) (at scope x : ℕ) (row : code.Row) (X : x ≡ getD (
                   same = same-3;
                   kept = kept-3;
                   advances = passes-on at (length w) next r (omega (arith, S .least, bounds-1, bounds-2, bounds-3)) (bounds-3 .1) (f .passes);
-                  is = λ l e Γ k d s. by l e (six l e (shape-told l e k d)) Γ k d s;
+                  is = λ l e Γ k d s. by l e (six l e k d) Γ k d s;
                 }
               where
                 bounds-3 : (third < next) × (next ≤ length w)
                 bounds-3 = advanced third (length w) v next r3 told (K .advances)
 
-                by : (l : Lang) (e : Term l) → shapeNumber (term l) e ≡ 6 → Goal ls4 r l e
-                by l (var i) q Γ k d s = absurd (omega (arith, q))
-                by l (num n) q Γ k d s = absurd (omega (arith, q))
-                by l (lam t b) q Γ k d s = absurd (omega (arith, q))
-                by l (op1 o a) q Γ k d s = absurd (omega (arith, q))
-                by l (op2 o a b) q Γ k d s = absurd (omega (arith, q))
-                by l (if0 a c e) q Γ k d s =
+                by : (l : Lang) (e : Term l) → Shaped l 6 e → Goal ls4 r l e
+                by l i (node.a-choice a c e) Γ k d s =
                     let g = first-good l a Γ (put c (put e k)) (λ h. omega (arith, h, shape-told l (if0 a c e) k d)) (omega (arith, starts start S l (if0 a c e) k d)) (past-word at _ w _ d) s in
                     let p = at + 1 + size a in
                     let y = past-tree (term l) a (at + 1) w _ (past-word at _ w _ d) in
@@ -566,7 +480,3 @@ module _ (w ls : List ℕ) (at scope x : ℕ) (row : code.Row) (X : x ≡ getD (
                     rw (g .typed, j .typed, i .typed)
                     (subst (λ (z : ℕ). Answers l w ls4 at z at z (result3 l (g .static) (j .static) (i .static)) r) n
                     (f .is l (g .static) (j .static) (i .static) at next (bounds-3 .1) (sort-told l (if0 a c e) k d) m m′ m″))
-                by l (nil t) q Γ k d s = absurd (omega (arith, q))
-                by l (wrong c t) q Γ k d s = absurd (omega (arith, q))
-                by ml (ms t a) q Γ k d s = absurd (omega (arith, q))
-                by sc (sm t a) q Γ k d s = absurd (omega (arith, q))
