@@ -5,7 +5,8 @@ use mathlib.Core.Path.{_≡_, refl, sym, ap, _∙_, subst}
 use lib.ListN.{length, getD}
 use borrow.Author.Tests.{ne-eqb}
 use native.Mathlib.Omega.{arith}
-use Rattle.calculus.specs.Trees.{N, L, list, _to_, Lang, ml, sc, Static, isFun, isList, isNull, isNum, head, tail, fixpoint, empty, testing, apply, plus, minus, pair, Term, var, num, lam, op1, op2, if0, nil, wrong, ms, sm}
+use Rattle.calculus.specs.Trees.{N, L, list, _to_, Lang, ml, sc, Static, isFun, isList, isNull, isNum, head, tail, fixpoint, empty, testing, apply}
+use Rattle.calculus.specs.Trees.{plus, minus, pair, Term, var, num, lam, op1, op2, if0, nil, wrong, ms, sm}
 use Rattle.calculus.specs.Words.{word, put, putTy, size}
 use Rattle.calculus.specs.Kinds.{term}
 use Rattle.calculus.specs.Reduction.{other, form}
