@@ -1,189 +1,48 @@
--- The ways out of the inference, node by node. Assumes nothing.
-use Prim.Native.Nat.{ℕ, suc, _+_, _/_, _%_, _≤_, _<_}
+-- The ways out of the inference at a node that has parts which are terms. Assumes nothing.
+use Prim.Native.Nat.{ℕ, suc, _+_, _≤_, _<_}
 use mathlib.Core.Bool.{cond}
 use mathlib.Core.List.{List, _∷_}
 use mathlib.Core.Logic.{inl}
 use mathlib.Core.Option.{none, some}
 use mathlib.Core.Path.{_≡_, refl, sym, ap, _∙_, subst}
 use lib.ListN.{length, getD, drop}
-use lib.Seq.{getD-drop}
-use native.Mathlib.Nat.{add-zero}
 use native.Mathlib.Omega.{arith}
-use Rattle.calculus.specs.Trees.{Lang, ml, sc, Static, numbers, lists, functions, Op2, Term, var, num, lam, op1, op2, if0, nil, wrong, ms, sm}
+use Rattle.calculus.specs.Trees.{Lang, ml, sc, Static, functions, Term, var, num, lam, op1, op2, if0, nil, wrong, ms, sm}
 use Rattle.calculus.specs.Verdicts.{found}
-use Rattle.calculus.specs.Words.{word, by as by-language, put, size, sizeTy, sizeStatic}
+use Rattle.calculus.specs.Words.{put, size, sizeTy, sizeStatic}
 use Rattle.calculus.specs.Kinds.{type, term}
 use Rattle.calculus.specs.Typing.{of, Lambdas}
-use Rattle.calculus.specs.Inference.{infer, typeAt, sameType, result1, result2, result3}
+use Rattle.calculus.specs.Inference.{infer, sameType, result1, result2, result3}
 use Rattle.calculus.specs.Faults.{fault}
-use Rattle.calculus.proofs.Sizes.{tree-length, past-word, past-tree, past-static}
-use Rattle.calculus.proofs.Views.{view, sized}
+use Rattle.calculus.proofs.Sizes.{past-word, past-tree, past-static}
 use Rattle.nodes.specs.declared.kinds.Row as code
-use Rattle.nodes.specs.Table.{sortNumber, shapeNumber, rowOf}
-use Rattle.nodes.proofs.Shapes.{sort-first, shape-first}
+use Rattle.nodes.specs.Table.{shapeNumber}
 use Rattle.nodes.proofs.Terms as node
-use Rattle.nodes.proofs.Terms.{Shaped, by-shape}
-use Rattle.types.specs.References.{shapeAt, former, Means}
-use Rattle.types.proofs.Meanings.{shape-of, written-means, means-in}
+use Rattle.nodes.proofs.Terms.{Shaped}
+use Rattle.types.specs.References.{Means}
+use Rattle.types.proofs.Meanings.{shape-of, means-in}
 use Rattle.types.proofs.Frames.{means-widen, means-frame}
 use Rattle.rules.specs.Answers.{Refers, Answers}
-use Rattle.rules.specs.Variables.{Binds, Scope, Variable}
+use Rattle.rules.specs.Variables.{Binds, Scope}
 use Rattle.rules.specs.declared.Inferred.{Inferred}
 use Rattle.rules.specs.declared.Inferred.the-variants.{Typed, Bad}
-use Rattle.inference.specs.Parts.{leadStatic, leadSize, PartsStart, Branches, Kept, Entered, Function}
+use Rattle.inference.specs.Parts.{Read, Node, PartsStart, Kept, Entered, Function}
 use Rattle.inference.specs.Conclusions.{Crossed, Concluded}
 use Rattle.inference.specs.Infers.{Advances, Infers}
 use Rattle.inference.proofs.Leading.{lead-written}
 use Rattle.inference.proofs.Scoping.{scope-later, scope-inside, binds-static, refers-later, bad-part, Good, good-part, passes-on}
 use Rattle.inference.proofs.Scoping.{advances-later, advanced}
+use Rattle.inference.proofs.Nodes.{lead-lam, Several, two, three, Goal, word-told, sort-told, shape-told, starts, told, several, choice}
 
-lead-lam : (l : Lang) (t : Static l) → found (leadStatic l t) 0 (λ u. sizeTy u) ≡ sizeStatic l t
-lead-lam ml t = refl
-lead-lam sc t = refl
+-- A node that has parts which are terms: the first of them is inferred first, inside the lambda where the node is one.
+module _ {w : List ℕ} {at : ℕ} {row : code.Row} {start : ℕ} (N : Node w at row start) where
+  abbrev R : Read w at row
+  R = N .read
 
--- A term of two parts or three that are terms.
-data Several : (l : Lang) → Term l → Type 0 where
-  two : {l : Lang} (o : Op2) (a b : Term l) → Several l (op2 o a b)
-  three : {l : Lang} (a b c : Term l) → Several l (if0 a b c)
+  abbrev S : PartsStart w (row .sort) (row .shape) at start
+  S = N .starts
 
--- Nothing is written past the end.
-pub run-out : (w ls : List ℕ) (at scope : ℕ) → length (drop at w) ≡ 0 → Infers w at scope ls ls (Bad at)
-run-out w ls at scope z =
-    record {
-      same = refl;
-      kept = λ i h. refl;
-      advances = tt;
-      is = λ l e Γ k d s. absurd (omega (arith, z, ap length d, tree-length (term l) e k, sized (view (term l) e)));
-    }
-
--- The word of a node is the first one from its place on.
-pub first-word : (w : List ℕ) (at : ℕ) → getD (drop at w) 0 0 ≡ getD w at 0
-first-word w at = getD-drop at w 0 0 ∙ ap (λ (n : ℕ). getD w n 0) (add-zero at)
-
--- A node, with the row that the table has for its word, inside the lambda at `scope`.
-module _ (w ls : List ℕ) (at scope : ℕ) (row : code.Row) (R : row ≡ rowOf (getD w at 0 % 256)) (P : 0 < at) (B : at < length w)
-    (M : length w ≤ 4096) where
-  module _ (l : Lang) (e : Term l) (k : List ℕ) (d : drop at w ≡ put e k) where
-    word-told : getD w at 0 ≡ getD (put e k) 0 0
-    word-told = sym (first-word w at) ∙ ap (λ (ws : List ℕ). getD ws 0 0) d
-
-    sort-told : row .sort ≡ sortNumber (term l)
-    sort-told = ap (λ (r : code.Row). r .sort) R ∙ ap (λ (j : ℕ). rowOf (j % 256) .sort) word-told ∙ sort-first (term l) e k
-
-    shape-told : row .shape ≡ shapeNumber (term l) e
-    shape-told = ap (λ (r : code.Row). r .shape) R ∙ ap (λ (j : ℕ). rowOf (j % 256) .shape) word-told ∙ shape-first (term l) e k
-
-  -- What there is to show of a shape.
-  abbrev Goal : List ℕ → Inferred → (l : Lang) → Term l → Type 0
-  Goal after r l e =
-      (Γ : Lambdas) (k : List ℕ) → drop at w ≡ put e k → Scope w ls at scope Γ
-      → Answers l w after at (at + size e) (fault at Γ e) (at + size e) (infer Γ e) r
-
-  place : (l : Lang) (e : Term l) (k : List ℕ) → drop at w ≡ put e k → shapeAt w at ≡ shapeNumber (term l) e
-  place l e k d = shape-of (term l) w at e k P d
-
-  -- By the shape that the table has, whichever term is written there.
-  told : (n : ℕ) → row .shape ≡ n → (l : Lang) (e : Term l) (k : List ℕ) → drop at w ≡ put e k → Shaped l n e
-  told n h l e k d =
-      by-shape l e k (drop at w) d n (ap (λ (j : ℕ). rowOf (j % 256) .shape) (first-word w at) ∙ ap (λ (r : code.Row). r .shape) (sym R) ∙ h)
-
-  -- A node that is of no other shape has two or three parts that are terms.
-  several : Branches (row .shape) → (row .shape ≡ 3 → ⊥) → (row .shape ≡ 9 → ⊥) → (row .shape ≡ 4 → ⊥)
-      → (l : Lang) (e : Term l) (k : List ℕ) → drop at w ≡ put e k → Several l e
-  several n n3 n9 n4 l e k d = by l e (shape-told l e k d)
-    where
-      by : (l : Lang) (e : Term l) → row .shape ≡ shapeNumber (term l) e → Several l e
-      by l (var i) q = absurd (n .0 q)
-      by l (num i) q = absurd (n .1 q)
-      by l (lam t b) q = absurd (n3 q)
-      by l (op1 o a) q = absurd (n4 q)
-      by l (op2 o a b) q = two o a b
-      by l (if0 a b c) q = three a b c
-      by l (nil t) q = absurd (n .2 q)
-      by l (wrong c t) q = absurd (n .3 q)
-      by ml (ms t a) q = absurd (n9 q)
-      by sc (sm t a) q = absurd (n9 q)
-
-  choice : Branches (row .shape) → (row .shape ≡ 3 → ⊥) → (row .shape ≡ 9 → ⊥) → (row .shape ≡ 4 → ⊥) → (row .shape ≡ 5 → ⊥)
-      → (l : Lang) (e : Term l) (k : List ℕ) → drop at w ≡ put e k → Shaped l 6 e
-  choice n n3 n9 n4 n5 l e k d = by l e (shape-told l e k d) (several n n3 n9 n4 l e k d)
-    where
-      by : (l : Lang) (e : Term l) → row .shape ≡ shapeNumber (term l) e → Several l e → Shaped l 6 e
-      by l e q (two o a b) = absurd (n5 q)
-      by l e q (three a b c) = node.a-choice a b c
-
-  pub a-variable : {r : Inferred} → row .shape ≡ 1 → Variable w ls (row .sort) scope (getD w at 0) at r → Infers w at scope ls ls r
-  unfolding infer fault size put
-  a-variable {r} h v =
-      record {
-        same = refl;
-        kept = λ i j. refl;
-        advances = passes-on at (length w) (at + 1) r (omega arith) (omega arith) (v .passes);
-        is = λ l e Γ k d s. by l e (told _ h l e k d) Γ k d s;
-      }
-    where
-      index : (l : Lang) (i : ℕ) → getD w at 0 ≡ word (by-language l 16 32) i → getD w at 0 / 256 ≡ i
-      index ml i q = omega (arith, q)
-      index sc i q = omega (arith, q)
-
-      by : (l : Lang) (e : Term l) → Shaped l 1 e → Goal ls r l e
-      by l e (node.a-variable {i = i}) Γ k d s =
-          subst (λ (j : ℕ). Answers l w ls at (at + 1) at (at + 1) (typeAt l Γ j) r) (index l i (word-told l (var i) k d))
-          (v .is l Γ at (at + 1) (sort-told l (var i) k d) (omega arith) s)
-
-  -- Nodes without a part that is a term.
-  module _ {start : ℕ} (S : PartsStart w (row .sort) (row .shape) at start) where
-    starts : (l : Lang) (e : Term l) (k : List ℕ) → drop at w ≡ put e k → start ≡ at + 1 + leadSize e
-    starts l e k d = S .is l e k (sort-told l e k d) (shape-told l e k d) d
-
-    leaf : (p : ℕ) → ((l : Lang) (e : Term l) (k : List ℕ) → drop at w ≡ put e k → Goal ls (Typed p start) l e)
-        → Infers w at scope ls ls (Typed p start)
-    leaf p f =
-        record {
-          same = refl;
-          kept = λ i j. refl;
-          advances = (omega (arith, S .least), S .most);
-          is = λ l e Γ k d s. f l e k d Γ k d s;
-        }
-
-    pub a-number : row .shape ≡ 2 → Infers w at scope ls ls (Typed at start)
-    unfolding infer fault size put Answers Means former
-    a-number h = leaf at (λ l e k d. by l e (told _ h l e k d))
-      where
-        refers : (l : Lang) (n : ℕ) (k : List ℕ) → drop at w ≡ put (num {l = l} n) k → Refers l w ls at (at + 1) at (numbers l)
-        refers ml n k d = ap former (place ml (num n) k d)
-        refers sc n k d = tt
-
-        by : (l : Lang) (e : Term l) → Shaped l 2 e → Goal ls (Typed at start) l e
-        by l e (node.a-number {n = n}) Γ k d s = (at, ap (Typed at) (omega (arith, starts l (num n) k d)), refers l n k d)
-
-    pub a-nil : row .shape ≡ 7 → Infers w at scope ls ls (Typed at start)
-    unfolding infer fault size put Answers Means former
-    a-nil h = leaf at (λ l e k d. by l e (told _ h l e k d))
-      where
-        refers : (l : Lang) (t : Static l) (k : List ℕ) (hi : ℕ) → drop at w ≡ put (nil {l = l} t) k → Refers l w ls at hi at (lists l t)
-        refers ml t k hi d = (ap former (place ml (nil t) k d), lead-written ml (nil t) w k at t d refl)
-        refers sc t k hi d = tt
-
-        by : (l : Lang) (e : Term l) → Shaped l 7 e → Goal ls (Typed at start) l e
-        by l e (node.a-nil {t = t}) Γ k d s =
-            (at, ap (Typed at) (omega (arith, starts l (nil t) k d, lead-lam l t)), refers l t k (at + suc (sizeStatic l t)) d)
-
-    pub a-wrong : row .shape ≡ 8 → Infers w at scope ls ls (Typed (at + 1) start)
-    unfolding infer fault size put Answers
-    a-wrong h = leaf (at + 1) (λ l e k d. by l e (told _ h l e k d))
-      where
-        refers : (l : Lang) (c : ℕ) (t : Static l) (k : List ℕ) (hi : ℕ) → drop at w ≡ put (wrong {l = l} c t) k → Refers l w ls at hi (at + 1) t
-        refers ml c t k hi d = written-means w ls at hi (at + 1) t (omega arith) (lead-written ml (wrong c t) w k at t d refl)
-        refers sc c t k hi d = tt
-
-        by : (l : Lang) (e : Term l) → Shaped l 8 e → Goal ls (Typed (at + 1) start) l e
-        by l e (node.a-wrong c t) Γ k d s =
-            (at + 1, ap (Typed (at + 1)) (omega (arith, starts l (wrong c t) k d, lead-lam l t)), refers l c t k (at + suc (sizeStatic l t)) d)
-
-  -- Nodes with one: it is inferred first, inside the lambda where the node is one.
-  module _ {start : ℕ} (S : PartsStart w (row .sort) (row .shape) at start) {ls1 : List ℕ} {inner : ℕ}
-      (E : Entered (row .shape) at scope ls ls1 inner)
+  module _ (P : 0 < at) (M : length w ≤ 4096) {ls : List ℕ} {scope : ℕ} {ls1 : List ℕ} {inner : ℕ} (E : Entered (row .shape) at scope ls ls1 inner)
       {ls2 : List ℕ} {r1 : Inferred} (I : Infers w start inner ls1 ls2 r1) where
     same-1 : length ls2 ≡ length ls
     same-1 = I .same ∙ E .same
@@ -205,26 +64,27 @@ module _ (w ls : List ℕ) (at scope : ℕ) (row : code.Row) (R : row ≡ rowOf 
     unfolding put
     body h l t b Γ k d s =
         let p = at + 1 + sizeStatic l t in
-        let q : start ≡ p = omega (arith, starts S l (lam t b) k d, lead-lam l t) in
-        let binds : Binds w at (of l t) = (sym (ap (λ (r : code.Row). r .sort) R) ∙ sort-told l (lam t b) k d, binds-static l t b w k at d) in
+        let q : start ≡ p = omega (arith, starts R l (lam t b) k d S, lead-lam l t) in
+        let binds : Binds w at
+        (of l t) = (sym (ap (λ (r : code.Row). r .sort) (R .known)) ∙ sort-told R l (lam t b) k d, binds-static l t b w k at d) in
         let here = scope-inside w ls ls1 at scope start l t Γ P (omega (arith, S .least)) (omega arith) (E .kept) (E .own h .1) binds s in
         subst (λ (i : ℕ). Answers l w ls2 i (i + size b) (fault i (of l t ∷ Γ) b) (i + size b) (infer (of l t ∷ Γ) b) r1) q
         (I .is l b (of l t ∷ Γ) k (subst (λ (i : ℕ). drop i w ≡ put b k) (sym q) (past-static l t (at + 1) w _ (past-word at _ w _ d)))
         (subst (λ (i : ℕ). Scope w ls1 start i (of l t ∷ Γ)) (sym (E .own h .0)) here))
 
-    pub one-bad : {b : ℕ} → r1 ≡ Bad b → Branches (row .shape) → Infers w at scope ls ls2 r1
+    pub one-bad : {b : ℕ} → r1 ≡ Bad b → Infers w at scope ls ls2 r1
     unfolding infer fault size put
-    one-bad {b} z n =
+    one-bad {b} z =
         record {
           same = same-1;
           kept = kept-1;
           advances = advances-later at start (length w) r1 (omega (arith, S .least)) (I .advances);
-          is = λ l e Γ k d s. by l e (shape-told l e k d) Γ k d s;
+          is = λ l e Γ k d s. by l e (shape-told R l e k d) Γ k d s;
         }
       where
-        by : (l : Lang) (e : Term l) → row .shape ≡ shapeNumber (term l) e → Goal ls2 r1 l e
-        by l (var i) q Γ k d s = absurd (n .0 q)
-        by l (num i) q Γ k d s = absurd (n .1 q)
+        by : (l : Lang) (e : Term l) → row .shape ≡ shapeNumber (term l) e → Goal w ls at scope ls2 r1 l e
+        by l (var i) q Γ k d s = absurd (N .branches .0 q)
+        by l (num i) q Γ k d s = absurd (N .branches .1 q)
         by l (lam t b′) q Γ k d s =
             let p = at + 1 + sizeStatic l t in
             bad-part l l w ls2 ls2 p (p + size b′) (p + size b′) at (at + suc (sizeStatic l t + size b′)) (at + suc (sizeStatic l t + size b′))
@@ -233,31 +93,31 @@ module _ (w ls : List ℕ) (at scope : ℕ) (row : code.Row) (R : row ≡ rowOf 
             bad-part l l w ls2 ls2 (at + 1) (at + 1 + size a) (at + 1 + size a) at (at + suc (size a)) (at + suc (size a)) (fault (at + 1) Γ a)
             (infer Γ a)
             (λ t. result1 o t) (λ t. at) r1 b z
-            (first (λ h. omega (arith, q, h)) (at + 1) (omega (arith, starts S l (op1 o a) k d)) l a Γ k (past-word at _ w _ d) s)
+            (first (λ h. omega (arith, q, h)) (at + 1) (omega (arith, starts R l (op1 o a) k d S)) l a Γ k (past-word at _ w _ d) s)
         by l (op2 o a c) q Γ k d s =
             bad-part l l w ls2 ls2 (at + 1) (at + 1 + size a) (at + 1 + size a) at (at + suc (size a + size c)) (at + suc (size a + size c))
             (fault (at + 1) Γ a) (infer Γ a) (λ t. found (infer Γ c) none (λ u. result2 l o t u))
             (λ t. found (infer Γ c) (fault (at + 1 + size a) Γ c) (λ u. at)) r1 b z
-            (first (λ h. omega (arith, q, h)) (at + 1) (omega (arith, starts S l (op2 o a c) k d)) l a Γ (put c k) (past-word at _ w _ d) s)
+            (first (λ h. omega (arith, q, h)) (at + 1) (omega (arith, starts R l (op2 o a c) k d S)) l a Γ (put c k) (past-word at _ w _ d) s)
         by l (if0 a c e) q Γ k d s =
             bad-part l l w ls2 ls2 (at + 1) (at + 1 + size a) (at + 1 + size a) at (at + suc (size a + size c + size e))
             (at + suc (size a + size c + size e))
             (fault (at + 1) Γ a) (infer Γ a) (λ t. found (infer Γ c) none (λ u. found (infer Γ e) none (λ v. result3 l t u v)))
             (λ t. found (infer Γ c) (fault (at + 1 + size a) Γ c) (λ u. found (infer Γ e) (fault (at + 1 + size a + size c) Γ e) (λ v. at))) r1 b z
-            (first (λ h. omega (arith, q, h)) (at + 1) (omega (arith, starts S l (if0 a c e) k d)) l a Γ (put c (put e k)) (past-word at _ w _ d) s)
-        by l (nil t) q Γ k d s = absurd (n .2 q)
-        by l (wrong c t) q Γ k d s = absurd (n .3 q)
+            (first (λ h. omega (arith, q, h)) (at + 1) (omega (arith, starts R l (if0 a c e) k d S)) l a Γ (put c (put e k)) (past-word at _ w _ d) s)
+        by l (nil t) q Γ k d s = absurd (N .branches .2 q)
+        by l (wrong c t) q Γ k d s = absurd (N .branches .3 q)
         by ml (ms t a) q Γ k d s =
             bad-part ml sc w ls2 ls2 (at + 1 + sizeTy t) (at + 1 + sizeTy t + size a) (at + 1 + sizeTy t + size a) at (at + suc (sizeTy t + size a))
             (at + suc (sizeTy t + size a))
             (fault (at + 1 + sizeTy t) Γ a) (infer Γ a) (λ u. some t) (λ u. at) r1 b z
-            (first (λ h. omega (arith, q, h)) (at + 1 + sizeTy t) (starts S ml (ms t a) k d) sc a Γ k
+            (first (λ h. omega (arith, q, h)) (at + 1 + sizeTy t) (starts R ml (ms t a) k d S) sc a Γ k
             (past-tree type t (at + 1) w _ (past-word at _ w _ d)) s)
         by sc (sm t a) q Γ k d s =
             bad-part sc ml w ls2 ls2 (at + 1 + sizeTy t) (at + 1 + sizeTy t + size a) (at + 1 + sizeTy t + size a) at (at + suc (sizeTy t + size a))
             (at + suc (sizeTy t + size a))
             (fault (at + 1 + sizeTy t) Γ a) (infer Γ a) (λ u. cond (sameType ml u t) (some tt) none) (λ u. at) r1 b z
-            (first (λ h. omega (arith, q, h)) (at + 1 + sizeTy t) (starts S sc (sm t a) k d) ml a Γ k
+            (first (λ h. omega (arith, q, h)) (at + 1 + sizeTy t) (starts R sc (sm t a) k d S) ml a Γ k
             (past-tree type t (at + 1) w _ (past-word at _ w _ d)) s)
 
     -- It has the type t, and ends before `second`.
@@ -272,7 +132,7 @@ module _ (w ls : List ℕ) (at scope : ℕ) (row : code.Row) (R : row ≡ rowOf 
             same = f .same ∙ same-1;
             kept = λ i j. f .kept i (λ q. omega (arith, q)) ∙ kept-1 i j;
             advances = subst (Advances at (length w)) (sym (f .answer)) (omega (arith, S .least, bounds-1), bounds-1 .1);
-            is = λ l e Γ k d s. by l e (told _ h l e k d) Γ k d s;
+            is = λ l e Γ k d s. by l e (told R _ h l e k d) Γ k d s;
           }
         where
           refers : (l : Lang) (τ u : Static l) (b : Term l) (k : List ℕ) (p : ℕ) → drop at w ≡ put (lam τ b) k → at < p → p < second
@@ -284,7 +144,7 @@ module _ (w ls : List ℕ) (at scope : ℕ) (row : code.Row) (R : row ≡ rowOf 
               (means-frame w ls2 ls′ p second t u (λ n g h. f .kept n (λ z. omega (arith, z))) m) in (
                 binds-static ml τ b w k at d,
                 inl (
-                  place ml (lam τ b) k d,
+                  shape-of (term ml) w at (lam τ b) k P d,
                   omega arith,
                   omega (arith, i, j),
                   subst (λ (n : ℕ). Means w ls′ (at + 1) second n u)
@@ -293,7 +153,7 @@ module _ (w ls : List ℕ) (at scope : ℕ) (row : code.Row) (R : row ≡ rowOf 
               )
           refers sc τ u b k p d i j m = tt
 
-          by : (l : Lang) (e : Term l) → Shaped l 3 e → Goal ls′ r l e
+          by : (l : Lang) (e : Term l) → Shaped l 3 e → Goal w ls at scope ls′ r l e
           by l e (node.a-lambda {t = τ} {b = b}) Γ k d s =
               let p = at + 1 + sizeStatic l τ in
               let g = good-part l w ls2 p (p + size b) (p + size b) (fault p (of l τ ∷ Γ) b) t second (infer (of l τ ∷ Γ) b) r1 T
@@ -304,7 +164,7 @@ module _ (w ls : List ℕ) (at scope : ℕ) (row : code.Row) (R : row ≡ rowOf 
                 at,
                 f .answer ∙ ap (Typed at) n,
                 subst (λ (i : ℕ). Refers l w ls′ at i at (functions l τ (g .static))) n
-                    (refers l τ (g .static) b k p d (omega arith) (omega (arith, starts S l (lam τ b) k d, lead-lam l τ, bounds-1)) m),
+                    (refers l τ (g .static) b k p d (omega arith) (omega (arith, starts R l (lam τ b) k d S, lead-lam l τ, bounds-1)) m),
               )
 
       pub a-boundary : {r : Inferred} → row .shape ≡ 9 → Crossed w ls2 (row .sort) at t second r → Infers w at scope ls ls2 r
@@ -314,22 +174,22 @@ module _ (w ls : List ℕ) (at scope : ℕ) (row : code.Row) (R : row ≡ rowOf 
             same = same-1;
             kept = kept-1;
             advances = passes-on at (length w) second r (omega (arith, S .least, bounds-1)) (bounds-1 .1) (f .passes);
-            is = λ l e Γ k d s. by l e (told _ h l e k d) Γ k d s;
+            is = λ l e Γ k d s. by l e (told R _ h l e k d) Γ k d s;
           }
         where
-          by : (l : Lang) (e : Term l) → Shaped l 9 e → Goal ls2 r l e
+          by : (l : Lang) (e : Term l) → Shaped l 9 e → Goal w ls at scope ls2 r l e
           by l e (node.an-ms τ a) Γ k d s =
               let p = at + 1 + sizeTy τ in
-              let y = first (λ z. omega (arith, z, h)) p (starts S ml (ms τ a) k d) sc a Γ k
+              let y = first (λ z. omega (arith, z, h)) p (starts R ml (ms τ a) k d S) sc a Γ k
               (past-tree type τ (at + 1) w _ (past-word at _ w _ d)) s in
               let g = good-part sc w ls2 p (p + size a) (p + size a) (fault p Γ a) t second (infer Γ a) r1 T y in
               let n : second ≡ at + suc (sizeTy τ + size a) = omega (arith, g .ends) in
               rw (g .typed)
               (subst (λ (i : ℕ). Answers ml w ls2 at i at i (some τ) r) n
-              (f .is ml τ tt at second (bounds-1 .1) (sort-told ml (ms τ a) k d) (lead-written ml (ms τ a) w k at τ d refl) tt))
+              (f .is ml τ tt at second (bounds-1 .1) (sort-told R ml (ms τ a) k d) (lead-written ml (ms τ a) w k at τ d refl) tt))
           by l e (node.an-sm τ a) Γ k d s =
               let p = at + 1 + sizeTy τ in
-              let y = first (λ z. omega (arith, z, h)) p (starts S sc (sm τ a) k d) ml a Γ k
+              let y = first (λ z. omega (arith, z, h)) p (starts R sc (sm τ a) k d S) ml a Γ k
               (past-tree type τ (at + 1) w _ (past-word at _ w _ d)) s in
               let g = good-part ml w ls2 p (p + size a) (p + size a) (fault p Γ a) t second (infer Γ a) r1 T y in
               let n : second ≡ at + suc (sizeTy τ + size a) = omega (arith, g .ends) in
@@ -337,7 +197,7 @@ module _ (w ls : List ℕ) (at scope : ℕ) (row : code.Row) (R : row ≡ rowOf 
               (g .refers) in
               rw (g .typed)
               (subst (λ (i : ℕ). Answers sc w ls2 at i at i (cond (sameType ml (g .static) τ) (some tt) none) r) n
-              (f .is sc τ (g .static) at second (bounds-1 .1) (sort-told sc (sm τ a) k d) (lead-written sc (sm τ a) w k at τ d refl) m))
+              (f .is sc τ (g .static) at second (bounds-1 .1) (sort-told R sc (sm τ a) k d) (lead-written sc (sm τ a) w k at τ d refl) m))
 
       pub an-operator-1 : {r : Inferred} → row .shape ≡ 4 → Concluded w ls2 row (getD w at 0) at t 0 0 second r → Infers w at scope ls ls2 r
       unfolding infer fault size put
@@ -346,20 +206,21 @@ module _ (w ls : List ℕ) (at scope : ℕ) (row : code.Row) (R : row ≡ rowOf 
             same = same-1;
             kept = kept-1;
             advances = passes-on at (length w) second r (omega (arith, S .least, bounds-1)) (bounds-1 .1) (f .passes);
-            is = λ l e Γ k d s. by l e (told _ h l e k d) Γ k d s;
+            is = λ l e Γ k d s. by l e (told R _ h l e k d) Γ k d s;
           }
         where
-          by : (l : Lang) (e : Term l) → Shaped l 4 e → Goal ls2 r l e
+          by : (l : Lang) (e : Term l) → Shaped l 4 e → Goal w ls at scope ls2 r l e
           by l e (node.one-part o a) Γ k d s =
               let p = at + 1 in
-              let y = first (λ z. omega (arith, z, h)) p (omega (arith, starts S l (op1 o a) k d)) l a Γ k (past-word at _ w _ d) s in
+              let y = first (λ z. omega (arith, z, h)) p (omega (arith, starts R l (op1 o a) k d S)) l a Γ k (past-word at _ w _ d) s in
               let g = good-part l w ls2 p (p + size a) (p + size a) (fault p Γ a) t second (infer Γ a) r1 T y in
               let n : second ≡ at + suc (size a) = omega (arith, g .ends) in
               let m = refers-later l w ls2 ls2 p (p + size a) at second t (g .static) (omega arith) (omega (arith, g .ends)) (λ i j. refl)
               (g .refers) in
               rw (g .typed)
               (subst (λ (i : ℕ). Answers l w ls2 at i at i (result1 o (g .static)) r) n
-              (f .one h l o (g .static) at second (bounds-1 .1) (sort-told l (op1 o a) k d) (word-told l (op1 o a) k d) (place l (op1 o a) k d) m))
+              (f .one h l o (g .static) at second (bounds-1 .1) (sort-told R l (op1 o a) k d) (word-told R l (op1 o a) k d)
+              (shape-of (term l) w at (op1 o a) k P d) m))
 
       -- The first of several parts, which is behind the node's word.
       first-good : (l : Lang) (a : Term l) (Γ : Lambdas) (k : List ℕ) → (row .shape ≡ 3 → ⊥) → start ≡ at + 1 → drop (at + 1) w ≡ put a k
@@ -383,20 +244,21 @@ module _ (w ls : List ℕ) (at scope : ℕ) (row : code.Row) (R : row ≡ rowOf 
             (J .is l b Γ k (subst (λ (i : ℕ). drop i w ≡ put b k) (sym q) d)
             (scope-later w ls ls2 at second scope Γ (omega (arith, S .least, bounds-1)) kept-1 s))
 
-        pub two-bad : {b : ℕ} → r2 ≡ Bad b → Branches (row .shape) → (row .shape ≡ 3 → ⊥) → (row .shape ≡ 9 → ⊥) → (row .shape ≡ 4 → ⊥)
+        pub two-bad : {b : ℕ} → r2 ≡ Bad b → (row .shape ≡ 3 → ⊥) → (row .shape ≡ 9 → ⊥) → (row .shape ≡ 4 → ⊥)
             → Infers w at scope ls ls3 r2
         unfolding infer fault size put
-        two-bad {b} z n n3 n9 n4 =
+        two-bad {b} z n3 n9 n4 =
             record {
               same = same-2;
               kept = kept-2;
               advances = advances-later at second (length w) r2 (omega (arith, S .least, bounds-1)) (J .advances);
-              is = λ l e Γ k d s. by l e (several n n3 n9 n4 l e k d) Γ k d s;
+              is = λ l e Γ k d s. by l e (several R (N .branches) n3 n9 n4 l e k d) Γ k d s;
             }
           where
-            by : (l : Lang) (e : Term l) → Several l e → Goal ls3 r2 l e
+            by : (l : Lang) (e : Term l) → Several l e → Goal w ls at scope ls3 r2 l e
             by l e (two o a c) Γ k d s =
-                let g = first-good l a Γ (put c k) (λ h. omega (arith, h, shape-told l (op2 o a c) k d)) (omega (arith, starts S l (op2 o a c) k d))
+                let g = first-good l a Γ (put c k) (λ h. omega (arith, h, shape-told R l (op2 o a c) k d))
+                (omega (arith, starts R l (op2 o a c) k d S))
                 (past-word at _ w _ d) s in
                 let p = at + 1 + size a in
                 rw (g .typed)
@@ -405,8 +267,8 @@ module _ (w ls : List ℕ) (at scope : ℕ) (row : code.Row) (R : row ≡ rowOf 
                 (λ u. result2 l o (g .static) u) (λ u. at) r2 b z
                 (next-part p (g .ends) l c Γ k (past-tree (term l) a (at + 1) w _ (past-word at _ w _ d)) s))
             by l i (three a c e) Γ k d s =
-                let g = first-good l a Γ (put c (put e k)) (λ h. omega (arith, h, shape-told l (if0 a c e) k d))
-                (omega (arith, starts S l (if0 a c e) k d)) (past-word at _ w _ d) s in
+                let g = first-good l a Γ (put c (put e k)) (λ h. omega (arith, h, shape-told R l (if0 a c e) k d))
+                (omega (arith, starts R l (if0 a c e) k d S)) (past-word at _ w _ d) s in
                 let p = at + 1 + size a in
                 rw (g .typed)
                 (bad-part l l w ls3 ls3 p (p + size c) (p + size c) at (at + suc (size a + size c + size e)) (at + suc (size a + size c + size e))
@@ -431,12 +293,12 @@ module _ (w ls : List ℕ) (at scope : ℕ) (row : code.Row) (R : row ≡ rowOf 
                 same = same-2;
                 kept = kept-2;
                 advances = passes-on at (length w) third r (omega (arith, S .least, bounds-1, bounds-2)) (bounds-2 .1) (f .passes);
-                is = λ l e Γ k d s. by l e (told _ h l e k d) Γ k d s;
+                is = λ l e Γ k d s. by l e (told R _ h l e k d) Γ k d s;
               }
             where
-              by : (l : Lang) (e : Term l) → Shaped l 5 e → Goal ls3 r l e
+              by : (l : Lang) (e : Term l) → Shaped l 5 e → Goal w ls at scope ls3 r l e
               by l e (node.two-parts o a c) Γ k d s =
-                  let g = first-good l a Γ (put c k) (λ z. omega (arith, z, h)) (omega (arith, starts S l (op2 o a c) k d))
+                  let g = first-good l a Γ (put c k) (λ z. omega (arith, z, h)) (omega (arith, starts R l (op2 o a c) k d S))
                   (past-word at _ w _ d) s in
                   let p = at + 1 + size a in
                   let j = second-good p (g .ends) l c Γ k (past-tree (term l) a (at + 1) w _ (past-word at _ w _ d)) s in
@@ -447,7 +309,7 @@ module _ (w ls : List ℕ) (at scope : ℕ) (row : code.Row) (R : row ≡ rowOf 
                   (j .refers) in
                   rw (g .typed, j .typed)
                   (subst (λ (i : ℕ). Answers l w ls3 at i at i (result2 l o (g .static) (j .static)) r) n
-                  (f .two h l o (g .static) (j .static) at third (bounds-2 .1) (sort-told l (op2 o a c) k d) (word-told l (op2 o a c) k d) m m′))
+                  (f .two h l o (g .static) (j .static) at third (bounds-2 .1) (sort-told R l (op2 o a c) k d) (word-told R l (op2 o a c) k d) m m′))
 
           -- And so is the third.
           module _ {ls4 : List ℕ} {r3 : Inferred} (K : Infers w third scope ls3 ls4 r3) where
@@ -464,21 +326,21 @@ module _ (w ls : List ℕ) (at scope : ℕ) (row : code.Row) (R : row ≡ rowOf 
                 (K .is l c Γ k (subst (λ (i : ℕ). drop i w ≡ put c k) (sym q) d)
                 (scope-later w ls ls3 at third scope Γ (omega (arith, S .least, bounds-1, bounds-2)) kept-2 s))
 
-            pub three-bad : {b : ℕ} → r3 ≡ Bad b → Branches (row .shape) → (row .shape ≡ 3 → ⊥) → (row .shape ≡ 9 → ⊥) → (row .shape ≡ 4 → ⊥)
+            pub three-bad : {b : ℕ} → r3 ≡ Bad b → (row .shape ≡ 3 → ⊥) → (row .shape ≡ 9 → ⊥) → (row .shape ≡ 4 → ⊥)
                 → (row .shape ≡ 5 → ⊥) → Infers w at scope ls ls4 r3
             unfolding infer fault size put
-            three-bad {b} z n n3 n9 n4 n5 =
+            three-bad {b} z n3 n9 n4 n5 =
                 record {
                   same = same-3;
                   kept = kept-3;
                   advances = advances-later at third (length w) r3 (omega (arith, S .least, bounds-1, bounds-2)) (K .advances);
-                  is = λ l e Γ k d s. by l e (choice n n3 n9 n4 n5 l e k d) Γ k d s;
+                  is = λ l e Γ k d s. by l e (choice R (N .branches) n3 n9 n4 n5 l e k d) Γ k d s;
                 }
               where
-                by : (l : Lang) (e : Term l) → Shaped l 6 e → Goal ls4 r3 l e
+                by : (l : Lang) (e : Term l) → Shaped l 6 e → Goal w ls at scope ls4 r3 l e
                 by l i (node.a-choice a c e) Γ k d s =
-                    let g = first-good l a Γ (put c (put e k)) (λ h. omega (arith, h, shape-told l (if0 a c e) k d))
-                    (omega (arith, starts S l (if0 a c e) k d)) (past-word at _ w _ d) s in
+                    let g = first-good l a Γ (put c (put e k)) (λ h. omega (arith, h, shape-told R l (if0 a c e) k d))
+                    (omega (arith, starts R l (if0 a c e) k d S)) (past-word at _ w _ d) s in
                     let p = at + 1 + size a in
                     let y = past-tree (term l) a (at + 1) w _ (past-word at _ w _ d) in
                     let j = second-good p (g .ends) l c Γ (put e k) y s in
@@ -489,24 +351,24 @@ module _ (w ls : List ℕ) (at scope : ℕ) (row : code.Row) (R : row ≡ rowOf 
                     (infer Γ e) (λ v. result3 l (g .static) (j .static) v) (λ v. at) r3 b z
                     (last-part p′ (j .ends) l e Γ k (past-tree (term l) c p w _ y) s))
 
-            pub a-choice : {v next : ℕ} → r3 ≡ Typed v next → {r : Inferred} → Branches (row .shape) → (row .shape ≡ 3 → ⊥) → (row .shape ≡ 9 → ⊥)
+            pub a-choice : {v next : ℕ} → r3 ≡ Typed v next → {r : Inferred} → (row .shape ≡ 3 → ⊥) → (row .shape ≡ 9 → ⊥)
                 → (row .shape ≡ 4 → ⊥) → (row .shape ≡ 5 → ⊥) → Concluded w ls4 row (getD w at 0) at t u v next r → Infers w at scope ls ls4 r
             unfolding infer fault size put
-            a-choice {v} {next} told {r} n n3 n9 n4 n5 f =
+            a-choice {v} {next} told {r} n3 n9 n4 n5 f =
                 record {
                   same = same-3;
                   kept = kept-3;
                   advances = passes-on at (length w) next r (omega (arith, S .least, bounds-1, bounds-2, bounds-3)) (bounds-3 .1) (f .passes);
-                  is = λ l e Γ k d s. by l e (choice n n3 n9 n4 n5 l e k d) Γ k d s;
+                  is = λ l e Γ k d s. by l e (choice R (N .branches) n3 n9 n4 n5 l e k d) Γ k d s;
                 }
               where
                 bounds-3 : (third < next) × (next ≤ length w)
                 bounds-3 = advanced third (length w) v next r3 told (K .advances)
 
-                by : (l : Lang) (e : Term l) → Shaped l 6 e → Goal ls4 r l e
+                by : (l : Lang) (e : Term l) → Shaped l 6 e → Goal w ls at scope ls4 r l e
                 by l i (node.a-choice a c e) Γ k d s =
-                    let g = first-good l a Γ (put c (put e k)) (λ h. omega (arith, h, shape-told l (if0 a c e) k d))
-                    (omega (arith, starts S l (if0 a c e) k d)) (past-word at _ w _ d) s in
+                    let g = first-good l a Γ (put c (put e k)) (λ h. omega (arith, h, shape-told R l (if0 a c e) k d))
+                    (omega (arith, starts R l (if0 a c e) k d S)) (past-word at _ w _ d) s in
                     let p = at + 1 + size a in
                     let y = past-tree (term l) a (at + 1) w _ (past-word at _ w _ d) in
                     let j = second-good p (g .ends) l c Γ (put e k) y s in
@@ -522,5 +384,5 @@ module _ (w ls : List ℕ) (at scope : ℕ) (row : code.Row) (R : row ≡ rowOf 
                     (i .refers) in
                     rw (g .typed, j .typed, i .typed)
                     (subst (λ (z : ℕ). Answers l w ls4 at z at z (result3 l (g .static) (j .static) (i .static)) r) ends
-                    (f .three (shape-told l (if0 a c e) k d) l (g .static) (j .static) (i .static) at next (bounds-3 .1)
-                    (sort-told l (if0 a c e) k d) m m′ m″))
+                    (f .three (shape-told R l (if0 a c e) k d) l (g .static) (j .static) (i .static) at next (bounds-3 .1)
+                    (sort-told R l (if0 a c e) k d) m m′ m″))

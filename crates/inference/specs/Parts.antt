@@ -44,10 +44,14 @@ pub record PartsStart (w : List ℕ) (sort shape at r : ℕ) : Type 0 where
 abbrev pub Branches : ℕ → Type 0
 Branches shape = (shape ≡ 1 → ⊥) × (shape ≡ 2 → ⊥) × (shape ≡ 7 → ⊥) × (shape ≡ 8 → ⊥)
 
--- Such a node: the row of its word, and where the first of those parts starts.
-pub record Node (w : List ℕ) (at : ℕ) (row : code.Row) (start : ℕ) : Type 0 where
+-- The row of the word at a place.
+pub record Read (w : List ℕ) (at : ℕ) (row : code.Row) : Type 0 where
   pub within : at < length w
   pub known : row ≡ rowOf (getD w at 0 % 256)
+
+-- Such a node: its row, and where the first of those parts starts.
+pub record Node (w : List ℕ) (at : ℕ) (row : code.Row) (start : ℕ) : Type 0 where
+  pub read : Read w at row
   pub starts : PartsStart w (row .sort) (row .shape) at start
   pub branches : Branches (row .shape)
 

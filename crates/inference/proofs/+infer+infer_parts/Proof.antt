@@ -1,4 +1,5 @@
--- `inference::infer` and `inference::infer_parts` meet their contracts: each way out is one law of Inferring. A term's measure is twice the number of
+-- `inference::infer` and `inference::infer_parts` meet their contracts: each way out is one law of Leaves or Inferring. A term's measure is twice
+-- the number of
 -- words left, and that of a node's parts one more than twice the number from the first of them on. Assumes nothing.
 use borrow.Author.Needs.{needs}
 use Prim.Native.Nat.{ℕ, _+_, _-_, _%_, _<_, _≤_}
@@ -14,8 +15,10 @@ use Rattle.nodes.specs.Table.{rowOf}
 use Rattle.nodes.proofs.Ways.{part-length}
 use Rattle.rules.specs.Variables.{Variable}
 use Rattle.inference.proofs.Scoping.{advanced}
-use Rattle.inference.proofs.Inferring.{run-out, first-word, a-variable, a-number, a-nil, a-wrong, one-bad, a-lambda, a-boundary}
-use Rattle.inference.proofs.Inferring.{an-operator-1, two-bad, an-operator-2, three-bad, a-choice}
+use Rattle.inference.specs.Parts.{Read}
+use Rattle.inference.proofs.Nodes.{first-word}
+use Rattle.inference.proofs.Leaves.{run-out, a-variable, a-number, a-nil, a-wrong}
+use Rattle.inference.proofs.Inferring.{one-bad, a-lambda, a-boundary, an-operator-1, two-bad, an-operator-2, three-bad, a-choice}
 use Rattle.inference.proofs.infer.Reads as infer
 use Rattle.inference.proofs.infer.Kinds as infer-kinds
 use Rattle.inference.proofs.+infer+infer_parts.Lts-infer as infer-lts
@@ -80,7 +83,7 @@ in-parts t = (
   operator-reads.Learnt,
 )
 
--- `infer`: where the row of the node's word is known, the word is there, and the row is that of it.
+-- `infer`: where the row of the node's word is known, the word is there.
 abbrev begun : {t : ℕ} → infer-lts.After-row-at (in-infer t) (infer-at t) infer.Post → infer-lts.Start (in-infer t) (infer-at t) infer.Post
 begun c = c .before .before .before .before .before .before
 
@@ -88,16 +91,17 @@ inside : {t : ℕ} (s : infer-lts.Start (in-infer t) (infer-at t) infer.Post) �
     → s .args .at < length (s .args .all .now)
 inside s n = omega (arith, length-drop (s .args .at) (s .args .all .now), ap length (s .pre .1 .1), pos-of-ne-zero n, s .pre .1 .3)
 
-there : {t : ℕ} (c : infer-lts.After-row-at (in-infer t) (infer-at t) infer.Post) → begun c .args .at < length (begun c .args .all .now)
-there c = inside (begun c) (c .before .before .if1 .left)
-
 word : {t : ℕ} (c : infer-lts.After-row-at (in-infer t) (infer-at t) infer.Post)
     → getD (begun c .args .term .now) 0 0 ≡ getD (begun c .args .all .now) (begun c .args .at) 0
 word c = let s = begun c in ap (λ (ws : List ℕ). getD ws 0 0) (s .pre .1 .1) ∙ first-word (s .args .all .now) (s .args .at)
 
-known : {t : ℕ} (c : infer-lts.After-row-at (in-infer t) (infer-at t) infer.Post)
-    → c .row-at .result ≡ rowOf (getD (begun c .args .all .now) (begun c .args .at) 0 % 256)
-known c = c .row-at .ensures ∙ ap (λ (x : ℕ). rowOf (x % 256)) (word c)
+read : {t : ℕ} (c : infer-lts.After-row-at (in-infer t) (infer-at t) infer.Post)
+    → Read (begun c .args .all .now) (begun c .args .at) (c .row-at .result)
+read c =
+    record {
+      within = inside (begun c) (c .before .before .if1 .left);
+      known = c .row-at .ensures ∙ ap (λ (x : ℕ). rowOf (x % 256)) (word c);
+    }
 
 infer-returns : (t : ℕ) → infer-lts.Need-returns (in-infer t) (infer-at t) infer.Post
 infer-returns t c =
@@ -111,7 +115,7 @@ infer-row-at-requires : (t : ℕ) → infer-lts.Need-row-at-requires (in-infer t
 infer-row-at-requires t c κs = search needs
 
 infer-variable-requires : (t : ℕ) → infer-lts.Need-variable-requires (in-infer t) (infer-at t) infer.Post
-infer-variable-requires t c κs = let k = c .before .before in (begun k .pre .1 .0, begun k .pre .1 .5, there k)
+infer-variable-requires t c κs = let k = c .before .before in (begun k .pre .1 .0, begun k .pre .1 .5, read k .within)
 
 infer-same-length : (t : ℕ) → infer-lts.Need-same-length (in-infer t) (infer-at t) infer.Post
 infer-same-length t c = search needs
@@ -120,27 +124,25 @@ infer-returns-2 : (t : ℕ) → infer-lts.Need-returns-2 (in-infer t) (infer-at 
 infer-returns-2 t c =
     let k = c .before .before .before in
     let s = begun k in
-    a-variable (s .args .all .now) (s .args .link .now) (s .args .at) (s .args .scope) (k .row-at .result) (known k) (s .pre .1 .2) (there k)
-    (s .pre .1 .4) (c .before .before .if2 .taken)
+    a-variable (read k) (s .args .link .now) (s .args .scope) (s .pre .1 .2) (c .before .before .if2 .taken)
     (subst (λ (x : ℕ). Variable (s .args .all .now) (s .args .link .now) (k .row-at .result .sort) (s .args .scope) x (s .args .at)
-    (c .variable .result)) (word k) (c .variable .ensures))
+    (c .variable .result))
+    (word k) (c .variable .ensures))
 
 infer-parts-start-requires : (t : ℕ) → infer-lts.Need-parts-start-requires (in-infer t) (infer-at t) infer.Post
-infer-parts-start-requires t c κs = let k = c .before in (begun k .pre .1 .0, there k)
+infer-parts-start-requires t c κs = let k = c .before in (begun k .pre .1 .0, read k .within)
 
 infer-returns-3 : (t : ℕ) → infer-lts.Need-returns-3 (in-infer t) (infer-at t) infer.Post
 infer-returns-3 t c =
     let k = c .before .before .before in
     let s = begun k in
-    a-number (s .args .all .now) (s .args .link .now) (s .args .at) (s .args .scope) (k .row-at .result) (known k) (s .pre .1 .2) (there k)
-    (s .pre .1 .4) (c .before .parts-start .ensures) (c .if3 .taken)
+    a-number (read k) (s .args .link .now) (s .args .scope) (s .pre .1 .2) (c .before .parts-start .ensures) (c .if3 .taken)
 
 infer-returns-4 : (t : ℕ) → infer-lts.Need-returns-4 (in-infer t) (infer-at t) infer.Post
 infer-returns-4 t c =
     let k = c .before .before .before .before in
     let s = begun k in
-    a-nil (s .args .all .now) (s .args .link .now) (s .args .at) (s .args .scope) (k .row-at .result) (known k) (s .pre .1 .2) (there k)
-    (s .pre .1 .4) (c .before .before .parts-start .ensures) (c .if4 .taken)
+    a-nil (read k) (s .args .link .now) (s .args .scope) (s .pre .1 .2) (c .before .before .parts-start .ensures) (c .if4 .taken)
 
 infer-add-t17 : (t : ℕ) → infer-lts.Need-add-t17 (in-infer t) (infer-at t) infer.Post
 infer-add-t17 t c = search needs
@@ -149,23 +151,21 @@ infer-returns-5 : (t : ℕ) → infer-lts.Need-returns-5 (in-infer t) (infer-at 
 infer-returns-5 t c =
     let k = c .before .before .before .before .before in
     let s = begun k in
-    a-wrong (s .args .all .now) (s .args .link .now) (s .args .at) (s .args .scope) (k .row-at .result) (known k) (s .pre .1 .2) (there k)
-    (s .pre .1 .4) (c .before .before .before .parts-start .ensures) (c .if5 .taken)
+    a-wrong (read k) (s .args .link .now) (s .args .scope) (s .pre .1 .2) (c .before .before .before .parts-start .ensures) (c .if5 .taken)
 
 infer-infer-parts-requires : (t : ℕ) → infer-lts.Need-infer-parts-requires (in-infer t) (infer-at t) infer.Post
 infer-infer-parts-requires t c κs =
     let k = c .before .before .before .before .before .before in
     let s = begun k in
     let p = c .before .before .before .before .parts-start .ensures in (
-      omega (arith, p .least, p .most, there k, s .pre .0, ap length (s .pre .1 .1), length-drop (s .args .at) (s .args .all .now)),
+      omega (arith, p .least, p .most, read k .within, s .pre .0, ap length (s .pre .1 .1), length-drop (s .args .at) (s .args .all .now)),
       (
         s .pre .1 .0,
         s .pre .1 .2,
         s .pre .1 .4,
         s .pre .1 .5,
         record {
-          within = there k;
-          known = known k;
+          read = read k;
           starts = p;
           branches = (
             c .before .before .before .before .before .if2 .left,
@@ -237,7 +237,7 @@ module _ {t : ℕ} where
       (second o .infer2 .result) (o .before .two .given .1) (second o .infer2 .ensures .advances)
 
 parts-scope-within-requires : (t : ℕ) → parts-lts.Need-scope-within-requires (in-parts t) (parts-at t) parts.Post
-parts-scope-within-requires t c κs = let q = c .before .before .before .pre .1 in omega (arith, q .4 .within, q .3)
+parts-scope-within-requires t c κs = let q = c .before .before .before .pre .1 in omega (arith, q .4 .read .within, q .3)
 
 parts-mul-infer : (t : ℕ) → parts-lts.Need-mul-infer (in-parts t) (parts-at t) parts.Post
 parts-mul-infer t c = search needs
@@ -274,18 +274,14 @@ parts-returns : (t : ℕ) → parts-lts.Need-returns (in-parts t) (parts-at t) p
 parts-returns t c =
     let f = c .before .before .before .before in
     let e = enters f in
-    let s = begins e in
-    let a = s .args in
-    let q = s .pre .1 in
-    let n = q .4 in
-    one-bad (a .all .now) (a .link .now) (a .at) (a .scope) (a .row) (n .known) (q .1) (n .within) (q .2) (n .starts)
-    (e .scope-within .ensures) (f .infer .ensures) (c .enum-told .given .1) (n .branches)
+    let q = begins e .pre .1 in
+    one-bad (q .4) (q .1) (q .2) (e .scope-within .ensures) (f .infer .ensures) (c .enum-told .given .1)
 
 parts-function-requires : (t : ℕ) → parts-lts.Need-function-requires (in-parts t) (parts-at t) parts.Post
 parts-function-requires t c κs =
     let f = first (c .before .before .before) in
     let q = begins (enters f) .pre .1 in
-    omega (arith, q .4 .within, linked f ∙ q .3)
+    omega (arith, q .4 .read .within, linked f ∙ q .3)
 
 parts-same-length-2 : (t : ℕ) → parts-lts.Need-same-length-2 (in-parts t) (parts-at t) parts.Post
 parts-same-length-2 t c = search needs
@@ -295,19 +291,15 @@ parts-returns-2 t c =
     let o = c .before .before .before .before .before .before in
     let f = first o in
     let e = enters f in
-    let s = begins e in
-    let a = s .args in
-    let q = s .pre .1 in
-    let n = q .4 in
-    a-lambda (a .all .now) (a .link .now) (a .at) (a .scope) (a .row) (n .known) (q .1) (n .within) (q .2) (n .starts)
-    (e .scope-within .ensures) (f .infer .ensures) (o .before .one .given .1) (c .before .before .before .before .if1 .taken)
-    (c .before .before .function .ensures)
+    let q = begins e .pre .1 in
+    a-lambda (q .4) (q .1) (q .2) (e .scope-within .ensures) (f .infer .ensures) (o .before .one .given .1)
+    (c .before .before .before .before .if1 .taken) (c .before .before .function .ensures)
 
 parts-crossed-requires : (t : ℕ) → parts-lts.Need-crossed-requires (in-parts t) (parts-at t) parts.Post
 parts-crossed-requires t c κs =
     let f = first (c .before .before .before .before .before) in
     let q = begins (enters f) .pre .1 in
-    (q .0, linked f ∙ q .3, q .4 .within)
+    (q .0, linked f ∙ q .3, q .4 .read .within)
 
 parts-same-length-3 : (t : ℕ) → parts-lts.Need-same-length-3 (in-parts t) (parts-at t) parts.Post
 parts-same-length-3 t c = search needs
@@ -317,18 +309,15 @@ parts-returns-3 t c =
     let o = c .before .before .before .before .before .before in
     let f = first o in
     let e = enters f in
-    let s = begins e in
-    let a = s .args in
-    let q = s .pre .1 in
-    let n = q .4 in
-    a-boundary (a .all .now) (a .link .now) (a .at) (a .scope) (a .row) (n .known) (q .1) (n .within) (q .2) (n .starts)
-    (e .scope-within .ensures) (f .infer .ensures) (o .before .one .given .1) (c .before .before .if2 .taken) (c .crossed .ensures)
+    let q = begins e .pre .1 in
+    a-boundary (q .4) (q .1) (q .2) (e .scope-within .ensures) (f .infer .ensures) (o .before .one .given .1)
+    (c .before .before .if2 .taken) (c .crossed .ensures)
 
 parts-operator-requires : (t : ℕ) → parts-lts.Need-operator-requires (in-parts t) (parts-at t) parts.Post
 parts-operator-requires t c κs =
     let f = first (c .before .before .before .before .before .before .before) in
     let q = begins (enters f) .pre .1 in
-    (q .0, linked f ∙ q .3, q .4 .within)
+    (q .0, linked f ∙ q .3, q .4 .read .within)
 
 parts-same-length-4 : (t : ℕ) → parts-lts.Need-same-length-4 (in-parts t) (parts-at t) parts.Post
 parts-same-length-4 t c = search needs
@@ -338,12 +327,9 @@ parts-returns-4 t c =
     let o = c .before .before .before .before .before .before .before .before in
     let f = first o in
     let e = enters f in
-    let s = begins e in
-    let a = s .args in
-    let q = s .pre .1 in
-    let n = q .4 in
-    an-operator-1 (a .all .now) (a .link .now) (a .at) (a .scope) (a .row) (n .known) (q .1) (n .within) (q .2) (n .starts)
-    (e .scope-within .ensures) (f .infer .ensures) (o .before .one .given .1) (c .before .before .if3 .taken) (c .operator .ensures)
+    let q = begins e .pre .1 in
+    an-operator-1 (q .4) (q .1) (q .2) (e .scope-within .ensures) (f .infer .ensures) (o .before .one .given .1)
+    (c .before .before .if3 .taken) (c .operator .ensures)
 
 parts-mul-infer-2 : (t : ℕ) → parts-lts.Need-mul-infer-2 (in-parts t) (parts-at t) parts.Post
 parts-mul-infer-2 t c = let o = typed c in record { fits = omega (arith, past-one o, begins (enters (first o)) .pre .1 .2) }
@@ -385,12 +371,9 @@ parts-returns-5 t c =
     let o = typed h in
     let f = first o in
     let e = enters f in
-    let s = begins e in
-    let a = s .args in
-    let q = s .pre .1 in
-    let n = q .4 in
-    two-bad (a .all .now) (a .link .now) (a .at) (a .scope) (a .row) (n .known) (q .1) (n .within) (q .2) (n .starts)
-    (e .scope-within .ensures) (f .infer .ensures) (o .before .one .given .1) (g .infer2 .ensures) (c .enum-told2 .given .1) (n .branches)
+    let q = begins e .pre .1 in
+    two-bad (q .4) (q .1) (q .2) (e .scope-within .ensures) (f .infer .ensures) (o .before .one .given .1)
+    (g .infer2 .ensures) (c .enum-told2 .given .1)
     (h .before .before .before .before .if1 .left) (h .before .before .if2 .left) (h .if3 .left)
 
 parts-operator-requires-2 : (t : ℕ) → parts-lts.Need-operator-requires-2 (in-parts t) (parts-at t) parts.Post
@@ -398,7 +381,7 @@ parts-operator-requires-2 t c κs =
     let g = second (c .before .before .before) in
     let f = first (typed (goes-on g)) in
     let q = begins (enters f) .pre .1 in
-    (q .0, linked-2 g ∙ q .3, q .4 .within)
+    (q .0, linked-2 g ∙ q .3, q .4 .read .within)
 
 parts-same-length-6 : (t : ℕ) → parts-lts.Need-same-length-6 (in-parts t) (parts-at t) parts.Post
 parts-same-length-6 t c = linked-2 (second (c .before .before .before .before))
@@ -410,12 +393,9 @@ parts-returns-6 t c =
     let o = typed (goes-on g) in
     let f = first o in
     let e = enters f in
-    let s = begins e in
-    let a = s .args in
-    let q = s .pre .1 in
-    let n = q .4 in
-    an-operator-2 (a .all .now) (a .link .now) (a .at) (a .scope) (a .row) (n .known) (q .1) (n .within) (q .2) (n .starts)
-    (e .scope-within .ensures) (f .infer .ensures) (o .before .one .given .1) (g .infer2 .ensures) (k .before .two .given .1)
+    let q = begins e .pre .1 in
+    an-operator-2 (q .4) (q .1) (q .2) (e .scope-within .ensures) (f .infer .ensures) (o .before .one .given .1)
+    (g .infer2 .ensures) (k .before .two .given .1)
     (c .before .before .if4 .taken) (c .operator2 .ensures)
 
 parts-mul-infer-3 : (t : ℕ) → parts-lts.Need-mul-infer-3 (in-parts t) (parts-at t) parts.Post
@@ -464,21 +444,18 @@ parts-returns-7 t c =
     let o = typed h in
     let f = first o in
     let e = enters f in
-    let s = begins e in
-    let a = s .args in
-    let q = s .pre .1 in
-    let n = q .4 in
-    three-bad (a .all .now) (a .link .now) (a .at) (a .scope) (a .row) (n .known) (q .1) (n .within) (q .2) (n .starts)
-    (e .scope-within .ensures) (f .infer .ensures) (o .before .one .given .1) (g .infer2 .ensures) (k .before .two .given .1)
+    let q = begins e .pre .1 in
+    three-bad (q .4) (q .1) (q .2) (e .scope-within .ensures) (f .infer .ensures) (o .before .one .given .1)
+    (g .infer2 .ensures) (k .before .two .given .1)
     (i .infer3 .ensures) (c .enum-told3 .given .1)
-    (n .branches) (h .before .before .before .before .if1 .left) (h .before .before .if2 .left) (h .if3 .left)
+    (h .before .before .before .before .if1 .left) (h .before .before .if2 .left) (h .if3 .left)
     (i .before .before .before .if4 .left)
 
 parts-operator-requires-3 : (t : ℕ) → parts-lts.Need-operator-requires-3 (in-parts t) (parts-at t) parts.Post
 parts-operator-requires-3 t c κs =
     let i = c .before .before .before .before .before .before in
     let q = begins (enters (first (typed (goes-on (second (typed-2 i)))))) .pre .1 in
-    (q .0, linked-3 i ∙ q .3, q .4 .within)
+    (q .0, linked-3 i ∙ q .3, q .4 .read .within)
 
 parts-same-length-8 : (t : ℕ) → parts-lts.Need-same-length-8 (in-parts t) (parts-at t) parts.Post
 parts-same-length-8 t c = linked-3 (c .before .before .before .before .before .before .before)
@@ -492,14 +469,11 @@ parts-returns-8 t c =
     let o = typed h in
     let f = first o in
     let e = enters f in
-    let s = begins e in
-    let a = s .args in
-    let q = s .pre .1 in
-    let n = q .4 in
-    a-choice (a .all .now) (a .link .now) (a .at) (a .scope) (a .row) (n .known) (q .1) (n .within) (q .2) (n .starts)
-    (e .scope-within .ensures) (f .infer .ensures) (o .before .one .given .1) (g .infer2 .ensures) (k .before .two .given .1)
+    let q = begins e .pre .1 in
+    a-choice (q .4) (q .1) (q .2) (e .scope-within .ensures) (f .infer .ensures) (o .before .one .given .1)
+    (g .infer2 .ensures) (k .before .two .given .1)
     (i .infer3 .ensures) (c .before .before .before .three .given .1)
-    (n .branches) (h .before .before .before .before .if1 .left) (h .before .before .if2 .left) (h .if3 .left)
+    (h .before .before .before .before .if1 .left) (h .before .before .if2 .left) (h .if3 .left)
     (i .before .before .before .if4 .left) (c .operator3 .ensures)
 
 pub +infer+infer-parts-spec : {M : Type 1} → statement M
