@@ -41,7 +41,8 @@ module _ (ws : List ℕ) (form-number x y end : ℕ) (form-is : form-number ≡ 
   unfolding contract third put
   scheme-told ml a b c k q w h = absurd (omega (arith, w, ap (λ (v : List ℕ). getD v 0 0) q))
   scheme-told sc a b c k q w h =
-      subst (Tells ws (Part y end)) (sym (no-number (third sc c) _ (test-form sc a b c k q form-number refl) h)) (sym (third-stands sc a b c k q .own))
+      subst (Tells ws (Part y end)) (sym (no-number (third sc c) _ (test-form sc a b c k q form-number refl) h))
+      (sym (third-stands sc a b c k q .own))
 
   pub if-scheme : getD ws 0 0 ≡ 38 → (form-number ≡ 1 → ⊥) → OfIf ws (Part y end)
   if-scheme w h = record { of = λ l a b c k q. scheme-told l a b c k q w h }

@@ -1,5 +1,5 @@
 -- The ways out of choosing a rule for ms and sm, by the type. Assumes nothing.
-use Prim.Native.Nat.{ℕ, _+_, _-_, _/_, _<_}
+use Prim.Native.Nat.{ℕ, _+_, _/_, _<_}
 use mathlib.Core.Bool.{Bool, true, false}
 use mathlib.Core.List.{List, [], _∷_, _++_}
 use mathlib.Core.Path.{_≡_, refl, sym, ap, _∙_, subst}
@@ -7,8 +7,8 @@ use lib.Dec.{T}
 use lib.ListN.{getD, drop}
 use lib.Seq.{drop-drop}
 use native.Mathlib.Omega.{arith}
-use Rattle.calculus.specs.Trees.{Ty, N, L, list, _to_, Lang, ml, sc, Term, num, wrong, ms, sm, app}
-use Rattle.calculus.specs.Words.{word, put, putTy, words, size, sizeTy}
+use Rattle.calculus.specs.Trees.{Ty, N, L, _to_, Lang, ml, sc, Term, wrong}
+use Rattle.calculus.specs.Words.{word, put, putTy, size, sizeTy}
 use Rattle.calculus.specs.Kinds.{type, term}
 use Rattle.calculus.specs.Reduction.{form, becomes, nothing, onNumber, onLump, toML, toScheme}
 use Rattle.calculus.proofs.Sizes.{putTy-append, put-append}
@@ -62,7 +62,8 @@ module _ (ws : List ℕ) (form-number value end : ℕ) (p : Value ws form-number
       → Tells ws (refusedRule (isScheme l) 1 value) (converted l N v)
   unfolding toML toScheme
   number-amiss ml v k q h =
-      subst (Tells ws (refusedRule false 1 value)) (sym (no-number (becomes (wrong 1 N)) _ (value-form sc N v k q form-number refl) h)) (refused-told sc N v k 1 q)
+      subst (Tells ws (refusedRule false 1 value)) (sym (no-number (becomes (wrong 1 N)) _ (value-form sc N v k q form-number refl) h))
+      (refused-told sc N v k 1 q)
   number-amiss sc v k q h = subst (Tells ws Stuck) (sym (no-number nothing _ (value-form ml N v k q form-number refl) h)) refl
 
   pub number-other : (scheme : Bool) → (form-number ≡ 1 → ⊥) → AtType ws scheme (refusedRule scheme 1 value) N

@@ -1,13 +1,13 @@
 -- The ways out of choosing a rule for ms and sm at the type of a function, and at whichever type it is. Assumes nothing.
-use Prim.Native.Nat.{ℕ, _+_, _-_, _<_}
+use Prim.Native.Nat.{ℕ, _+_, _<_}
 use mathlib.Core.Bool.{Bool, true, false}
 use mathlib.Core.List.{List, [], _∷_, _++_}
 use mathlib.Core.Path.{_≡_, refl, sym, ap, _∙_, subst}
 use lib.Dec.{T, eqb}
 use lib.ListN.{getD, drop}
 use native.Mathlib.Omega.{arith}
-use Rattle.calculus.specs.Trees.{Ty, N, L, list, _to_, Lang, ml, sc, Term, lam, wrong, ms, sm, app}
-use Rattle.calculus.specs.Words.{word, put, putTy, size, sizeTy}
+use Rattle.calculus.specs.Trees.{Ty, N, L, list, _to_, Lang, ml, sc, Term, wrong}
+use Rattle.calculus.specs.Words.{put, putTy, sizeTy}
 use Rattle.calculus.specs.Kinds.{type, term}
 use Rattle.calculus.specs.Reduction.{form, becomes, nothing, onLambda, toML, toScheme}
 use Rattle.calculus.proofs.Sizes.{putTy-append}
@@ -30,7 +30,8 @@ module _ (ws : List ℕ) (form-number value end : ℕ) (p : Value ws form-number
       → Tells ws (refusedRule (isScheme l) 2 value) (converted l (t to u) v)
   unfolding toML toScheme
   function-amiss ml t u v k q h =
-      subst (Tells ws (refusedRule false 2 value)) (sym (no-lambda (becomes (wrong 2 (t to u))) _ (value-form ws form-number value end p sc (t to u) v k q form-number refl) h))
+      subst (Tells ws (refusedRule false 2 value))
+      (sym (no-lambda (becomes (wrong 2 (t to u))) _ (value-form ws form-number value end p sc (t to u) v k q form-number refl) h))
       (refused-told ws form-number value end p sc (t to u) v k 2 q)
   function-amiss sc t u v k q h =
       subst (Tells ws Stuck) (sym (no-lambda nothing _ (value-form ws form-number value end p ml (t to u) v k q form-number refl) h)) refl
@@ -68,7 +69,11 @@ module _ (ws : List ℕ) (form-number value end : ℕ) (p : Value ws form-number
 
       pub function-ml : AtFunction ws false (IntoML second value end)
       function-ml =
-          record { of = λ t u. record { of = λ l v k q s. function-in-ml l t u v k q s (value-form ws form-number value end p (from l) (t to u) v k q 2 h) } }
+          record {
+            of = λ t u. record {
+              of = λ l v k q s. function-in-ml l t u v k q s (value-form ws form-number value end p (from l) (t to u) v k q 2 h);
+            };
+          }
 
       function-in-scheme : (l : Lang) (t u : Ty) (v : Term (from l)) (k : List ℕ) → drop 1 ws ≡ putTy (t to u) (put v k) → true ≡ isScheme l
           → Formed (from l) 2 v
@@ -81,7 +86,11 @@ module _ (ws : List ℕ) (form-number value end : ℕ) (p : Value ws form-number
 
       pub function-scheme : AtFunction ws true (IntoScheme second value end)
       function-scheme =
-          record { of = λ t u. record { of = λ l v k q s. function-in-scheme l t u v k q s (value-form ws form-number value end p (from l) (t to u) v k q 2 h) } }
+          record {
+            of = λ t u. record {
+              of = λ l v k q s. function-in-scheme l t u v k q s (value-form ws form-number value end p (from l) (t to u) v k q 2 h);
+            };
+          }
 
 -- The type by its first word.
 data TypeBy : ℕ → Ty → Type 0 where
@@ -104,10 +113,12 @@ sides ws r g =
     record {
       ms-told = λ t v k q.
           let e : drop 1 ws ≡ putTy t (put v k) = ap (drop 1) q in
-          g t (subst (λ (n : ℕ). TypeBy n t) (sym (ap (λ (w : List ℕ). getD w 0 0) e)) (type-by t (put v k))) .of ml v k e (ap (λ (w : List ℕ). eqb (getD w 0 0) 45) q);
+          g t (subst (λ (n : ℕ). TypeBy n t) (sym (ap (λ (w : List ℕ). getD w 0 0) e)) (type-by t (put v k))) .of ml v k e
+          (ap (λ (w : List ℕ). eqb (getD w 0 0) 45) q);
       sm-told = λ t v k q.
           let e : drop 1 ws ≡ putTy t (put v k) = ap (drop 1) q in
-          g t (subst (λ (n : ℕ). TypeBy n t) (sym (ap (λ (w : List ℕ). getD w 0 0) e)) (type-by t (put v k))) .of sc v k e (ap (λ (w : List ℕ). eqb (getD w 0 0) 45) q);
+          g t (subst (λ (n : ℕ). TypeBy n t) (sym (ap (λ (w : List ℕ). getD w 0 0) e)) (type-by t (put v k))) .of sc v k e
+          (ap (λ (w : List ℕ). eqb (getD w 0 0) 45) q);
     }
 
 module _ (ws : List ℕ) (r : Rule) (n : ℕ) (n-is : n ≡ getD (drop 1 ws) 0 0) where
@@ -171,4 +182,7 @@ module _ (ws : List ℕ) (value : ℕ) (value-is : value ≡ 1 + span (drop 1 ws
   pub boundary-empty : (end : ℕ) → end ≡ value + span (drop value ws) 1 → end < value + 1 → OfBoundary ws Stuck
   unfolding put
   boundary-empty end e h =
-      record { ms-told = λ t v k q. absurd (no-value sc t v k end e (ap (drop 1) q) h); sm-told = λ t v k q. absurd (no-value ml t v k end e (ap (drop 1) q) h) }
+      record {
+        ms-told = λ t v k q. absurd (no-value sc t v k end e (ap (drop 1) q) h);
+        sm-told = λ t v k q. absurd (no-value ml t v k end e (ap (drop 1) q) h);
+      }

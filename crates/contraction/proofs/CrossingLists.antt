@@ -1,5 +1,5 @@
 -- The ways out of choosing a rule for ms and sm at the type of a list, and of a function. Assumes nothing.
-use Prim.Native.Nat.{ℕ, _+_, _-_, _<_}
+use Prim.Native.Nat.{ℕ, _+_, _<_}
 use mathlib.Core.Bool.{Bool, true, false}
 use mathlib.Core.List.{List, _∷_}
 use mathlib.Core.Path.{_≡_, refl, sym, ap, _∙_, subst}
@@ -7,8 +7,8 @@ use lib.Dec.{T}
 use lib.ListN.{drop}
 use lib.Seq.{drop-drop}
 use native.Mathlib.Omega.{arith}
-use Rattle.calculus.specs.Trees.{Ty, list, _to_, Lang, ml, sc, pair, Term, op2, nil, wrong, ms, sm}
-use Rattle.calculus.specs.Words.{word, put, putTy, size, sizeTy}
+use Rattle.calculus.specs.Trees.{Ty, list, _to_, Lang, ml, sc, pair, Term, op2, wrong}
+use Rattle.calculus.specs.Words.{put, putTy, size, sizeTy}
 use Rattle.calculus.specs.Kinds.{type, term}
 use Rattle.calculus.specs.Reduction.{form, becomes, nothing, onList, toML, toScheme}
 use Rattle.writing.specs.Spans.{span}
@@ -26,14 +26,16 @@ module _ (ws : List ℕ) (form-number value end : ℕ) (p : Value ws form-number
   element : (l : Lang) (t : Ty) (v : Term l) (k : List ℕ) → drop 1 ws ≡ putTy (list t) (put v k) → Stands type t (put v k) ws 2 value
   unfolding putTy sizeTy
   element l t v k q =
-      sized type t (put v k) ws 2 value (inner ws form-number value end p 3 (putTy t (put v k)) q) (omega (arith, type-stands ws form-number value end p l (list t) v k q .end))
+      sized type t (put v k) ws 2 value (inner ws form-number value end p 3 (putTy t (put v k)) q)
+      (omega (arith, type-stands ws form-number value end p l (list t) v k q .end))
 
   list-amiss : (l : Lang) (t : Ty) (v : Term (from l)) (k : List ℕ) → drop 1 ws ≡ putTy (list t) (put v k) → (form-number ≡ 3 → ⊥)
       → (form-number ≡ 4 → ⊥)
       → Tells ws (refusedRule (isScheme l) 3 value) (converted l (list t) v)
   unfolding toML toScheme
   list-amiss ml t v k q h g =
-      subst (Tells ws (refusedRule false 3 value)) (sym (no-list (becomes (wrong 3 (list t))) _ _ (value-form ws form-number value end p sc (list t) v k q form-number refl) h g))
+      subst (Tells ws (refusedRule false 3 value))
+      (sym (no-list (becomes (wrong 3 (list t))) _ _ (value-form ws form-number value end p sc (list t) v k q form-number refl) h g))
       (refused-told ws form-number value end p sc (list t) v k 3 q)
   list-amiss sc t v k q h g =
       subst (Tells ws Stuck) (sym (no-list nothing _ _ (value-form ws form-number value end p ml (list t) v k q form-number refl) h g)) refl
@@ -65,7 +67,8 @@ module _ (ws : List ℕ) (form-number value end : ℕ) (p : Value ws form-number
         → Stands (term l) a (put b k) ws (value + 1) tail
     unfolding put
     head-stands l t a b k q =
-        stands (term l) a (put b k) ws (value + 1) tail (sym (drop-drop 1 value ws) ∙ ap (drop 1) (type-stands ws form-number value end p l (list t) (op2 pair a b) k q .after)) tail-is
+        stands (term l) a (put b k) ws (value + 1) tail
+        (sym (drop-drop 1 value ws) ∙ ap (drop 1) (type-stands ws form-number value end p l (list t) (op2 pair a b) k q .after)) tail-is
 
     tail-stands : (l : Lang) (t : Ty) (a b : Term l) (k : List ℕ) → drop 1 ws ≡ putTy (list t) (put (op2 pair a b) k)
         → Stands (term l) b k ws tail end
@@ -79,14 +82,23 @@ module _ (ws : List ℕ) (form-number value end : ℕ) (p : Value ws form-number
 
     pub pair-absurd : (scheme : Bool) → end < tail → AtList ws scheme Stuck
     pair-absurd scheme g =
-        record { of = λ t. record { of = λ l v k q s. absurd (pair-order (from l) t v k q g (value-form ws form-number value end p (from l) (list t) v k q 4 h)) } }
+        record {
+          of = λ t. record {
+            of = λ l v k q s. absurd (pair-order (from l) t v k q g (value-form ws form-number value end p (from l) (list t) v k q 4 h));
+          };
+        }
 
     pair-in-ml : (l : Lang) (t : Ty) (v : Term (from l)) (k : List ℕ) → drop 1 ws ≡ putTy (list t) (put v k) → false ≡ isScheme l
         → Formed (from l) 4 v
         → Tells ws (Items 25 30 value tail end) (converted l (list t) v)
     unfolding toML onList form put putTy
     pair-in-ml ml t v k q s (is-pair a b) =
-        rw (element sc t v k q .own, type-stands ws form-number value end p sc (list t) v k q .own, head-stands sc t a b k q .own, tail-stands sc t a b k q .own)
+        rw (
+          element sc t v k q .own,
+          type-stands ws form-number value end p sc (list t) v k q .own,
+          head-stands sc t a b k q .own,
+          tail-stands sc t a b k q .own,
+        )
         (items-words 25 30 sc t a b)
     pair-in-ml sc t v k q s f = absurd (subst T (sym s) tt)
 
@@ -100,9 +112,18 @@ module _ (ws : List ℕ) (form-number value end : ℕ) (p : Value ws form-number
     unfolding toScheme onList form put putTy
     pair-in-scheme ml t v k q s f = absurd (subst T s tt)
     pair-in-scheme sc t v k q s (is-pair a b) =
-        rw (element ml t v k q .own, type-stands ws form-number value end p ml (list t) v k q .own, head-stands ml t a b k q .own, tail-stands ml t a b k q .own)
+        rw (
+          element ml t v k q .own,
+          type-stands ws form-number value end p ml (list t) v k q .own,
+          head-stands ml t a b k q .own,
+          tail-stands ml t a b k q .own,
+        )
         (items-words 40 45 ml t a b)
 
     pub pair-scheme : AtList ws true (Items 40 45 value tail end)
     pair-scheme =
-        record { of = λ t. record { of = λ l v k q s. pair-in-scheme l t v k q s (value-form ws form-number value end p (from l) (list t) v k q 4 h) } }
+        record {
+          of = λ t. record {
+            of = λ l v k q s. pair-in-scheme l t v k q s (value-form ws form-number value end p (from l) (list t) v k q 4 h);
+          };
+        }

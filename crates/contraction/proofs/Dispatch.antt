@@ -5,12 +5,13 @@ use mathlib.Core.Path.{_≡_, refl, sym, ap, _∙_, subst}
 use lib.ListN.{length, getD, take, drop, length-take, length-drop}
 use borrow.Rule.Slice.PartAt.{part-to-end}
 use native.Mathlib.Omega.{arith}
-use Rattle.calculus.specs.Trees.{Lang, ml, sc, Term, wrong, ms, sm}
+use Rattle.calculus.specs.Trees.{Lang, ml, sc, Term}
 use Rattle.calculus.specs.Words.{word, by, put, words}
 use Rattle.calculus.specs.Kinds.{term}
-use Rattle.calculus.specs.Reduction.{contract, nothing}
+use Rattle.calculus.specs.Reduction.{contract}
 use Rattle.calculus.proofs.Sizes.{tree-length}
 use Rattle.nodes.specs.Table.{rowOf}
+use Rattle.nodes.proofs.Terms.{Shaped, a-variable, a-number, a-lambda, one-part, two-parts, a-choice, a-nil, a-wrong, an-ms, an-sm, by-shape}
 use Rattle.writing.specs.Wrote.{Wrote}
 use Rattle.writing.specs.Substituted as sub
 use Rattle.writing.proofs.Stores.{wrote-as}
@@ -18,7 +19,7 @@ use Rattle.contraction.specs.declared.rules.Rule.{Rule}
 use Rattle.contraction.specs.declared.rules.Rule.the-variants.{Stuck, Raised, Substituted}
 use Rattle.contraction.specs.Told.{Gives, Tells, stretch}
 use Rattle.contraction.specs.Chosen.{OfOne, OfTwo, OfIf, OfBoundary, OfNode, Writes}
-use Rattle.contraction.proofs.Views.{Shaped, a-variable, a-number, a-lambda, one-part, two-parts, a-choice, a-nil, a-wrong, an-ms, an-sm, by-shape, size-some}
+use Rattle.contraction.proofs.Views.{size-some}
 
 pub node-none : (ws : List ℕ) → length ws < 1 → OfNode ws Stuck
 node-none ws h = record { of = λ l e k q. absurd (omega (arith, h, ap length q, tree-length (term l) e k, size-some l e)) }

@@ -7,7 +7,8 @@ use lib.Dec.{T, eqb, leb}
 use lib.ListN.{getD, drop}
 use lib.Seq.{drop-drop}
 use native.Mathlib.Omega.{arith}
-use Rattle.calculus.specs.Trees.{Ty, Lang, ml, sc, Test, isFun, isList, isNull, isNum, Op1, head, tail, fixpoint, empty, testing, pair, Term, lam, op1, op2, nil, fix}
+use Rattle.calculus.specs.Trees.{Lang, ml, sc, Test, isFun, isList, isNull, isNum, Op1, head, tail, fixpoint, empty, testing, pair, Term, lam}
+use Rattle.calculus.specs.Trees.{op1, op2, fix}
 use Rattle.calculus.specs.Words.{word, word1, put, putTy, size, testNumber}
 use Rattle.calculus.specs.Kinds.{type, term}
 use Rattle.calculus.specs.Reduction.{Form, number, lambda, noItem, items, other, form, nothing, amiss, answer, onLambda, onList, contract1}
@@ -112,8 +113,15 @@ module _ (ws : List ℕ) (form-number end : ℕ) (f : FirstPart ws form-number e
   fix-told : (body : ℕ) → body ≡ 2 + span (drop 2 ws) 1 → (a : Term ml) (k : List ℕ) → ws ≡ put (fix a) k → end ≡ 1 + size a → Formed ml 2 a
       → Tells ws (Substituted 16 body 0 end) (contract1 fixpoint a)
   unfolding contract1 onLambda form put size
-  fix-told body e a k q h (is-function t b) =
-      (fix (lam t b), b, k, refl, stands type t (put b k) ws 2 body (ap (drop 2) q) e .after, sized (term ml) (fix (lam t b)) k ws 0 end q (omega arith) .own, refl)
+  fix-told body e a k q h (is-function t b) = (
+    fix (lam t b),
+    b,
+    k,
+    refl,
+    stands type t (put b k) ws 2 body (ap (drop 2) q) e .after,
+    sized (term ml) (fix (lam t b)) k ws 0 end q (omega arith) .own,
+    refl,
+  )
 
   pub fix-lambda : (body : ℕ) → body ≡ 2 + span (drop 2 ws) 1 → form-number ≡ 2 → OfFix ws (Substituted 16 body 0 end)
   unfolding put

@@ -8,7 +8,7 @@ use lib.ListN.{getD, drop}
 use lib.Seq.{drop-drop}
 use native.Mathlib.Omega.{arith}
 use Rattle.calculus.specs.Trees.{Lang, ml, sc, Op2, apply, plus, minus, pair, Term, num, lam, op2, wrong, numbers}
-use Rattle.calculus.specs.Words.{word, word2, largest, put, putTy, size}
+use Rattle.calculus.specs.Words.{word2, largest, put, putTy}
 use Rattle.calculus.specs.Kinds.{type, term}
 use Rattle.calculus.specs.Reduction.{form, Became, becomes, amiss, onNumber, onLambda, onNumbers, contract2}
 use Rattle.writing.specs.Spans.{span}
@@ -81,7 +81,8 @@ module _ (ws : List ℕ) (form-number middle end : ℕ) (p : TwoParts ws form-nu
   apply-other scheme h =
       record {
         of = λ l f v k q s.
-            rw s (subst (Tells ws (amissRule (isScheme l) 2)) (sym (no-lambda (amiss l 2) _ (first-form l f (put v k) q form-number refl) h)) (amiss-told ws l 2));
+            rw s (subst (Tells ws (amissRule (isScheme l) 2)) (sym (no-lambda (amiss l 2) _ (first-form l f (put v k) q form-number refl) h))
+            (amiss-told ws l 2));
       }
 
   apply-sc : (l : Lang) (f v : Term l) (k : List ℕ) → drop 1 ws ≡ put f (put v k) → true ≡ isScheme l → Formed l 2 f
@@ -181,7 +182,8 @@ module _ (ws : List ℕ) (form-number middle end : ℕ) (p : TwoParts ws form-nu
               record {
                 of = λ l o a b k q.
                     rw (lang-of l o a b k q)
-                    (plus-told l o a b k q (op-of l o a b k q 2 e) (first-form l a (put b k) (tail-of l o a b k q) 1 h) (second-form l o a b k q 1 g));
+                    (plus-told l o a b k q (op-of l o a b k q 2 e) (first-form l a (put b k) (tail-of l o a b k q) 1 h)
+                    (second-form l o a b k q 1 g));
               }
 
           minus-told : (l : Lang) (o : Op2) (a b : Term l) (k : List ℕ) → ws ≡ put (op2 o a b) k → (n : ℕ) → Binary n o → (n ≡ 0 → ⊥) → (n ≡ 1 → ⊥)

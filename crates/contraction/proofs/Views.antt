@@ -1,49 +1,20 @@
--- Terms by the number of their shape, and values by that of their form. Assumes nothing.
+-- Values by the number of their form, beside terms by that of their shape. Assumes nothing.
 use Prim.Native.Nat.{ℕ, _%_, _<_, _≤_}
 use mathlib.Core.List.{List, [], _∷_}
 use mathlib.Core.Path.{_≡_, refl, sym, ap, _∙_, subst}
-use lib.Dec.{eqb}
 use lib.ListN.{length, getD}
 use borrow.Author.Tests.{ne-eqb}
 use native.Mathlib.Omega.{arith}
-use Rattle.calculus.specs.Trees.{Ty, N, L, list, _to_, Lang, ml, sc, Static, isFun, isList, isNull, isNum, Op1, head, tail, fixpoint, empty, testing, Op2, apply, plus, minus, pair, Term, var, num, lam, op1, op2, if0, nil, wrong, ms, sm}
-use Rattle.calculus.specs.Words.{word, by, put, putTy, size}
+use Rattle.calculus.specs.Trees.{N, L, list, _to_, Lang, ml, sc, Static, isFun, isList, isNull, isNum, head, tail, fixpoint, empty, testing, apply}
+use Rattle.calculus.specs.Trees.{plus, minus, pair, Term, var, num, lam, op1, op2, if0, nil, wrong, ms, sm}
+use Rattle.calculus.specs.Words.{word, put, putTy, size}
 use Rattle.calculus.specs.Kinds.{term}
-use Rattle.calculus.specs.Reduction.{Form, number, lambda, other, form}
+use Rattle.calculus.specs.Reduction.{other, form}
 use Rattle.calculus.proofs.Views.{view, sized}
 use Rattle.nodes.specs.Table.{shapeNumber, rowOf}
 use Rattle.writing.proofs.Trees.{head-is, shape-is}
 use Rattle.contraction.specs.Forms.{formNumber, formBy, formAt}
-
--- A term by its shape.
-pub data Shaped : (l : Lang) → ℕ → Term l → Type 0 where
-  a-variable : {l : Lang} {i : ℕ} → Shaped l 1 (var i)
-  a-number : {l : Lang} {n : ℕ} → Shaped l 2 (num n)
-  a-lambda : {l : Lang} {t : Static l} {b : Term l} → Shaped l 3 (lam t b)
-  one-part : {l : Lang} (o : Op1 l) (a : Term l) → Shaped l 4 (op1 o a)
-  two-parts : {l : Lang} (o : Op2) (a b : Term l) → Shaped l 5 (op2 o a b)
-  a-choice : {l : Lang} (a b c : Term l) → Shaped l 6 (if0 a b c)
-  a-nil : {l : Lang} {t : Static l} → Shaped l 7 (nil t)
-  a-wrong : {l : Lang} (c : ℕ) (t : Static l) → Shaped l 8 (wrong c t)
-  an-ms : (t : Ty) (a : Term sc) → Shaped ml 9 (ms t a)
-  an-sm : (t : Ty) (a : Term ml) → Shaped sc 9 (sm t a)
-
-shaped : (l : Lang) (e : Term l) → Shaped l (shapeNumber (term l) e) e
-shaped l (var i) = a-variable
-shaped l (num n) = a-number
-shaped l (lam t b) = a-lambda
-shaped l (op1 o a) = one-part o a
-shaped l (op2 o a b) = two-parts o a b
-shaped l (if0 a b c) = a-choice a b c
-shaped l (nil t) = a-nil
-shaped l (wrong c t) = a-wrong c t
-shaped ml (ms t a) = an-ms t a
-shaped sc (sm t a) = an-sm t a
-
--- The term that stands at the start of the words, by the shape of their first word.
-pub by-shape : (l : Lang) (e : Term l) (k ws : List ℕ) → ws ≡ put e k → (n : ℕ) → rowOf (getD ws 0 0 % 256) .shape ≡ n → Shaped l n e
-by-shape l e k ws q n h =
-    subst (λ (j : ℕ). Shaped l j e) (sym (shape-is (term l) e) ∙ ap (λ (w : ℕ). rowOf (w % 256) .shape) (sym (head-is (term l) e k ws q)) ∙ h) (shaped l e)
+pub use Rattle.nodes.proofs.Terms.{Shaped, a-variable, a-number, a-lambda, one-part, two-parts, a-choice, a-nil, a-wrong, an-ms, an-sm, by-shape}
 
 -- A value by its form.
 pub data Formed : (l : Lang) → ℕ → Term l → Type 0 where

@@ -37,7 +37,8 @@ Gives ws (Items q m v t e) u = words u ≡ itemsWords q m v t e ws
 Gives ws (IntoML s v e) u = words u ≡ intoMLWords s v e ws
 Gives ws (IntoScheme s v e) u = words u ≡ intoSchemeWords s v e ws
 Gives {l} ws (Substituted x b a e) u =
-    (v : Term l) × (body : Term l) × (k : List ℕ) × (x ≡ by l 16 32) × (drop b ws ≡ put body k) × (stretch a e ws ≡ words v) × (u ≡ substitute v 0 body)
+    (v : Term l) × (body : Term l) × (k : List ℕ) × (x ≡ by l 16 32) × (drop b ws ≡ put body k)
+    × (stretch a e ws ≡ words v) × (u ≡ substitute v 0 body)
 
 abbrev pub Tells : {l : Lang} → List ℕ → Rule → Became l → Type 0
 Tells ws r (becomes u) = Gives ws r u

@@ -60,7 +60,8 @@ begun-refused {limit} {ws} {first} {second} h r =
     record { of = λ e τ q g. answered-as (over limit cap (τ, e) (omega (arith, h, ap length q, words-size e))) r }
 
 -- The term's words are copied to the first buffer and reduced there.
-pub begun-ended : {limit cap count k : ℕ} {ws first second first₁ first′ second′ : List ℕ} {x : Report} → cap ≡ spec.capacity (length first) (length second)
+pub begun-ended : {limit cap count k : ℕ} {ws first second first₁ first′ second′ : List ℕ} {x : Report}
+    → cap ≡ spec.capacity (length first) (length second)
     → count ≡ length ws → count ≤ cap → Wrote first 0 ws k first₁ → length first₁ ≡ length first
     → Reduced limit (spec.capacity (length first₁) (length second)) (take count first₁) x first₁ second first′ second′
     → Begun limit ws (a.Ended x) first second first′ second′
@@ -72,7 +73,8 @@ begun-ended {limit} {cap} {count} {k} {ws} {first} {second} {first₁} {first′
     record {
       of = λ e τ q g.
           let d = spec.capacity (length first) (length second) in
-          let y = subst (λ (m : ℕ). (told x ≡ lineOf (spec.run limit m spec.uncounted e)) × Settled (spec.run limit m spec.uncounted e .left) first₁ second first′ second′)
+          let y = subst (λ (m : ℕ). (told x ≡ lineOf (spec.run limit m spec.uncounted e)) × Settled
+          (spec.run limit m spec.uncounted e .left) first₁ second first′ second′)
           same (r .of e (front ∙ q) g) in
           answered-as (fitting limit d (τ, e) (omega (arith, ap length q, words-size e, c, n, fits)))
           (record {
@@ -108,10 +110,13 @@ module _ (bytes : List ℕ) (limit : ℕ) {first second first′ second′ : Lis
   pub run-refused : (r : Refusal) → check bytes ≡ refusal r → Answered (refusal r) x first second first′ second′
       → Answered (operate bytes limit (length first) (length second)) x first second first′ second′
   unfolding operate
-  run-refused r q h = answered-as (ap (λ (v : Verdict Recipe). andThen v (λ y. runIn limit (spec.capacity (length first) (length second)) y)) (sym q)) h
+  run-refused r q h =
+      answered-as (ap (λ (v : Verdict Recipe). andThen v (λ y. runIn limit (spec.capacity (length first) (length second)) y)) (sym q)) h
 
-  pub run-started : {all : List ℕ} {types n : ℕ} → Opens bytes all types n → Answered (started (take n all) limit (length first) (length second)) x first second first′ second′
+  pub run-started : {all : List ℕ} {types n : ℕ} → Opens bytes all types n
+      → Answered (started (take n all) limit (length first) (length second)) x first second first′ second′
       → Answered (operate bytes limit (length first) (length second)) x first second first′ second′
   unfolding operate
   run-started {all} {types} {n} o h =
-      answered-as (ap (λ (v : Verdict Recipe). andThen v (λ y. runIn limit (spec.capacity (length first) (length second)) y)) (ap checkWords (o .words-are) ∙ sym (o .check-is))) h
+      answered-as (ap (λ (v : Verdict Recipe). andThen v (λ y. runIn limit (spec.capacity (length first) (length second)) y))
+      (ap checkWords (o .words-are) ∙ sym (o .check-is))) h

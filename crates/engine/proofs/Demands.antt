@@ -65,12 +65,14 @@ reduce l g r e o q h =
       report = b .0;
       ended = b .1;
       numbers = b .2 ∙ ap lineOf q;
-      first = h .first-is ∙ ap (λ (v : Verdict spec.Result). padded (length (l .first)) (leftBy v)) o ∙ ap (λ (y : spec.Result). padded (length (l .first)) (y .left)) q;
+      first = h .first-is ∙ ap (λ (v : Verdict spec.Result). padded (length (l .first)) (leftBy v)) o
+          ∙ ap (λ (y : spec.Result). padded (length (l .first)) (y .left)) q;
       second = h .second-is;
     }
 
 -- Where the answer is an end the specification's result is that end's.
-passed-by : (v : Verdict spec.Result) (x : Report) → passed (told x) ≡ andThen v (λ y. passed (lineOf y)) → (r : spec.Result) × (v ≡ passed r) × (told x ≡ lineOf r)
+passed-by : (v : Verdict spec.Result) (x : Report) → passed (told x) ≡ andThen v (λ y. passed (lineOf y))
+    → (r : spec.Result) × (v ≡ passed r) × (told x ≡ lineOf r)
 passed-by (refused n p) x q = absurd (not-both n p (told x) (sym q))
 passed-by (passed r) x q = (r, refl, passed-injective (told x) (lineOf r) q)
 
@@ -101,14 +103,16 @@ front l g r o h =
     ap (take (length (r .left))) (h .first-is ∙ ap (λ (v : Verdict spec.Result). padded (length (l .first)) (leftBy v)) o)
     ∙ padded-take (length (l .first)) (length (r .left)) (r .left) (omega arith) refl
 
-grow : (l m : Lent) (g h : Given) (x : Report) → l .bytes ≡ m .bytes → l .limit ≤ m .limit → room l ≤ room m → Promised l g → Promised m h → g .answer ≡ Ended x
+grow : (l m : Lent) (g h : Given) (x : Report) → l .bytes ≡ m .bytes → l .limit ≤ m .limit → room l ≤ room m → Promised l g → Promised m h
+    → g .answer ≡ Ended x
     → Final (x .end) → Same x g h
 grow l m g h x b i c p q a f =
     let v = operate (l .bytes) (l .limit) (length (l .first)) (length (l .second)) in
     let r = passed-by v x (ap spoken (sym a) ∙ p .answer-is) in
     let t = ap (λ (y : Line). y .end) (r .2) in
     let o = subst (λ (bs : List ℕ). operate bs (m .limit) (length (m .first)) (length (m .second)) ≡ passed (r .0)) b
-    (demand-3 (l .bytes) .runs (l .limit) (length (l .first)) (length (l .second)) (m .limit) (length (m .first)) (length (m .second)) (r .0) i c (r .1)
+    (demand-3 (l .bytes) .runs (l .limit) (length (l .first)) (length (l .second)) (m .limit) (length (m .first)) (length (m .second)) (r .0) i c
+    (r .1)
     (subst spec.Final t (final-of (x .end) f))) in
     let d = ended-by (h .answer) (lineOf (r .0)) (q .answer-is ∙ ap (λ (v : Verdict spec.Result). andThen v (λ y. passed (lineOf y))) o) in
     let n : x .left ≡ length (r .0 .left) = ap (λ (y : Line). y .left) (r .2) in

@@ -77,12 +77,14 @@ module _ (e : Term ml) (n cap limit : ℕ) (made : Counts) (size-is : n ≡ leng
       (record { told-is = rw (add-one (made .steps)); left-is = refl; short = omega arith })
 
   fills : (b : Bool) (u : Term ml) (g : Term ml → spec.Result) (y : Report)
-      → cond b (Go (size u) (oneMore made)) (stopped ends.Full 0 made n (size u)) ≡ Stop y → Finished (spec.ifFits b (countsOf made) e u g) (words e) y
+      → cond b (Go (size u) (oneMore made)) (stopped ends.Full 0 made n (size u))
+      ≡ Stop y → Finished (spec.ifFits b (countsOf made) e u g) (words e) y
   fills true u g y q = absurd (no-both q)
   fills false u g y q = leaves ends.Full (size u) y q
 
   -- the run ends here
-  pub stops : (k : ℕ) (o : Outcome ml) (b b′ : List ℕ) (r : Move) (x : Report) → k ≡ limit - made .steps → Moved o b r b′ → chosen r n cap made limit ≡ Stop x
+  pub stops : (k : ℕ) (o : Outcome ml) (b b′ : List ℕ) (r : Move) (x : Report) → k ≡ limit - made .steps → Moved o b r b′
+      → chosen r n cap made limit ≡ Stop x
       → Finished (by-outcome k cap (countsOf made) e o) (words e) x
   stops zero value b b′ r x i h q = leaves ends.Value 0 x (rw h at q)
   stops (suc k) value b b′ r x i h q = leaves ends.Value 0 x (rw h at q)
@@ -90,7 +92,8 @@ module _ (e : Term ml) (n cap limit : ℕ) (made : Counts) (size-is : n ≡ leng
   stops (suc k) (raised c) b b′ r x i h q = errs c x (rw (h, ne-eqb (made .steps) limit (λ z. omega arith)) at q)
   stops zero (next u) b b′ r x i h q = leaves ends.Spent 0 x (rw (h .1, eq-eqb (made .steps) limit (omega arith)) at q)
   stops (suc k) (next u) b b′ r x i h q =
-      fills (leb (size u) cap) u (λ v. spec.run k cap (spec.counted (countsOf made)) v) x (rw (h .1, ne-eqb (made .steps) limit (λ z. omega arith), h .2) at q)
+      fills (leb (size u) cap) u (λ v. spec.run k cap (spec.counted (countsOf made)) v) x
+      (rw (h .1, ne-eqb (made .steps) limit (λ z. omega arith), h .2) at q)
   stops zero stuck b b′ r x i h q = leaves ends.Spent 0 x (rw h at q)
   stops (suc k) stuck b b′ r x i h q = leaves ends.Spent 0 x (rw h at q)
 
@@ -125,11 +128,13 @@ module _ (e : Term ml) (n cap limit : ℕ) (made : Counts) (size-is : n ≡ leng
 
 -- The numbers that the loop needs, whatever the words are.
 module _ (n cap limit : ℕ) (made : Counts) (le : made .steps ≤ limit) where
-  pub go-fits : (r : Move) (j : ℕ) (more : Counts) → chosen r n cap made limit ≡ Go j more → (j ≤ cap) × (made .steps < limit) × (more .steps ≡ made .steps + 1)
+  pub go-fits : (r : Move) (j : ℕ) (more : Counts) → chosen r n cap made limit ≡ Go j more
+      → (j ≤ cap) × (made .steps < limit) × (more .steps ≡ made .steps + 1)
   go-fits m.Value j more q = absurd (no-both (sym q))
   go-fits (m.Raised c) j more q = by (eqb (made .steps) limit) q
     where
-      by : (b : Bool) → cond b (stopped ends.Spent 0 made n 0) (stopped ends.Error c (oneMore made) 0 0) ≡ Go j more → (j ≤ cap) × (made .steps < limit) × (more .steps ≡ made .steps + 1)
+      by : (b : Bool) → cond b (stopped ends.Spent 0 made n 0) (stopped ends.Error c (oneMore made) 0 0) ≡ Go j more
+          → (j ≤ cap) × (made .steps < limit) × (more .steps ≡ made .steps + 1)
       by true g = absurd (no-both (sym g))
       by false g = absurd (no-both (sym g))
   go-fits (m.Next x) j more q = by (eqb (made .steps) limit) refl (leb (x .size) cap) refl q
@@ -158,7 +163,8 @@ module _ (n cap limit : ℕ) (made : Counts) (le : made .steps ≤ limit) where
       by false g = left-by _ y g (omega arith)
   end-short (m.Next x) y q = by (eqb (made .steps) limit) (leb (x .size) cap) q
     where
-      by : (b d : Bool) → cond b (stopped ends.Spent 0 made n 0) (cond d (Go (x .size) (oneMore made)) (stopped ends.Full 0 made n (x .size))) ≡ Stop y → y .left ≤ n
+      by : (b d : Bool) → cond b (stopped ends.Spent 0 made n 0) (cond d (Go (x .size) (oneMore made)) (stopped ends.Full 0 made n (x .size)))
+          ≡ Stop y → y .left ≤ n
       by true d g = left-by _ y g (omega arith)
       by false true g = absurd (no-both g)
       by false false g = left-by _ y g (omega arith)

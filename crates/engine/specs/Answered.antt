@@ -30,4 +30,5 @@ started ws limit first second = andThen (checkWords ws) (λ x. runIn limit (capa
 
 -- Of the words of a term that was accepted.
 pub record Begun (limit : ℕ) (ws : List ℕ) (x : Answer) (first second first′ second′ : List ℕ) : Type 0 where
-  pub of : (e : Term ml) (τ : Ty) → ws ≡ words e → Good e → Answered (runIn limit (capacity (length first) (length second)) (τ, e)) x first second first′ second′
+  pub of : (e : Term ml) (τ : Ty) → ws ≡ words e → Good e
+      → Answered (runIn limit (capacity (length first) (length second)) (τ, e)) x first second first′ second′

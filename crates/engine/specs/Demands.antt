@@ -40,7 +40,8 @@ room l = capacity (length (l .first)) (length (l .second))
 
 -- What `run` promises of both.
 abbrev pub Promised : Lent → Given → Type 0
-Promised l g = Answered (operate (l .bytes) (l .limit) (length (l .first)) (length (l .second))) (g .answer) (l .first) (l .second) (g .first) (g .second)
+Promised l g =
+    Answered (operate (l .bytes) (l .limit) (length (l .first)) (length (l .second))) (g .answer) (l .first) (l .second) (g .first) (g .second)
 
 -- "finishes: with one of the eight refusals in document 01, both buffers then all zero, or with one of its four ends".
 pub data Finishes (l : Lent) (g : Given) : Type 0 where

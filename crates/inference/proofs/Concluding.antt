@@ -10,16 +10,16 @@ use lib.ListN.{length}
 use native.Mathlib.Omega.{arith}
 use Rattle.calculus.specs.Trees.{Ty, Lang, ml, sc, Static, Op1, head, tail, testing, Op2, apply, plus, minus, pair}
 use Rattle.calculus.specs.Inference.{result1, result2, result3}
-use Rattle.calculus.specs.Words.{word1, word2}
 use Rattle.calculus.specs.Kinds.{term}
+use Rattle.nodes.specs.declared.kinds.Row as code
 use Rattle.nodes.specs.Table.{sortNumber}
-use Rattle.types.specs.References.{shapeAt, Written}
+use Rattle.types.specs.References.{Written}
 use Rattle.types.proofs.Meanings.{means-in, written-means}
 use Rattle.rules.specs.Answers.{Refers, Passes, Answers, conclusion, Embedded}
 use Rattle.rules.specs.Operators.{Found, Result1, Result2, Result3}
 use Rattle.rules.specs.declared.Inferred.{Inferred}
 use Rattle.rules.specs.declared.Inferred.the-variants.{Typed, Bad}
-use Rattle.inference.specs.Conclusions.{other, crossing, Crossed, Concluded1, Concluded2, Concluded3}
+use Rattle.inference.specs.Conclusions.{other, crossing, Crossed, Concluded1, Concluded2, Concluded3, Concluded}
 
 -- A reference that was found, as an answer.
 answered : (w ls : List ℕ) (lo hi at next p : ℕ) (o : Option Ty) → Found w ls lo hi o p → Answers ml w ls lo hi at next o (conclusion at p next)
@@ -68,50 +68,36 @@ module _ (w ls : List ℕ) (sort at t next : ℕ) where
       by ml τ s lo hi h q x f = absurd (n q)
       by sc τ s lo hi h q x f = m .is τ s lo hi h x f
 
-  pub scheme1 : (x : ℕ) → (sort ≡ 2 → ⊥) → Concluded1 w ls sort x at t next (Typed 0 next)
-  scheme1 x n = record { passes = refl; is = λ l. by l }
+module _ (w ls : List ℕ) (row : code.Row) (x at t u v next : ℕ) where
+  pub in-scheme : (row .sort ≡ 2 → ⊥) → Concluded w ls row x at t u v next (Typed 0 next)
+  in-scheme n = record { passes = refl; one = λ _. one; two = λ _. two; three = λ _. three }
     where
-      by : (l : Lang) (o : Op1 l) (s : Static l) (lo hi : ℕ) → hi ≤ length w → sort ≡ sortNumber (term l) → x ≡ word1 o → shapeAt w at ≡ 4
-          → Refers l w ls lo hi t s → Answers l w ls lo hi at next (result1 o s) (Typed 0 next)
-      by ml o s lo hi h q e k f = absurd (n q)
-      by sc o s lo hi h q e k f = formed w ls lo hi at next (result1 o tt) (result1-scheme o)
+      one : Concluded1 w ls (row .sort) x at t next (Typed 0 next)
+      one ml o a lo hi h q e k f = absurd (n q)
+      one sc o a lo hi h q e k f = formed w ls lo hi at next (result1 o tt) (result1-scheme o)
 
-  pub ml1 : (x p : ℕ) (r : Inferred) → sort ≡ 2 → Result1 w ls x at t p → r ≡ conclusion at p next → Concluded1 w ls sort x at t next r
-  ml1 x p r e f y = subst (λ (i : Inferred). Concluded1 w ls sort x at t next i) (sym y) (record { passes = concluded-passes at p next; is = λ l. by l })
-    where
-      by : (l : Lang) (o : Op1 l) (s : Static l) (lo hi : ℕ) → hi ≤ length w → sort ≡ sortNumber (term l) → x ≡ word1 o → shapeAt w at ≡ 4
-          → Refers l w ls lo hi t s → Answers l w ls lo hi at next (result1 o s) (conclusion at p next)
-      by ml o s lo hi h q y k m = answered w ls lo hi at next p (result1 o s) (f o s lo hi h y k m)
-      by sc o s lo hi h q y k m = absurd (omega (arith, q, e))
+      two : Concluded2 w ls (row .sort) x at t u next (Typed 0 next)
+      two ml o a b lo hi h q e f g = absurd (n q)
+      two sc o a b lo hi h q e f g = formed w ls lo hi at next (result2 sc o tt tt) (result2-scheme o)
 
-  pub scheme2 : (x u : ℕ) → (sort ≡ 2 → ⊥) → Concluded2 w ls sort x at t u next (Typed 0 next)
-  scheme2 x u n = record { passes = refl; is = λ l. by l }
-    where
-      by : (l : Lang) (o : Op2) (s v : Static l) (lo hi : ℕ) → hi ≤ length w → sort ≡ sortNumber (term l) → x ≡ word2 l o
-          → Refers l w ls lo hi t s → Refers l w ls lo hi u v → Answers l w ls lo hi at next (result2 l o s v) (Typed 0 next)
-      by ml o s v lo hi h q e f g = absurd (n q)
-      by sc o s v lo hi h q e f g = formed w ls lo hi at next (result2 sc o tt tt) (result2-scheme o)
+      three : Concluded3 w ls (row .sort) at t u v next (Typed 0 next)
+      three ml a b c lo hi h q e f g = absurd (n q)
+      three sc a b c lo hi h q e f g = formed w ls lo hi at next (result3 sc tt tt tt) refl
 
-  pub ml2 : (x u p : ℕ) (r : Inferred) → sort ≡ 2 → Result2 w ls x t u p → r ≡ conclusion at p next → Concluded2 w ls sort x at t u next r
-  ml2 x u p r e f y = subst (λ (i : Inferred). Concluded2 w ls sort x at t u next i) (sym y) (record { passes = concluded-passes at p next; is = λ l. by l })
+  -- The rule of the operator's shape tells the result.
+  pub in-ml : (p : ℕ) (r : Inferred) → row .sort ≡ 2 → (row .shape ≡ 4 → Result1 w ls x at t p) → (row .shape ≡ 5 → Result2 w ls x t u p)
+      → (row .shape ≡ 6 → Result3 w ls t u v p) → r ≡ conclusion at p next → Concluded w ls row x at t u v next r
+  in-ml p r s f g i y =
+      subst (Concluded w ls row x at t u v next) (sym y) (record { passes = concluded-passes at p next; one = one; two = two; three = three })
     where
-      by : (l : Lang) (o : Op2) (s v : Static l) (lo hi : ℕ) → hi ≤ length w → sort ≡ sortNumber (term l) → x ≡ word2 l o
-          → Refers l w ls lo hi t s → Refers l w ls lo hi u v → Answers l w ls lo hi at next (result2 l o s v) (conclusion at p next)
-      by ml o s v lo hi h q y m n = answered w ls lo hi at next p (result2 ml o s v) (f o y s v lo hi h m n)
-      by sc o s v lo hi h q y m n = absurd (omega (arith, q, e))
+      one : row .shape ≡ 4 → Concluded1 w ls (row .sort) x at t next (conclusion at p next)
+      one j ml o a lo hi h q e k m = answered w ls lo hi at next p (result1 o a) (f j o a lo hi h e k m)
+      one j sc o a lo hi h q e k m = absurd (omega (arith, q, s))
 
-  pub scheme3 : (u v : ℕ) → (sort ≡ 2 → ⊥) → Concluded3 w ls sort at t u v next (Typed 0 next)
-  scheme3 u v n = record { passes = refl; is = λ l. by l }
-    where
-      by : (l : Lang) (a b c : Static l) (lo hi : ℕ) → hi ≤ length w → sort ≡ sortNumber (term l) → Refers l w ls lo hi t a
-          → Refers l w ls lo hi u b → Refers l w ls lo hi v c → Answers l w ls lo hi at next (result3 l a b c) (Typed 0 next)
-      by ml a b c lo hi h q e f g = absurd (n q)
-      by sc a b c lo hi h q e f g = formed w ls lo hi at next (result3 sc tt tt tt) refl
+      two : row .shape ≡ 5 → Concluded2 w ls (row .sort) x at t u next (conclusion at p next)
+      two j ml o a b lo hi h q e m n = answered w ls lo hi at next p (result2 ml o a b) (g j o e a b lo hi h m n)
+      two j sc o a b lo hi h q e m n = absurd (omega (arith, q, s))
 
-  pub ml3 : (u v p : ℕ) (r : Inferred) → sort ≡ 2 → Result3 w ls t u v p → r ≡ conclusion at p next → Concluded3 w ls sort at t u v next r
-  ml3 u v p r e f y = subst (λ (i : Inferred). Concluded3 w ls sort at t u v next i) (sym y) (record { passes = concluded-passes at p next; is = λ l. by l })
-    where
-      by : (l : Lang) (a b c : Static l) (lo hi : ℕ) → hi ≤ length w → sort ≡ sortNumber (term l) → Refers l w ls lo hi t a
-          → Refers l w ls lo hi u b → Refers l w ls lo hi v c → Answers l w ls lo hi at next (result3 l a b c) (conclusion at p next)
-      by ml a b c lo hi h q x y z = answered w ls lo hi at next p (result3 ml a b c) (f a b c lo hi h x y z)
-      by sc a b c lo hi h q x y z = absurd (omega (arith, q, e))
+      three : row .shape ≡ 6 → Concluded3 w ls (row .sort) at t u v next (conclusion at p next)
+      three j ml a b c lo hi h q m n k = answered w ls lo hi at next p (result3 ml a b c) (i j a b c lo hi h m n k)
+      three j sc a b c lo hi h q m n k = absurd (omega (arith, q, s))

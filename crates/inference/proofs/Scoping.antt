@@ -50,7 +50,8 @@ pub binds-static : (l : Lang) (t : Static l) (b : Term l) (w k : List ℕ) (at :
 binds-static ml t b w k at d = lead-written ml (lam t b) w k at t d refl
 binds-static sc t b w k at d = tt
 
-pub refers-later : (l : Lang) (w ls ls′ : List ℕ) (lo hi lo′ hi′ p : ℕ) (t : Static l) → lo′ ≤ lo → hi ≤ hi′ → Kept hi ls ls′ → Refers l w ls lo hi p t
+pub refers-later : (l : Lang) (w ls ls′ : List ℕ) (lo hi lo′ hi′ p : ℕ) (t : Static l) → lo′ ≤ lo → hi ≤ hi′ → Kept hi ls ls′
+    → Refers l w ls lo hi p t
     → Refers l w ls′ lo′ hi′ p t
 refers-later ml w ls ls′ lo hi lo′ hi′ p t a b k m = means-widen w ls′ lo hi lo′ hi′ p t a b (means-frame w ls ls′ lo hi p t (λ i x y. k i y) m)
 refers-later sc w ls ls′ lo hi lo′ hi′ p t a b k m = tt

@@ -1,5 +1,5 @@
 -- What the inference does at a node before and after it goes into the parts.
-use Prim.Native.Nat.{ℕ, _+_, _<_, _≤_}
+use Prim.Native.Nat.{ℕ, _+_, _%_, _<_, _≤_}
 use mathlib.Core.List.{List}
 use mathlib.Core.Option.{Option, none, some}
 use mathlib.Core.Path.{_≡_}
@@ -8,7 +8,8 @@ use Rattle.calculus.specs.Trees.{Ty, Lang, ml, sc, Static, Term, var, num, lam,
 use Rattle.calculus.specs.Verdicts.{found}
 use Rattle.calculus.specs.Words.{put, sizeTy}
 use Rattle.calculus.specs.Kinds.{term}
-use Rattle.nodes.specs.Table.{sortNumber, shapeNumber}
+use Rattle.nodes.specs.declared.kinds.Row as code
+use Rattle.nodes.specs.Table.{sortNumber, shapeNumber, rowOf}
 use Rattle.rules.specs.declared.Inferred.{Inferred}
 use Rattle.rules.specs.declared.Inferred.the-variants.{Typed}
 
@@ -38,6 +39,21 @@ pub record PartsStart (w : List ℕ) (sort shape at r : ℕ) : Type 0 where
   pub most : r ≤ length w
   pub is : (l : Lang) (e : Term l) (k : List ℕ) → sort ≡ sortNumber (term l) → shape ≡ shapeNumber (term l) e → drop at w ≡ put e k
       → r ≡ at + 1 + leadSize e
+
+-- The shape is that of a node with parts which are terms: no variable, no number, no empty list and no wrong.
+abbrev pub Branches : ℕ → Type 0
+Branches shape = (shape ≡ 1 → ⊥) × (shape ≡ 2 → ⊥) × (shape ≡ 7 → ⊥) × (shape ≡ 8 → ⊥)
+
+-- The row of the word at a place.
+pub record Read (w : List ℕ) (at : ℕ) (row : code.Row) : Type 0 where
+  pub within : at < length w
+  pub known : row ≡ rowOf (getD w at 0 % 256)
+
+-- Such a node: its row, and where the first of those parts starts.
+pub record Node (w : List ℕ) (at : ℕ) (row : code.Row) (start : ℕ) : Type 0 where
+  pub read : Read w at row
+  pub starts : PartsStart w (row .sort) (row .shape) at start
+  pub branches : Branches (row .shape)
 
 -- A place as a link.
 abbrev pub Linked : ℕ → ℕ → Type 0

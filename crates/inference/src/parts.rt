@@ -1,5 +1,6 @@
 // What the inference does at a node, apart from going into its parts.
 
+use nodes::kinds::Row;
 use rules::Inferred;
 use rules::concluded;
 use rules::embedded;
@@ -9,10 +10,10 @@ use rules::result_3;
 use types::type_end;
 ghost use mathlib.Core.Path.{_≡_};
 ghost use Prim.Native.Nat.{_+_, _<_, _≤_};
-ghost use lib.ListN.{length};
+ghost use lib.ListN.{length, getD};
 ghost use Rattle.nodes.specs.Table.{kinds};
 ghost use Rattle.inference.specs.Parts.{PartsStart, Linked, Entered, Function};
-ghost use Rattle.inference.specs.Conclusions.{Crossed, Concluded1, Concluded2, Concluded3};
+ghost use Rattle.inference.specs.Conclusions.{Crossed, Concluded};
 
 // The place of the first term among the parts of the node at `at`: past the type that the node begins with, if it does.
 pub fn parts_start(table: &[u64; 48], all: &[u32], sort: u64, shape: u64, at: usize) -> usize
@@ -88,64 +89,29 @@ pub fn crossed(
     embedded(table, all, link, at, t, next)
 }
 
-// The operator of one part at `at`, whose word is w, of a t.
-pub fn operator_1(
+// The operator at `at` with this row, of a t, a u and a v. One of fewer parts has no v, or no u either: those are 0.
+pub fn operator(
     table: &[u64; 48],
     all: &[u32],
     link: &[u16],
-    sort: u64,
-    w: u32,
-    at: usize,
-    t: usize,
-    next: usize,
-) -> Inferred
-    requires { ⌜ (now table ≡ kinds) × (length (now link) ≡ length (now all)) ⌝ }
-    ensures { λ r. ⌜ Concluded1 (now (all .entry)) (now (link .entry)) sort w at t next r ⌝ }
-{
-    if sort != nodes::kinds::ML {
-        return Inferred::Typed(0, next);
-    }
-    concluded(at, result_1(table, all, link, w, at, t), next)
-}
-
-// The operator of two parts at `at`, whose word is w, of a t and a u.
-pub fn operator_2(
-    table: &[u64; 48],
-    all: &[u32],
-    link: &[u16],
-    sort: u64,
-    w: u32,
-    at: usize,
-    t: usize,
-    u: usize,
-    next: usize,
-) -> Inferred
-    requires { ⌜ (now table ≡ kinds) × (length (now link) ≡ length (now all)) ⌝ }
-    ensures { λ r. ⌜ Concluded2 (now (all .entry)) (now (link .entry)) sort w at t u next r ⌝ }
-{
-    if sort != nodes::kinds::ML {
-        return Inferred::Typed(0, next);
-    }
-    concluded(at, result_2(table, all, link, w, t, u), next)
-}
-
-// if0 at `at`, of a t, a u and a v.
-pub fn operator_3(
-    table: &[u64; 48],
-    all: &[u32],
-    link: &[u16],
-    sort: u64,
+    row: Row,
     at: usize,
     t: usize,
     u: usize,
     v: usize,
     next: usize,
 ) -> Inferred
-    requires { ⌜ (now table ≡ kinds) × (length (now link) ≡ length (now all)) ⌝ }
-    ensures { λ r. ⌜ Concluded3 (now (all .entry)) (now (link .entry)) sort at t u v next r ⌝ }
+    requires { ⌜ (now table ≡ kinds) × (length (now link) ≡ length (now all)) × (at < length (now all)) ⌝ }
+    ensures { λ r. ⌜ Concluded (now (all .entry)) (now (link .entry)) row (getD (now (all .entry)) at 0) at t u v next r ⌝ }
 {
-    if sort != nodes::kinds::ML {
+    if row.sort != nodes::kinds::ML {
         return Inferred::Typed(0, next);
+    }
+    if row.shape == nodes::kinds::OPERATOR_1 {
+        return concluded(at, result_1(table, all, link, all[at], at, t), next);
+    }
+    if row.shape == nodes::kinds::OPERATOR_2 {
+        return concluded(at, result_2(table, all, link, all[at], t, u), next);
     }
     concluded(at, result_3(table, all, link, t, u, v), next)
 }

@@ -6,3 +6,4 @@ pub mod Readers
 pub mod Lambdas
 pub mod Scoping
 pub mod Shapes
+pub mod Terms

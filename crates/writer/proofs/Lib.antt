@@ -1,3 +1,2 @@
 pub mod Again
 pub mod Held
-pub mod Held2

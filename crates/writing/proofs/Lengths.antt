@@ -60,9 +60,11 @@ parts-by k = by (ltb k 48) refl
   where
     by : (t : Bool) → ltb k 48 ≡ t → length (sortsOf (rowOf k .parts)) ≡ partsBy (rowOf k .shape) (length (sortsOf (rowOf k .parts)))
     by true g =
-        same-list (λ j. length (sortsOf (rowOf j .parts))) (λ j. partsBy (rowOf j .shape) (length (sortsOf (rowOf j .parts)))) 48 refl k (ltb-true k 48 g)
+        same-list (λ j. length (sortsOf (rowOf j .parts))) (λ j. partsBy (rowOf j .shape) (length (sortsOf (rowOf j .parts)))) 48 refl k
+        (ltb-true k 48 g)
     by false g = rw (past k (ltb-false k 48 g))
 
 pub shape-parts : (w shape : ℕ) → rowOf (w % 256) .shape ≡ shape → (n : ℕ) → partsBy shape (partCount w) ≡ n → partCount w ≡ n
 shape-parts w shape e n h =
-    part-count w ∙ parts-by (w % 256) ∙ ap (λ (m : ℕ). partsBy (rowOf (w % 256) .shape) m) (sym (part-count w)) ∙ ap (λ (s : ℕ). partsBy s (partCount w)) e ∙ h
+    part-count w ∙ parts-by (w % 256) ∙ ap (λ (m : ℕ). partsBy (rowOf (w % 256) .shape) m) (sym (part-count w))
+    ∙ ap (λ (s : ℕ). partsBy s (partCount w)) e ∙ h

@@ -26,7 +26,8 @@ past-all : (ss : List Sort) (ts : Trees ss) → Holds Past ss ts → (k : List �
 past-all [] ts h k due = let e : 0 + due ≡ due = omega arith in ap (span k) e ∙ sym (omega arith)
 past-all (s ∷ ss) ts h k due =
     let e : length (s ∷ ss) + due ≡ suc (length ss + due) = omega arith in
-    ap (span (putTree s (ts .0) (putTrees ss (ts .1) k))) e ∙ h .0 (putTrees ss (ts .1) k) (length ss + due) ∙ omega (arith, past-all ss (ts .1) (h .1) k due)
+    ap (span (putTree s (ts .0) (putTrees ss (ts .1) k))) e ∙ h .0 (putTrees ss (ts .1) k) (length ss + due)
+    ∙ omega (arith, past-all ss (ts .1) (h .1) k due)
 
 past-node : (s : Sort) (t : Tree s) → Holds Past (view s t .row .parts) (view s t .parts) → Past s t
 unfolding span

@@ -6,7 +6,8 @@ use mathlib.Core.Path.{_≡_, refl, sym, ap, _∙_}
 use lib.Dec.{eqb}
 use borrow.Author.Tests.{eq-eqb, ne-eqb}
 use native.Mathlib.Omega.{arith}
-use Rattle.calculus.specs.Trees.{N, L, list, _to_, Lang, ml, sc, isFun, isList, isNull, isNum, head, tail, fixpoint, empty, testing, apply, plus, minus, pair, Term, var, num, lam, op1, op2, if0, nil, wrong, ms, sm}
+use Rattle.calculus.specs.Trees.{N, L, list, _to_, Lang, ml, sc, isFun, isList, isNull, isNum, head, tail, fixpoint, empty, testing, apply, plus}
+use Rattle.calculus.specs.Trees.{minus, pair, Term, var, num, lam, op1, op2, if0, nil, wrong, ms, sm}
 use Rattle.calculus.specs.Words.{word, by, put, putTy, size}
 use Rattle.calculus.specs.Kinds.{Sort, type, term, Tree, putTree, putTrees}
 use Rattle.calculus.specs.Reduction.{substitute}
@@ -60,7 +61,8 @@ module _ {m : Lang} (v : Term m) (d : ℕ) where
 
   -- Any other word stays, and the variable is replaced in the parts.
   pub miss : (s : Sort) (t : Tree s) → (headOf s t ≡ word (by m 16 32) d → ⊥) → (k : List ℕ)
-      → putTree s (inTree v d s t) k ≡ headOf s t ∷ putTrees (view s t .row .parts) (inTrees v (inside s t d) (view s t .row .parts) (view s t .parts)) k
+      → putTree s (inTree v d s t) k
+      ≡ headOf s t ∷ putTrees (view s t .row .parts) (inTrees v (inside s t d) (view s t .row .parts) (view s t .parts)) k
   unfolding put putTy substitute view view-type view-ml view-sc seen
   miss type N h k = refl
   miss type L h k = refl

@@ -33,7 +33,8 @@ sets-cut b n m xs e = by (decLt m (length xs))
     by : Dec (m < length xs) → sets b n (take m xs) ≡ sets b n xs
     by (yes h) =
         let out = sets-out (sets b n (take m xs)) (n + m) (drop m xs) (omega (arith, length-sets b n (take m xs), e)) in
-        sym out ∙ sets-then b n (n + m) (take m xs) (drop m xs) (omega (arith, length-take-le m xs (omega arith))) ∙ ap (sets b n) (take-append-drop m xs)
+        sym out ∙ sets-then b n (n + m) (take m xs) (drop m xs) (omega (arith, length-take-le m xs (omega arith)))
+        ∙ ap (sets b n) (take-append-drop m xs)
     by (no h) = ap (sets b n) (take-all m xs (omega arith))
 
 -- Stores at places apart come to the same in either order.
@@ -72,5 +73,6 @@ before {b} {b₁} {b₂} {xs} {ys} {n} {m} {k} p q =
     record {
       place = omega (arith, p .place, q .place, length-append xs ys);
       stored =
-          q .stored ∙ ap (λ (l : List ℕ). sets l n xs) (p .stored) ∙ sets-swap b m ys n xs (omega (arith, q .place)) ∙ sets-then b n m xs ys (q .place);
+          q .stored ∙ ap (λ (l : List ℕ). sets l n xs) (p .stored) ∙ sets-swap b m ys n xs (omega (arith, q .place))
+          ∙ sets-then b n m xs ys (q .place);
     }

@@ -9,7 +9,7 @@ use Rattle.writing.proofs.piece.Tie as tie
 
 -- Where the words are copied from.
 module _ (c : tie.Then1) where
-  within : (c .before .before .before .args .a ≤ c .before .before .before .args .e) × (c .before .before .before .args .e ≤ length (c .before .before .before .args .src .now))
+  within : let a = c .before .before .before .args in (a .a ≤ a .e) × (a .e ≤ length (a .src .now))
   within = c .before .before .before .pre .within (c .if1 .taken)
 
 mul-copy : tie.Need-mul-copy
@@ -25,7 +25,10 @@ part-copy-end : tie.Need-part-copy-end
 part-copy-end c = omega (arith, within c)
 
 copy-requires : tie.Need-copy-requires
-copy-requires c κs = omega (arith, c .before .before .before .before .before .pre .size, c .before .before .before .before .before .pre .at, length-take (c .before .before .before .before .before .args .e - c .before .before .before .before .before .args .a) (drop (c .before .before .before .before .before .args .a) (c .before .before .before .before .before .args .src .now)), length-drop (c .before .before .before .before .before .args .a) (c .before .before .before .before .before .args .src .now))
+copy-requires c κs =
+    let s = c .before .before .before .before .before in
+    let a = s .args in
+    omega (arith, s .pre .size, s .pre .at, length-take (a .e - a .a) (drop (a .a) (a .src .now)), length-drop (a .a) (a .src .now))
 
 same-length : tie.Need-same-length
 same-length c = search needs

@@ -3,7 +3,6 @@ use borrow.Author.Needs.{needs}
 use mathlib.Core.List.{List}
 use mathlib.Core.Path.{ap, _∙_}
 use Prim.Native.Nat.{ℕ, _+_}
-use lib.ListN.{length}
 use borrow.Rule.Slice.PartAt.{part-to-end}
 use native.Mathlib.Omega.{arith}
 use Rattle.nodes.proofs.Ways.{part-length}
@@ -26,8 +25,10 @@ returns c =
 returns-2 : tie.Need-returns-2
 returns-2 c =
     let s = c .before .before .before in
-    let p = s .pre .2 in
-    ((omega arith, omega (arith, p .least, p .order, p .most), p .order, p .most), known-apply (c .if2 .taken) (apply-scheme _ _ _ _ p (c .before .if1 .left)))
+    let p = s .pre .2 in (
+      (omega arith, omega (arith, p .least, p .order, p .most), p .order, p .most),
+      known-apply (c .if2 .taken) (apply-scheme _ _ _ _ p (c .before .if1 .left)),
+    )
 
 sub-skip : tie.Need-sub-skip
 sub-skip c = let p = c .before .before .before .pre .2 in omega (arith, p .least, p .order, p .most)
@@ -39,10 +40,19 @@ part-skip-end : tie.Need-part-skip-end
 part-skip-end c = search needs
 
 skip-requires : tie.Need-skip-requires
-skip-requires c κs = (c .before .before .before .before .pre .0, omega (arith, part-length (c .before .before .before .before .args .words .now) 2, c .before .before .before .before .pre .1))
+skip-requires c κs = (
+  c .before .before .before .before .pre .0,
+  omega (arith, part-length (c .before .before .before .before .args .words .now) 2, c .before .before .before .before .pre .1),
+)
 
 add-body : tie.Need-add-body
-add-body c = omega (arith, c .skip .ensures .0, part-length (c .before .before .before .before .before .args .words .now) 2, c .before .before .before .before .before .pre .1)
+add-body c =
+    omega (
+      arith,
+      c .skip .ensures .0,
+      part-length (c .before .before .before .before .before .args .words .now) 2,
+      c .before .before .before .before .before .pre .1,
+    )
 
 returns-3 : tie.Need-returns-3
 returns-3 c =
@@ -51,7 +61,9 @@ returns-3 c =
     let w = s .args .words .now in
     let k = c .skip .ensures in (
       (omega arith, omega (arith, k .0, part-length w 2, p .least, p .order, p .most), p .order, p .most),
-      known-apply (c .before .before .if2 .left) (apply-ml _ _ _ _ p _ (ap (λ (n : ℕ). 2 + n) (k .1 ∙ ap (λ (v : List ℕ). span v 1) (part-to-end w 2))) (c .before .before .before .if1 .left)),
+      known-apply (c .before .before .if2 .left)
+          (apply-ml _ _ _ _ p _ (ap (λ (n : ℕ). 2 + n) (k .1 ∙ ap (λ (v : List ℕ). span v 1) (part-to-end w 2)))
+          (c .before .before .before .if1 .left)),
     )
 
 pub of-apply-spec : {M : Type 1} → statement M

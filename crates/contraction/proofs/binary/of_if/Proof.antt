@@ -41,7 +41,13 @@ module _ (c : tie.After-form-at) where
   z-is = span-next ws x y 1 1 y-is z (span-next ws 1 x 1 2 x-is z (c .before .before .before .before .before .before .before .pre .3 .is))
 
   x-in : x ≤ length ws
-  x-in = omega (arith, c .before .before .before .before .skip .ensures .0, part-length ws 1, c .before .before .before .before .before .before .before .pre .2)
+  x-in =
+      omega (
+        arith,
+        c .before .before .before .before .skip .ensures .0,
+        part-length ws 1,
+        c .before .before .before .before .before .before .before .pre .2,
+      )
 
   y-in : y ≤ length ws
   y-in = omega (arith, x-in, c .before .before .skip2 .ensures .0, part-length ws x)
@@ -103,7 +109,8 @@ returns c =
     ((omega (arith, z-is f), z-in f), if-scheme _ _ _ _ _ (form-is f) (x-is f) (y-is f) (z-is f) (c .if2 .taken) (c .before .before .if1 .taken))
 
 returns-2 : tie.Need-returns-2
-returns-2 c = let f = c .before .before .before in (tt, if-ml _ _ _ _ _ (form-is f) (x-is f) (y-is f) (z-is f) (c .if2 .left) (c .before .before .if1 .taken))
+returns-2 c =
+    let f = c .before .before .before in (tt, if-ml _ _ _ _ _ (form-is f) (x-is f) (y-is f) (z-is f) (c .if2 .left) (c .before .before .if1 .taken))
 
 sub-number-at : tie.Need-sub-number-at
 sub-number-at c = search needs
@@ -128,8 +135,10 @@ returns-4 : tie.Need-returns-4
 returns-4 c =
     let f = c .before .before .before .before in
     let n = c .before .number-at in
-    let e = n .ensures .0 ∙ ap (λ (v : List ℕ). getD v 0 0 / 256) (part-to-end (ws f) 1) in
-    ((omega (arith, z-is f), z-in f), if-more _ _ _ _ _ (form-is f) (x-is f) (y-is f) (z-is f) (c .before .before .before .if1 .left) _ e (c .if3 .left))
+    let e = n .ensures .0 ∙ ap (λ (v : List ℕ). getD v 0 0 / 256) (part-to-end (ws f) 1) in (
+      (omega (arith, z-is f), z-in f),
+      if-more _ _ _ _ _ (form-is f) (x-is f) (y-is f) (z-is f) (c .before .before .before .if1 .left) _ e (c .if3 .left),
+    )
 
 pub of-if-spec : {M : Type 1} → statement M
 of-if-spec =

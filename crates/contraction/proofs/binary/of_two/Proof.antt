@@ -19,7 +19,8 @@ use Rattle.contraction.proofs.binary.of_two.Tie as tie
 
 module _ (c : tie.After-skip) where
   middle-is : 1 + c .skip .result ≡ 1 + span (drop 1 (c .before .before .before .args .words .now)) 1
-  middle-is = ap (λ (n : ℕ). 1 + n) (c .skip .ensures .1 ∙ ap (λ (v : List ℕ). span v 1) (part-to-end (c .before .before .before .args .words .now) 1))
+  middle-is =
+      ap (λ (n : ℕ). 1 + n) (c .skip .ensures .1 ∙ ap (λ (v : List ℕ). span v 1) (part-to-end (c .before .before .before .args .words .now) 1))
 
   middle-in : 1 + c .skip .result ≤ length (c .before .before .before .args .words .now)
   middle-in = omega (arith, c .skip .ensures .0, part-length (c .before .before .before .args .words .now) 1, c .before .before .before .pre .2)
@@ -35,7 +36,8 @@ module _ (c : tie.After-form-at) where
   known : TwoParts ws (c .form-at .result) middle (c .before .before .before .before .before .before .args .end)
   known =
       let e = c .before .before .before .before .before .before .pre .3 in
-      let n = span-next ws 1 middle 1 1 (middle-is (c .before .before .before)) (c .before .before .before .before .before .before .args .end) (e .is) in
+      let n = span-next ws 1 middle 1 1 (middle-is (c .before .before .before)) (c .before .before .before .before .before .before .args .end)
+      (e .is) in
       record {
         form-is = c .form-at .ensures ∙ ap formAt (part-to-end ws 1);
         middle-is = middle-is (c .before .before .before);
@@ -82,7 +84,9 @@ operator-requires : tie.Need-operator-requires
 operator-requires c κs = search needs
 
 of-apply-requires : tie.Need-of-apply-requires
-of-apply-requires c κs = (c .before .before .before .before .before .before .before .before .before .pre .0, c .before .before .before .before .before .before .before .before .before .pre .1, known (c .before .before .before))
+of-apply-requires c κs =
+    let mid = c .before .before .before .before .before .before .before .before in
+    (mid .before .pre .0, mid .before .pre .1, known (c .before .before .before))
 
 returns-2 : tie.Need-returns-2
 returns-2 c =
@@ -100,7 +104,8 @@ returns-4 c =
     let g = c .amiss .ensures in
     let f = c .before .before .before .before .before .before in (
       rw g (amiss-placed (length (ws f)) (leb 32 (getD (ws f) 0 0)) 1),
-      rw g (two-no-number _ _ _ _ (known f) _ (c .before .before .before .before .operator .ensures) (c .before .before .before .if2 .left) (c .before .before .if3 .left) (c .before .if4 .taken)),
+      rw g (two-no-number _ _ _ _ (known f) _ (c .before .before .before .before .operator .ensures) (c .before .before .before .if2 .left)
+          (c .before .before .if3 .left) (c .before .if4 .taken)),
     )
 
 mul-form-at : tie.Need-mul-form-at
@@ -128,7 +133,8 @@ returns-5 c =
     let h = c .before .before .form-at2 .ensures ∙ ap formAt (part-to-end (ws f) (middle f)) in
     let o = c .before .before .before .before .before .before .before .operator .ensures in (
       rw g (amiss-placed (length (ws f)) (leb 32 (getD (ws f) 0 0)) 1),
-      rw g (two-no-second _ _ _ _ (known f) _ o (c .before .before .before .before .before .before .if2 .left) (c .before .before .before .before .before .if3 .left) (c .before .before .before .before .if4 .left) _ h (c .before .if5 .taken)),
+      rw g (two-no-second _ _ _ _ (known f) _ o (c .before .before .before .before .before .before .if2 .left)
+          (c .before .before .before .before .before .if3 .left) (c .before .before .before .before .if4 .left) _ h (c .before .if5 .taken)),
     )
 
 sub-number-at : tie.Need-sub-number-at
@@ -163,16 +169,18 @@ sum-requires c κs = (c .before .before .before .number-at .ensures .1, c .befor
 
 returns-6 : tie.Need-returns-6
 returns-6 c =
+    let mid = c .before .before .before .before .before .before .before .before in
     let g = c .sum .ensures in
-    let f = c .before .before .before .before .before .before .before .before .before .before .before .before .before .before in
+    let f = mid .before .before .before .before .before .before in
     let a = c .before .before .before .before .number-at in
     let b = c .before .before .number-at2 in
-    let o = c .before .before .before .before .before .before .before .before .before .before .before .before .operator .ensures in
+    let o = mid .before .before .before .before .operator .ensures in
     let h = c .before .before .before .before .before .before .before .form-at2 .ensures ∙ ap formAt (part-to-end (ws f) (middle f)) in
     let x = a .ensures .0 ∙ ap (λ (v : List ℕ). getD v 0 0 / 256) (part-to-end (ws f) 1) in
     let y = b .ensures .0 ∙ ap (λ (v : List ℕ). getD v 0 0 / 256) (part-to-end (ws f) (middle f)) in (
       rw g (sum-placed (length (ws f)) (leb 32 (getD (ws f) 0 0)) (a .result) (b .result)),
-      rw g (two-plus _ _ _ _ (known f) _ o (c .before .before .before .before .before .before .before .before .before .before .before .if2 .left) (c .before .before .before .before .before .before .before .before .before .before .if3 .left) (c .before .before .before .before .before .before .before .before .before .if4 .left) _ h (c .before .before .before .before .before .before .if5 .left) _ _ x y (c .before .if6 .taken)),
+      rw g (two-plus _ _ _ _ (known f) _ o (mid .before .before .before .if2 .left) (mid .before .before .if3 .left) (mid .before .if4 .left) _ h
+          (c .before .before .before .before .before .before .if5 .left) _ _ x y (c .before .if6 .taken)),
     )
 
 difference-requires : tie.Need-difference-requires
@@ -183,17 +191,20 @@ numbered-requires c κs = search needs
 
 returns-7 : tie.Need-returns-7
 returns-7 c =
+    let mid = c .before .before .before .before .before .before .before .before in
     let g = c .numbered .ensures in
     let d = c .before .difference .ensures in
-    let f = c .before .before .before .before .before .before .before .before .before .before .before .before .before .before .before in
+    let f = mid .before .before .before .before .before .before .before in
     let a = c .before .before .before .before .before .number-at in
     let b = c .before .before .before .number-at2 in
-    let o = c .before .before .before .before .before .before .before .before .before .before .before .before .before .operator .ensures in
-    let h = c .before .before .before .before .before .before .before .before .form-at2 .ensures ∙ ap formAt (part-to-end (ws f) (middle f)) in
+    let o = mid .before .before .before .before .before .operator .ensures in
+    let h = mid .form-at2 .ensures ∙ ap formAt (part-to-end (ws f) (middle f)) in
     let x = a .ensures .0 ∙ ap (λ (v : List ℕ). getD v 0 0 / 256) (part-to-end (ws f) 1) in
     let y = b .ensures .0 ∙ ap (λ (v : List ℕ). getD v 0 0 / 256) (part-to-end (ws f) (middle f)) in (
       rw (g, d) (number-placed (length (ws f)) (leb 32 (getD (ws f) 0 0)) (a .result - b .result) (omega (arith, a .ensures .1))),
-      rw (g, d) (two-minus _ _ _ _ (known f) _ o (c .before .before .before .before .before .before .before .before .before .before .before .before .if2 .left) (c .before .before .before .before .before .before .before .before .before .before .before .if3 .left) (c .before .before .before .before .before .before .before .before .before .before .if4 .left) _ h (c .before .before .before .before .before .before .before .if5 .left) _ _ x y (c .before .before .if6 .left)),
+      rw (g, d) (two-minus _ _ _ _ (known f) _ o (mid .before .before .before .before .if2 .left) (mid .before .before .before .if3 .left)
+          (mid .before .before .if4 .left) _ h (c .before .before .before .before .before .before .before .if5 .left) _ _ x y
+          (c .before .before .if6 .left)),
     )
 
 pub of-two-spec : {M : Type 1} → statement M

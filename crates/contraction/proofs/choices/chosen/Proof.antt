@@ -22,9 +22,12 @@ module _ (c : tie.After-row-at) where
   some = omega (arith, c .before .before .if1 .left)
 
   -- Where its words end, by the parts that its shape has.
-  ends : (shape n : ℕ) → c .row-at .result .shape ≡ shape → partsBy shape (partCount (getD (c .before .before .before .before .args .words .now) 0 0)) ≡ n
+  ends : (shape n : ℕ) → c .row-at .result .shape ≡ shape
+      → partsBy shape (partCount (getD (c .before .before .before .before .args .words .now) 0 0)) ≡ n
       → Ends n (c .before .before .before .before .args .words .now) (c .before .before .before .before .args .end)
-  ends shape n e p = node-ends _ _ n some (c .before .before .before .before .pre .2) (shape-parts (getD (c .before .before .before .before .args .words .now) 0 0) shape (sym shape-is ∙ e) n p)
+  ends shape n e p =
+      node-ends _ _ n some (c .before .before .before .before .pre .2)
+      (shape-parts (getD (c .before .before .before .before .args .words .now) 0 0) shape (sym shape-is ∙ e) n p)
 
 returns : tie.Need-returns
 returns c = (tt, node-none _ (c .if1 .taken))
@@ -39,31 +42,53 @@ returns-2 : tie.Need-returns-2
 returns-2 c = (tt, node-wrong _ _ (shape-is (c .before)) (c .if2 .taken))
 
 of-one-requires : tie.Need-of-one-requires
-of-one-requires c κs = let r = c .before .before in (c .before .before .before .before .before .before .pre .0, c .before .before .before .before .before .before .pre .1, some r, ends r 4 1 (c .if3 .taken) refl)
+of-one-requires c κs =
+    let r = c .before .before in (
+      c .before .before .before .before .before .before .pre .0,
+      c .before .before .before .before .before .before .pre .1,
+      some r,
+      ends r 4 1 (c .if3 .taken) refl,
+    )
 
 returns-3 : tie.Need-returns-3
 returns-3 c = let g = c .of-one .ensures in (g .0, node-one _ _ (shape-is (c .before .before .before)) _ (c .before .if3 .taken) (g .1))
 
 of-two-requires : tie.Need-of-two-requires
-of-two-requires c κs = let r = c .before .before .before in (c .before .before .before .before .before .before .before .pre .0, c .before .before .before .before .before .before .before .pre .1, some r, ends r 5 2 (c .if4 .taken) refl)
+of-two-requires c κs =
+    let r = c .before .before .before in (
+      c .before .before .before .before .before .before .before .pre .0,
+      c .before .before .before .before .before .before .before .pre .1,
+      some r,
+      ends r 5 2 (c .if4 .taken) refl,
+    )
 
 returns-4 : tie.Need-returns-4
 returns-4 c = let g = c .of-two .ensures in (g .0, node-two _ _ (shape-is (c .before .before .before .before)) _ (c .before .if4 .taken) (g .1))
 
 of-if-requires : tie.Need-of-if-requires
-of-if-requires c κs = let r = c .before .before .before .before in (c .before .before .before .before .before .before .before .before .pre .0, c .before .before .before .before .before .before .before .before .pre .1, some r, ends r 6 3 (c .if5 .taken) refl)
+of-if-requires c κs =
+    let mid = c .before .before .before .before .before .before .before .before in
+    let r = c .before .before .before .before in (mid .pre .0, mid .pre .1, some r, ends r 6 3 (c .if5 .taken) refl)
 
 returns-5 : tie.Need-returns-5
 returns-5 c = let g = c .of-if .ensures in (g .0, node-if _ _ (shape-is (c .before .before .before .before .before)) _ (c .before .if5 .taken) (g .1))
 
 of-boundary-requires : tie.Need-of-boundary-requires
-of-boundary-requires c κs = let r = c .before .before .before .before .before in (c .before .before .before .before .before .before .before .before .before .pre .0, c .before .before .before .before .before .before .before .before .before .pre .1, some r, ends r 9 2 (c .if6 .taken) refl)
+of-boundary-requires c κs =
+    let mid = c .before .before .before .before .before .before .before .before in
+    let r = c .before .before .before .before .before in (mid .before .pre .0, mid .before .pre .1, some r, ends r 9 2 (c .if6 .taken) refl)
 
 returns-6 : tie.Need-returns-6
-returns-6 c = let g = c .of-boundary .ensures in (g .0, node-boundary _ _ (shape-is (c .before .before .before .before .before .before)) _ (c .before .if6 .taken) (g .1))
+returns-6 c =
+    let g = c .of-boundary .ensures in
+    (g .0, node-boundary _ _ (shape-is (c .before .before .before .before .before .before)) _ (c .before .if6 .taken) (g .1))
 
 returns-7 : tie.Need-returns-7
-returns-7 c = (tt, node-other _ _ (shape-is (c .before .before .before .before .before)) (c .before .before .before .before .if2 .left) (c .before .before .before .if3 .left) (c .before .before .if4 .left) (c .before .if5 .left) (c .if6 .left))
+returns-7 c = (
+  tt,
+  node-other _ _ (shape-is (c .before .before .before .before .before)) (c .before .before .before .before .if2 .left)
+      (c .before .before .before .if3 .left) (c .before .before .if4 .left) (c .before .if5 .left) (c .if6 .left),
+)
 
 pub chosen-spec : {M : Type 1} → statement M
 chosen-spec =

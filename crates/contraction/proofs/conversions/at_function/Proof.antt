@@ -2,7 +2,7 @@
 use borrow.Author.Needs.{needs}
 use mathlib.Core.List.{List}
 use mathlib.Core.Path.{_≡_, ap, _∙_}
-use Prim.Native.Nat.{ℕ, _+_, _-_}
+use Prim.Native.Nat.{ℕ, _+_}
 use lib.ListN.{length, drop}
 use borrow.Rule.Slice.PartAt.{part-to-end}
 use native.Mathlib.Omega.{arith}
@@ -17,7 +17,9 @@ use Rattle.contraction.proofs.conversions.at_function.Tie as tie
 -- Where the second type starts.
 module _ (c : tie.After-skip) where
   second-is : 2 + c .skip .result ≡ 2 + span (drop 2 (c .before .before .before .before .args .words .now)) 1
-  second-is = ap (λ (n : ℕ). 2 + n) (c .skip .ensures .1 ∙ ap (λ (v : List ℕ). span v 1) (part-to-end (c .before .before .before .before .args .words .now) 2))
+  second-is =
+      ap (λ (n : ℕ). 2 + n)
+      (c .skip .ensures .1 ∙ ap (λ (v : List ℕ). span v 1) (part-to-end (c .before .before .before .before .args .words .now) 2))
 
 refused-requires : tie.Need-refused-requires
 refused-requires c κs = search needs
@@ -27,7 +29,8 @@ returns c =
     let s = c .before .before .before in
     let p = s .pre .2 in
     let g = c .refused .ensures in (
-      rw g (refused-placed (length (s .args .words .now)) (s .args .scheme) 2 (s .args .value) (omega (arith, p .least)) (omega (arith, p .some, p .most))),
+      rw g (refused-placed (length (s .args .words .now)) (s .args .scheme) 2 (s .args .value) (omega (arith, p .least))
+          (omega (arith, p .some, p .most))),
       rw g (function-other _ _ _ _ p _ (c .before .if1 .taken)),
     )
 

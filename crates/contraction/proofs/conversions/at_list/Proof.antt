@@ -2,7 +2,7 @@
 use borrow.Author.Needs.{needs}
 use mathlib.Core.List.{List}
 use mathlib.Core.Path.{_≡_, ap, _∙_}
-use Prim.Native.Nat.{ℕ, _+_, _-_}
+use Prim.Native.Nat.{ℕ, _+_}
 use lib.ListN.{length, drop}
 use borrow.Rule.Slice.PartAt.{part-to-end}
 use native.Mathlib.Omega.{arith}
@@ -16,7 +16,8 @@ use Rattle.contraction.proofs.conversions.at_list.Tie as tie
 
 -- Where the tail of the cons starts.
 module _ (c : tie.After-skip) where
-  tail-is : let a = c .before .before .before .before .before .args in a .value + 1 + c .skip .result ≡ a .value + 1 + span (drop (a .value + 1) (a .words .now)) 1
+  tail-is : let a = c .before .before .before .before .before .args in a .value + 1 + c .skip .result
+      ≡ a .value + 1 + span (drop (a .value + 1) (a .words .now)) 1
   tail-is =
       let a = c .before .before .before .before .before .args in
       ap (λ (n : ℕ). a .value + 1 + n) (c .skip .ensures .1 ∙ ap (λ (v : List ℕ). span v 1) (part-to-end (a .words .now) (a .value + 1)))
@@ -37,7 +38,8 @@ returns-3 c =
     let s = c .before .before .before .before in
     let p = s .pre .2 in
     let g = c .refused .ensures in (
-      rw g (refused-placed (length (s .args .words .now)) (s .args .scheme) 3 (s .args .value) (omega (arith, p .least)) (omega (arith, p .some, p .most))),
+      rw g (refused-placed (length (s .args .words .now)) (s .args .scheme) 3 (s .args .value) (omega (arith, p .least))
+          (omega (arith, p .some, p .most))),
       rw g (list-other _ _ _ _ p _ (c .before .before .if1 .left) (c .before .if3 .taken)),
     )
 
@@ -66,17 +68,25 @@ add-tail-2 : tie.Need-add-tail-2
 add-tail-2 c = search needs
 
 returns-4 : tie.Need-returns-4
-returns-4 c = (tt, pair-absurd _ _ _ _ (c .before .before .before .before .before .before .pre .2) _ (tail-is (c .before)) (c .before .before .before .if3 .left) _ (c .if4 .taken))
+returns-4 c = (
+  tt,
+  pair-absurd _ _ _ _ (c .before .before .before .before .before .before .pre .2) _ (tail-is (c .before))
+      (c .before .before .before .if3 .left) _ (c .if4 .taken),
+)
 
 returns-5 : tie.Need-returns-5
 returns-5 c =
-    let p = c .before .before .before .before .before .before .before .pre .2 in
-    ((p .least, omega arith, omega (arith, c .before .if4 .left), p .most), known-list (c .if5 .taken) (pair-scheme _ _ _ _ p _ (tail-is (c .before .before)) (c .before .before .before .before .if3 .left)))
+    let p = c .before .before .before .before .before .before .before .pre .2 in (
+      (p .least, omega arith, omega (arith, c .before .if4 .left), p .most),
+      known-list (c .if5 .taken) (pair-scheme _ _ _ _ p _ (tail-is (c .before .before)) (c .before .before .before .before .if3 .left)),
+    )
 
 returns-6 : tie.Need-returns-6
 returns-6 c =
-    let p = c .before .before .before .before .before .before .before .pre .2 in
-    ((p .least, omega arith, omega (arith, c .before .if4 .left), p .most), known-list (c .if5 .left) (pair-ml _ _ _ _ p _ (tail-is (c .before .before)) (c .before .before .before .before .if3 .left)))
+    let p = c .before .before .before .before .before .before .before .pre .2 in (
+      (p .least, omega arith, omega (arith, c .before .if4 .left), p .most),
+      known-list (c .if5 .left) (pair-ml _ _ _ _ p _ (tail-is (c .before .before)) (c .before .before .before .before .if3 .left)),
+    )
 
 pub at-list-spec : {M : Type 1} → statement M
 at-list-spec =

@@ -1,7 +1,6 @@
 -- `contraction::conversions::at_lump` meets its contract. Assumes nothing.
 use borrow.Author.Needs.{needs}
 use borrow.Author.Tests.{not-true, not-false}
-use Prim.Native.Nat.{_-_}
 use native.Mathlib.Omega.{arith}
 use Rattle.contraction.proofs.Crossing.{known-type, lump-ml, lump-other, lump-absurd, lump-scheme}
 use borrow.Author.Needs.{needs}

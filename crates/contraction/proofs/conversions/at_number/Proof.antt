@@ -2,7 +2,7 @@
 use borrow.Author.Needs.{needs}
 use mathlib.Core.List.{List}
 use mathlib.Core.Path.{ap, _∙_}
-use Prim.Native.Nat.{ℕ, _-_, _/_}
+use Prim.Native.Nat.{ℕ, _/_}
 use lib.ListN.{length, getD}
 use borrow.Rule.Slice.PartAt.{part-to-end}
 use native.Mathlib.Omega.{arith}
@@ -20,7 +20,8 @@ returns c =
     let s = c .before .before .before in
     let p = s .pre in
     let g = c .refused .ensures in (
-      rw g (refused-placed (length (s .args .words .now)) (s .args .scheme) 1 (s .args .value) (omega (arith, p .least)) (omega (arith, p .some, p .most))),
+      rw g (refused-placed (length (s .args .words .now)) (s .args .scheme) 1 (s .args .value) (omega (arith, p .least))
+          (omega (arith, p .some, p .most))),
       rw g (number-other _ _ _ _ p _ (c .before .if1 .taken)),
     )
 

@@ -35,7 +35,8 @@ module _ (c : tie.After-skip) where
 
 -- What is known of the value.
 module _ (c : tie.After-form-at) where
-  known : Value (c .before .before .before .before .before .before .before .args .words .now) (c .form-at .result) (value (c .before .before .before .before)) (c .before .before .before .before .before .before .before .args .end)
+  known : Value (c .before .before .before .before .before .before .before .args .words .now) (c .form-at .result)
+      (value (c .before .before .before .before)) (c .before .before .before .before .before .before .before .args .end)
   known =
       let s = c .before .before .before .before in
       record {
@@ -97,33 +98,43 @@ at-number-requires c κs = known (c .before .before .before)
 
 returns-3 : tie.Need-returns-3
 returns-3 c =
+    let w = c .before .before .before .before .before .before .before .before .before .before .before .args .words .now in
     let g = c .at-number .ensures in
-    (g .0, at-N _ _ _ (sym (getD-drop 1 (c .before .before .before .before .before .before .before .before .before .before .before .args .words .now) 0 0)) (c .before .if3 .taken) (g .1))
+    (g .0, at-N _ _ _ (sym (getD-drop 1 w 0 0)) (c .before .if3 .taken) (g .1))
 
 at-lump-requires : tie.Need-at-lump-requires
-at-lump-requires c κs = (c .before .before .before .before .before .before .before .before .before .before .before .pre .1, known (c .before .before .before .before))
+at-lump-requires c κs =
+    (c .before .before .before .before .before .before .before .before .before .before .before .pre .1, known (c .before .before .before .before))
 
 returns-4 : tie.Need-returns-4
 returns-4 c =
+    let w = c .before .before .before .before .before .before .before .before .before .before .before .before .args .words .now in
     let g = c .at-lump .ensures in
-    (g .0, at-L _ _ _ (sym (getD-drop 1 (c .before .before .before .before .before .before .before .before .before .before .before .before .args .words .now) 0 0)) (c .before .if4 .taken) (g .1))
+    (g .0, at-L _ _ _ (sym (getD-drop 1 w 0 0)) (c .before .if4 .taken) (g .1))
 
 at-list-requires : tie.Need-at-list-requires
-at-list-requires c κs = (c .before .before .before .before .before .before .before .before .before .before .before .before .pre .0, c .before .before .before .before .before .before .before .before .before .before .before .before .pre .1, known (c .before .before .before .before .before))
+at-list-requires c κs =
+    let mid = c .before .before .before .before .before .before .before .before in
+    (mid .before .before .before .before .pre .0, mid .before .before .before .before .pre .1, known (c .before .before .before .before .before))
 
 returns-5 : tie.Need-returns-5
 returns-5 c =
+    let w = c .before .before .before .before .before .before .before .before .before .before .before .before .before .args .words .now in
     let g = c .at-list .ensures in
-    (g .0, at-list _ _ _ (sym (getD-drop 1 (c .before .before .before .before .before .before .before .before .before .before .before .before .before .args .words .now) 0 0)) (c .before .if5 .taken) (g .1))
+    (g .0, at-list _ _ _ (sym (getD-drop 1 w 0 0)) (c .before .if5 .taken) (g .1))
 
 at-function-requires : tie.Need-at-function-requires
-at-function-requires c κs = (c .before .before .before .before .before .before .before .before .before .before .before .before .pre .0, c .before .before .before .before .before .before .before .before .before .before .before .before .pre .1, known (c .before .before .before .before .before))
+at-function-requires c κs =
+    let mid = c .before .before .before .before .before .before .before .before in
+    (mid .before .before .before .before .pre .0, mid .before .before .before .before .pre .1, known (c .before .before .before .before .before))
 
 returns-6 : tie.Need-returns-6
 returns-6 c =
     let g = c .at-function .ensures in
-    let w = sym (getD-drop 1 (c .before .before .before .before .before .before .before .before .before .before .before .before .before .args .words .now) 0 0) in
-    (g .0, at-function _ _ _ w (c .before .before .before .if3 .left) (c .before .before .if4 .left) (c .before .if5 .left) (g .1))
+    let w = c .before .before .before .before .before .before .before .before .before .before .before .before .before .args .words .now in (
+      g .0,
+      at-function _ _ _ (sym (getD-drop 1 w 0 0)) (c .before .before .before .if3 .left) (c .before .before .if4 .left) (c .before .if5 .left) (g .1),
+    )
 
 pub of-boundary-spec : {M : Type 1} → statement M
 of-boundary-spec =

@@ -13,7 +13,8 @@ use Rattle.contraction.proofs.forms.form_at.Tie as tie
 
 -- The first word's shape is none of the three that tell a form.
 module _ (c : tie.Else4) where
-  rest : (n : ℕ) → formBy 0 (getD (c .before .before .before .before .before .before .before .args .words .now) 0 0) (getD (c .before .before .before .before .before .before .before .args .words .now) 1 0) ≡ n → n ≡ formAt (c .before .before .before .before .before .before .before .args .words .now)
+  rest : (n : ℕ) → let ws = c .before .before .before .before .before .before .before .args .words .now in formBy 0 (getD ws 0 0) (getD ws 1 0) ≡ n
+      → n ≡ formAt ws
   rest n q =
       let r = c .before .before .before .row-at in
       form-rest _ _ n (ap (λ r. r .shape) (r .ensures)) (c .before .before .if2 .left) (c .before .if3 .left) (c .if4 .left) q
@@ -33,13 +34,18 @@ returns-2 c = let r = c .before .row-at in form-is _ _ 1 (ap (λ r. r .shape) (r
 returns-3 : tie.Need-returns-3
 returns-3 c =
     let r = c .before .before .row-at in
-    form-is _ _ 2 (ap (λ r. r .shape) (r .ensures)) (rw (ne-eqb (r .result .shape) 2 (c .before .if2 .left), eq-eqb (r .result .shape) 3 (c .if3 .taken)))
+    form-is _ _ 2 (ap (λ r. r .shape) (r .ensures))
+    (rw (ne-eqb (r .result .shape) 2 (c .before .if2 .left), eq-eqb (r .result .shape) 3 (c .if3 .taken)))
 
 returns-4 : tie.Need-returns-4
 returns-4 c =
     let r = c .before .before .before .row-at in
     form-is _ _ 3 (ap (λ r. r .shape) (r .ensures))
-    (rw (ne-eqb (r .result .shape) 2 (c .before .before .if2 .left), ne-eqb (r .result .shape) 3 (c .before .if3 .left), eq-eqb (r .result .shape) 7 (c .if4 .taken)))
+    (rw (
+      ne-eqb (r .result .shape) 2 (c .before .before .if2 .left),
+      ne-eqb (r .result .shape) 3 (c .before .if3 .left),
+      eq-eqb (r .result .shape) 7 (c .if4 .taken),
+    ))
 
 returns-5 : tie.Need-returns-5
 returns-5 c = rest (c .before) 4 (rw (c .if5 .taken))
@@ -50,7 +56,8 @@ returns-6 c = rest (c .before .before) 4 (rw (c .if6 .taken))
 returns-7 : tie.Need-returns-7
 returns-7 c =
     let w = getD (c .before .before .before .before .before .before .before .before .before .before .args .words .now) 0 0 in
-    rest (c .before .before .before) 0 (rw (ne-eqb w 25 (c .before .before .if5 .left), ne-eqb w 40 (c .before .if6 .left), ne-eqb w 30 (c .if7 .taken)))
+    rest (c .before .before .before) 0
+    (rw (ne-eqb w 25 (c .before .before .if5 .left), ne-eqb w 40 (c .before .if6 .left), ne-eqb w 30 (c .if7 .taken)))
 
 returns-8 : tie.Need-returns-8
 returns-8 c =

@@ -1,6 +1,6 @@
 -- `contraction::numbers::number_at` meets its contract. Assumes nothing.
 use borrow.Author.Needs.{needs}
-use lib.ListN.{getD, List·getD-eq-default}
+use lib.ListN.{List·getD-eq-default}
 use native.Mathlib.Omega.{arith}
 use borrow.Author.Needs.{needs}
 use Rattle.contraction.proofs.numbers.number_at.Statement.{statement}

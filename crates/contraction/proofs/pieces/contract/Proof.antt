@@ -1,7 +1,6 @@
 -- `contraction::pieces::contract` meets its contract. Assumes nothing.
 use borrow.Author.Needs.{needs}
 use mathlib.Core.Path.{subst}
-use Prim.Native.Nat.{_-_}
 use lib.ListN.{length}
 use native.Mathlib.Omega.{arith}
 use Rattle.contraction.proofs.Dispatch.{stretch-length}
@@ -136,8 +135,10 @@ same-length c = search needs
 
 returns-3 : tie.Need-returns-3
 returns-3 c =
-    let w = c .before .before .put-number .ensures in
-    (known-rule (c .before .before .before .before .before .rule .given .1) (words-write (λ l u g. g) w), (omega (arith, w .place), omega (arith, w .place)))
+    let w = c .before .before .put-number .ensures in (
+      known-rule (c .before .before .before .before .before .rule .given .1) (words-write (λ l u g. g) w),
+      (omega (arith, w .place), omega (arith, w .place)),
+    )
 
 same-length-2 : tie.Need-same-length-2
 same-length-2 c = search needs

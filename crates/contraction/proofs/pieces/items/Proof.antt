@@ -1,7 +1,6 @@
 -- `contraction::pieces::items` meets its contract. Assumes nothing.
 use borrow.Author.Needs.{needs}
-use Prim.Native.Nat.{_+_, _-_}
-use lib.ListN.{length}
+use Prim.Native.Nat.{_+_}
 use native.Mathlib.Omega.{arith}
 use Rattle.writing.proofs.Stores.{then}
 use Rattle.contraction.proofs.Dispatch.{stretch-length}
@@ -29,26 +28,37 @@ sub-copy : tie.Need-sub-copy
 sub-copy c = let p = c .before .before .before .before .before .before .before .before .before .before .pre .1 in omega (arith, p .1, p .2, p .3)
 
 part-copy-start : tie.Need-part-copy-start
-part-copy-start c = let p = c .before .before .before .before .before .before .before .before .before .before .pre .1 in omega (arith, p .1, p .2, p .3)
+part-copy-start c =
+    let p = c .before .before .before .before .before .before .before .before .before .before .pre .1 in omega (arith, p .1, p .2, p .3)
 
 part-copy-end : tie.Need-part-copy-end
 part-copy-end c = let p = c .before .before .before .before .before .before .before .before .before .before .pre .1 in omega (arith, p .1, p .2, p .3)
 
 copy-requires : tie.Need-copy-requires
 copy-requires c κs =
-    let s = c .before .before .before .before .before .before .before .before .before .before .before .before in
+    let mid = c .before .before .before .before .before .before .before .before in
+    let s = mid .before .before .before .before in
     let l = stretch-length (s .args .words .now) (s .args .value + 1) (s .args .tail) in
-    omega (arith, l, c .before .before .before .before .before .before .before .before .put .ensures .place, c .before .before .before .before .lead .ensures .1 .1, s .pre .0)
+    omega (arith, l, mid .put .ensures .place, c .before .before .before .before .lead .ensures .1 .1, s .pre .0)
 
 lead-requires-2 : tie.Need-lead-requires-2
 lead-requires-2 c κs =
-    let s = c .before .before .before .before .before .before .before .before .before .before .before .before .before .before .before .before in
+    let mid = c .before .before .before .before .before .before .before .before in
+    let far = mid .before .before .before .before .before .before .before .before in
+    let s = far in
     let l = stretch-length (s .args .words .now) (s .args .value + 1) (s .args .tail) in
     let p = s .pre .1 in (
       s .pre .0 .0,
       omega (arith, p .0),
       omega (arith, p .1, p .2, p .3),
-      omega (arith, l, c .before .before .before .before .before .before .before .before .before .before .before .before .put .ensures .place, c .before .before .before .before .before .before .before .before .lead .ensures .1 .1, c .before .before .before .copy .ensures .place, s .pre .0),
+      omega (
+        arith,
+        l,
+        mid .before .before .before .before .put .ensures .place,
+        mid .lead .ensures .1 .1,
+        c .before .before .before .copy .ensures .place,
+        s .pre .0,
+      ),
     )
 
 mul-copy-2 : tie.Need-mul-copy-2
@@ -65,22 +75,35 @@ part-copy-end-2 c = search needs
 
 copy-requires-2 : tie.Need-copy-requires-2
 copy-requires-2 c κs =
-    let s = c .before .before .before .before .before .before .before .before .before .before .before .before .before .before .before .before .before .before .before .before .before in
+    let mid = c .before .before .before .before .before .before .before .before in
+    let far = mid .before .before .before .before .before .before .before .before in
+    let s = far .before .before .before .before .before in
     let l = stretch-length (s .args .words .now) (s .args .value + 1) (s .args .tail) in
     let m = stretch-length (s .args .words .now) (s .args .tail) (s .args .end) in
-    omega (arith, l, m, c .before .before .before .before .before .before .before .before .before .before .before .before .before .before .before .before .before .put .ensures .place, c .before .before .before .before .before .before .before .before .before .before .before .before .before .lead .ensures .1 .1, c .before .before .before .before .before .before .before .before .copy .ensures .place, c .before .before .before .before .lead2 .ensures .1 .1, s .pre .0)
+    omega (
+      arith,
+      l,
+      m,
+      far .before .put .ensures .place,
+      mid .before .before .before .before .before .lead .ensures .1 .1,
+      mid .copy .ensures .place,
+      c .before .before .before .before .lead2 .ensures .1 .1,
+      s .pre .0,
+    )
 
 same-length : tie.Need-same-length
 same-length c = search needs
 
 returns : tie.Need-returns
 returns c =
-    let s = c .before .before .before .before .before .before .before .before .before .before .before .before .before .before .before .before .before .before .before .before .before .before .before .before in
+    let mid = c .before .before .before .before .before .before .before .before in
+    let far = mid .before .before .before .before .before .before .before .before in
+    let s = far .before .before .before .before .before .before .before .before in
     let l = stretch-length (s .args .words .now) (s .args .value + 1) (s .args .tail) in
     let m = stretch-length (s .args .words .now) (s .args .tail) (s .args .end) in
-    let a = c .before .before .before .before .before .before .before .before .before .before .before .before .before .before .before .before .before .before .before .before .put .ensures in
-    let b = c .before .before .before .before .before .before .before .before .before .before .before .before .before .before .before .before .lead .ensures in
-    let d = c .before .before .before .before .before .before .before .before .before .before .before .copy .ensures in
+    let a = far .before .before .before .before .put .ensures in
+    let b = far .lead .ensures in
+    let d = mid .before .before .before .copy .ensures in
     let e = c .before .before .before .before .before .before .before .lead2 .ensures in
     let f = c .before .before .copy2 .ensures in (
       then a (then (b .0) (then d (then (e .0) f))),

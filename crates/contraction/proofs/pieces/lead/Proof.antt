@@ -1,7 +1,5 @@
 -- `contraction::pieces::lead` meets its contract. Assumes nothing.
 use borrow.Author.Needs.{needs}
-use Prim.Native.Nat.{_-_}
-use lib.ListN.{length}
 use native.Mathlib.Omega.{arith}
 use Rattle.writing.proofs.Stores.{then}
 use Rattle.contraction.proofs.Dispatch.{stretch-length}
@@ -25,7 +23,15 @@ part-copy-end : tie.Need-part-copy-end
 part-copy-end c = search needs
 
 copy-requires : tie.Need-copy-requires
-copy-requires c κs = let s = c .before .before .before .before .before .before .before .before in omega (arith, stretch-length (s .args .words .now) (s .args .a) (s .args .e), c .before .before .before .before .put .ensures .place, s .pre .0, s .pre .3)
+copy-requires c κs =
+    let s = c .before .before .before .before .before .before .before .before in
+    omega (
+      arith,
+      stretch-length (s .args .words .now) (s .args .a) (s .args .e),
+      c .before .before .before .before .put .ensures .place,
+      s .pre .0,
+      s .pre .3,
+    )
 
 same-length : tie.Need-same-length
 same-length c = search needs

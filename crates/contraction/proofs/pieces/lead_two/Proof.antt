@@ -1,7 +1,5 @@
 -- `contraction::pieces::lead_two` meets its contract. Assumes nothing.
 use borrow.Author.Needs.{needs}
-use Prim.Native.Nat.{_-_}
-use lib.ListN.{length}
 use native.Mathlib.Omega.{arith}
 use Rattle.writing.proofs.Stores.{then}
 use borrow.Author.Needs.{needs}
@@ -12,7 +10,9 @@ put-requires : tie.Need-put-requires
 put-requires c κs = search needs
 
 lead-requires : tie.Need-lead-requires
-lead-requires c κs = let s = c .before .before .before .before .before .before .before in (s .pre .0, s .pre .1, s .pre .2, omega (arith, c .before .before .before .put .ensures .place, s .pre .3))
+lead-requires c κs =
+    let s = c .before .before .before .before .before .before .before in
+    (s .pre .0, s .pre .1, s .pre .2, omega (arith, c .before .before .before .put .ensures .place, s .pre .3))
 
 same-length : tie.Need-same-length
 same-length c = search needs

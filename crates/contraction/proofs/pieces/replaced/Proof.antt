@@ -1,8 +1,5 @@
 -- `contraction::pieces::replaced` meets its contract. Assumes nothing.
 use borrow.Author.Needs.{needs}
-use mathlib.Core.Path.{subst}
-use Prim.Native.Nat.{_-_}
-use lib.ListN.{length}
 use native.Mathlib.Omega.{arith}
 use Rattle.nodes.proofs.Ways.{part-length}
 use Rattle.contraction.proofs.Dispatch.{stretch-length}
@@ -40,8 +37,10 @@ substitute-requires c κs =
     let s = c .before .before .before .before .before in
     let p = s .pre .1 in
     let l = part-length (s .args .words .now) (s .args .body) in
-    let m = stretch-length (s .args .words .now) (s .args .a) (s .args .e) in
-    ((s .pre .0 .0, omega (arith, l, p .1, s .pre .0 .1)), (omega (arith, m, s .pre .0 .1), omega (arith, l, p .0, s .pre .0 .1), omega (arith, l, s .pre .0 .1, s .pre .0 .2)))
+    let m = stretch-length (s .args .words .now) (s .args .a) (s .args .e) in (
+      (s .pre .0 .0, omega (arith, l, p .1, s .pre .0 .1)),
+      (omega (arith, m, s .pre .0 .1), omega (arith, l, p .0, s .pre .0 .1), omega (arith, l, s .pre .0 .1, s .pre .0 .2)),
+    )
 
 same-length : tie.Need-same-length
 same-length c = search needs

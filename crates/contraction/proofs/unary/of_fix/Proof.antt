@@ -3,7 +3,6 @@ use borrow.Author.Needs.{needs}
 use mathlib.Core.Path.{ap, _∙_}
 use Prim.Native.Nat.{ℕ, _+_}
 use mathlib.Core.List.{List}
-use lib.ListN.{length}
 use borrow.Rule.Slice.PartAt.{part-to-end}
 use native.Mathlib.Omega.{arith}
 use Rattle.nodes.proofs.Ways.{part-length}
@@ -26,10 +25,12 @@ part-skip-end : tie.Need-part-skip-end
 part-skip-end c = search needs
 
 skip-requires : tie.Need-skip-requires
-skip-requires c κs = (c .before .before .before .pre .0, omega (arith, part-length (c .before .before .before .args .words .now) 2, c .before .before .before .pre .1))
+skip-requires c κs =
+    (c .before .before .before .pre .0, omega (arith, part-length (c .before .before .before .args .words .now) 2, c .before .before .before .pre .1))
 
 add-body : tie.Need-add-body
-add-body c = omega (arith, c .skip .ensures .0, part-length (c .before .before .before .before .args .words .now) 2, c .before .before .before .before .pre .1)
+add-body c =
+    omega (arith, c .skip .ensures .0, part-length (c .before .before .before .before .args .words .now) 2, c .before .before .before .before .pre .1)
 
 returns-2 : tie.Need-returns-2
 returns-2 c =

@@ -3,13 +3,14 @@ use borrow.Author.Needs.{needs}
 use mathlib.Core.List.{List}
 use mathlib.Core.Path.{_≡_, refl, ap, _∙_}
 use Prim.Native.Nat.{ℕ, _+_}
-use lib.ListN.{length, drop}
+use lib.ListN.{drop}
 use borrow.Rule.Slice.PartAt.{part-to-end}
 use native.Mathlib.Omega.{arith}
 use Rattle.nodes.proofs.Ways.{part-length}
 use Rattle.writing.specs.Spans.{span}
 use Rattle.contraction.proofs.Looks.{amiss-placed}
-use Rattle.contraction.proofs.OnePart.{known-list, list-other, list-nil-scheme, list-nil-head, list-nil-tail, list-absurd, list-head, list-tail}
+use Rattle.contraction.proofs.OnePart.{known-list, list-other, list-nil-scheme, list-nil-head, list-nil-tail, list-absurd, list-head}
+use Rattle.contraction.proofs.OnePart.{list-tail}
 use borrow.Author.Needs.{needs}
 use Rattle.contraction.proofs.unary.of_list.Statement.{statement}
 use Rattle.contraction.proofs.unary.of_list.Tie as tie
@@ -17,7 +18,9 @@ use Rattle.contraction.proofs.unary.of_list.Tie as tie
 -- Where the tail of a cons starts.
 module _ (c : tie.After-skip) where
   middle : 2 + c .skip .result ≡ 2 + span (drop 2 (c .before .before .before .before .args .words .now)) 1
-  middle = ap (λ (n : ℕ). 2 + n) (c .skip .ensures .1 ∙ ap (λ (v : List ℕ). span v 1) (part-to-end (c .before .before .before .before .args .words .now) 2))
+  middle =
+      ap (λ (n : ℕ). 2 + n)
+      (c .skip .ensures .1 ∙ ap (λ (v : List ℕ). span v 1) (part-to-end (c .before .before .before .before .args .words .now) 2))
 
 sub-skip : tie.Need-sub-skip
 sub-skip c = omega (arith, c .before .before .pre .2 .least, c .before .before .pre .2 .most)
@@ -29,13 +32,17 @@ part-skip-end : tie.Need-part-skip-end
 part-skip-end c = search needs
 
 skip-requires : tie.Need-skip-requires
-skip-requires c κs = (c .before .before .before .pre .0, omega (arith, part-length (c .before .before .before .args .words .now) 2, c .before .before .before .pre .1))
+skip-requires c κs =
+    (c .before .before .before .pre .0, omega (arith, part-length (c .before .before .before .args .words .now) 2, c .before .before .before .pre .1))
 
 add-middle : tie.Need-add-middle
-add-middle c = omega (arith, c .skip .ensures .0, part-length (c .before .before .before .before .args .words .now) 2, c .before .before .before .before .pre .1)
+add-middle c =
+    omega (arith, c .skip .ensures .0, part-length (c .before .before .before .before .args .words .now) 2, c .before .before .before .before .pre .1)
 
 returns : tie.Need-returns
-returns c = let s = c .before .before .before .before .before in (tt, list-absurd _ _ _ (s .pre .2) _ (middle (c .before)) (c .before .before .before .if1 .taken) _ _ (c .if2 .taken))
+returns c =
+    let s = c .before .before .before .before .before in
+    (tt, list-absurd _ _ _ (s .pre .2) _ (middle (c .before)) (c .before .before .before .if1 .taken) _ _ (c .if2 .taken))
 
 returns-2 : tie.Need-returns-2
 returns-2 c =
@@ -56,8 +63,10 @@ amiss-requires c κs = search needs
 
 returns-4 : tie.Need-returns-4
 returns-4 c =
-    let s = c .before .before .before .before in
-    (rw (c .amiss .ensures) (amiss-placed _ (s .args .scheme) 3), rw (c .amiss .ensures) (list-other _ _ _ (s .pre .2) _ _ (c .before .if4 .taken) (c .before .before .if1 .left)))
+    let s = c .before .before .before .before in (
+      rw (c .amiss .ensures) (amiss-placed _ (s .args .scheme) 3),
+      rw (c .amiss .ensures) (list-other _ _ _ (s .pre .2) _ _ (c .before .if4 .taken) (c .before .before .if1 .left)),
+    )
 
 returns-5 : tie.Need-returns-5
 returns-5 c =

@@ -44,7 +44,11 @@ operator-requires : tie.Need-operator-requires
 operator-requires c κs = search needs
 
 of-fix-requires : tie.Need-of-fix-requires
-of-fix-requires c κs = (c .before .before .before .before .before .before .before .pre .0, c .before .before .before .before .before .before .before .pre .1, known (c .before .before .before))
+of-fix-requires c κs = (
+  c .before .before .before .before .before .before .before .pre .0,
+  c .before .before .before .before .before .before .before .pre .1,
+  known (c .before .before .before),
+)
 
 returns-2 : tie.Need-returns-2
 returns-2 c =
@@ -57,24 +61,34 @@ of-null-requires c κs = search needs
 returns-3 : tie.Need-returns-3
 returns-3 c =
     let g = c .of-null .ensures in
-    let f = c .before .before .before .before .before in
-    (rw g (null-placed (length (c .before .before .before .before .before .before .before .before .before .args .words .now)) (f .form-at .result)), rw g (one-null _ _ _ (known f) _ (c .before .before .before .operator .ensures) (c .before .if3 .taken)))
+    let f = c .before .before .before .before .before in (
+      rw g (null-placed (length (c .before .before .before .before .before .before .before .before .before .args .words .now)) (f .form-at .result)),
+      rw g (one-null _ _ _ (known f) _ (c .before .before .before .operator .ensures) (c .before .if3 .taken)),
+    )
 
 answer-requires : tie.Need-answer-requires
 answer-requires c κs = search needs
 
 returns-4 : tie.Need-returns-4
 returns-4 c =
-    let g = c .answer .ensures in
-    ((omega arith, omega (arith, g .1)), rw (g .0) (one-test _ _ _ (known (c .before .before .before .before .before .before)) _ (c .before .before .before .before .operator .ensures) (c .before .if4 .taken)))
+    let g = c .answer .ensures in (
+      (omega arith, omega (arith, g .1)),
+      rw (g .0) (one-test _ _ _ (known (c .before .before .before .before .before .before)) _ (c .before .before .before .before .operator .ensures)
+          (c .before .if4 .taken)),
+    )
 
 of-list-requires : tie.Need-of-list-requires
-of-list-requires c κs = (c .before .before .before .before .before .before .before .before .before .pre .0, c .before .before .before .before .before .before .before .before .before .pre .1, known (c .before .before .before .before .before))
+of-list-requires c κs =
+    let mid = c .before .before .before .before .before .before .before .before in
+    (mid .before .pre .0, mid .before .pre .1, known (c .before .before .before .before .before))
 
 returns-5 : tie.Need-returns-5
 returns-5 c =
-    let g = c .of-list .ensures in
-    (g .0, one-list _ _ _ (known (c .before .before .before .before .before .before)) _ (c .before .before .before .before .operator .ensures) _ (c .before .before .before .if2 .left) (c .before .before .if3 .left) (c .before .if4 .left) (g .1))
+    let g = c .of-list .ensures in (
+      g .0,
+      one-list _ _ _ (known (c .before .before .before .before .before .before)) _ (c .before .before .before .before .operator .ensures) _
+          (c .before .before .before .if2 .left) (c .before .before .if3 .left) (c .before .if4 .left) (g .1),
+    )
 
 pub of-one-spec : {M : Type 1} → statement M
 of-one-spec =

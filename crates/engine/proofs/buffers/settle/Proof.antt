@@ -23,7 +23,9 @@ same-length-2 : tie.Need-same-length-2
 same-length-2 c = search needs
 
 returns : tie.Need-returns
-returns c = rw (c .before .before .before .before .before .before .before .before .if1 .taken) (record { first-is = c .before .before .before .before .before .before .clear .ensures; second-is = c .before .before .clear2 .ensures })
+returns c =
+    rw (c .before .before .before .before .before .before .before .before .if1 .taken)
+    (record { first-is = c .before .before .before .before .before .before .clear .ensures; second-is = c .before .before .clear2 .ensures })
 
 slice-reshare-prefix-copy : tie.Need-slice-reshare-prefix-copy
 slice-reshare-prefix-copy c = search needs
@@ -32,7 +34,8 @@ slice-aggregate-copy : tie.Need-slice-aggregate-copy
 slice-aggregate-copy c = let s = c .before .before .before .before in sym (length-take-le (s .args .n) (s .args .second .now) (s .pre .1))
 
 copy-requires : tie.Need-copy-requires
-copy-requires c κs = let s = c .before .before .before .before .before in omega (arith, length-take-le (s .args .n) (s .args .second .now) (s .pre .1), s .pre .2)
+copy-requires c κs =
+    let s = c .before .before .before .before .before in omega (arith, length-take-le (s .args .n) (s .args .second .now) (s .pre .1), s .pre .2)
 
 clear-requires-3 : tie.Need-clear-requires-3
 clear-requires-3 c κs = search needs
@@ -48,12 +51,15 @@ same-length-4 c = search needs
 
 returns-2 : tie.Need-returns-2
 returns-2 c =
-    let s = c .before .before .before .before .before .before .before .before .before .before .before .before .before .before .before .before in
-    let copied = c .before .before .before .before .before .before .before .before .before .before .copy in
-    let front = front-copied (s .args .second .now) (s .args .first .now) (copied .last .1 .0) (s .args .n) (copied .result) (s .pre .1) (s .pre .0) (copied .ensures) in
-    rw (c .before .before .before .before .before .before .before .before .before .before .before .before .before .if1 .left)
+    let mid = c .before .before .before .before .before .before .before .before in
+    let s = mid .before .before .before .before .before .before .before .before in
+    let copied = mid .before .before .copy in
+    let front = front-copied (s .args .second .now) (s .args .first .now) (copied .last .1 .0) (s .args .n) (copied .result) (s .pre .1) (s .pre .0)
+    (copied .ensures) in
+    rw (mid .before .before .before .before .before .if1 .left)
     (record {
-      first-is = c .before .before .before .before .before .before .clear3 .ensures ∙ ap (λ (k : ℕ). padded k (take (s .args .n) (copied .last .1 .0))) (copied .kept .1 .0) ∙ ap (padded (length (s .args .first .now))) front;
+      first-is = c .before .before .before .before .before .before .clear3 .ensures
+          ∙ ap (λ (k : ℕ). padded k (take (s .args .n) (copied .last .1 .0))) (copied .kept .1 .0) ∙ ap (padded (length (s .args .first .now))) front;
       second-is = c .before .before .clear4 .ensures;
     })
 

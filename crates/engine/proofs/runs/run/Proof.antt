@@ -14,8 +14,10 @@ use Rattle.engine.proofs.runs.start.Reads as start-reads
 use Rattle.file.proofs.open.Reads as open-reads
 
 -- What is known of an opened file.
-known : (c : lts.After-types (open-reads.Asked, open-reads.Learnt, refused-reads.Asked, refused-reads.Learnt, start-reads.Asked, start-reads.Learnt) reads.Pre reads.Post)
-    → Opens (c .before .before .before .before .before .before .before .args .file .now) (c .before .before .«open» .last .1 .0) (c .types .given .0 .0) (c .types .given .0 .1 .0)
+known : (c : lts.After-types
+    (open-reads.Asked, open-reads.Learnt, refused-reads.Asked, refused-reads.Learnt, start-reads.Asked, start-reads.Learnt) reads.Pre reads.Post)
+    → Opens (c .before .before .before .before .before .before .before .args .file .now) (c .before .before .«open» .last .1 .0)
+    (c .types .given .0 .0) (c .types .given .0 .1 .0)
 known c = let e = c .before .before .«open» .ensures in opens _ _ (ap opened (sym (c .types .given .1)) ∙ e .0) (e .1)
 
 open-requires : tie.Need-open-requires
@@ -37,7 +39,8 @@ slice-aggregate-start : tie.Need-slice-aggregate-start
 slice-aggregate-start c = let k = known (c .before .before) in rw (k .words-are) (k .count-is)
 
 start-requires : tie.Need-start-requires
-start-requires c κs = let k = known (c .before .before .before .before) in rw (k .words-are) (k .fits, k .types-are, omega (arith, k .count-is, k .few))
+start-requires c κs =
+    let k = known (c .before .before .before .before) in rw (k .words-are) (k .fits, k .types-are, omega (arith, k .count-is, k .few))
 
 same-length : tie.Need-same-length
 same-length c = search needs
@@ -47,8 +50,12 @@ same-length-2 c = search needs
 
 returns : tie.Need-returns
 returns c =
-    let r = c .before .before .before .before .before .before .before .before .r .given in
-    run-refused (c .before .before .before .before .before .before .before .before .before .before .before .before .before .before .before .args .file .now) (c .before .before .before .before .before .before .before .before .before .before .before .before .before .before .before .args .limit) (r .0 .0) (check-refused (c .before .before .before .before .before .before .before .before .before .before .before .before .before .before .before .args .file .now) (ap opened (sym (r .1)) ∙ c .before .before .before .before .before .before .before .before .before .before .«open» .ensures .0)) (c .before .before .before .before .refused .ensures)
+    let mid = c .before .before .before .before .before .before .before .before in
+    let r = mid .r .given in
+    run-refused (mid .before .before .before .before .before .before .before .args .file .now)
+    (mid .before .before .before .before .before .before .before .args .limit) (r .0 .0)
+    (check-refused (mid .before .before .before .before .before .before .before .args .file .now)
+    (ap opened (sym (r .1)) ∙ mid .before .before .«open» .ensures .0)) (c .before .before .before .before .refused .ensures)
 
 same-length-3 : tie.Need-same-length-3
 same-length-3 c = search needs
@@ -57,7 +64,10 @@ same-length-4 : tie.Need-same-length-4
 same-length-4 c = search needs
 
 returns-2 : tie.Need-returns-2
-returns-2 c = run-started (c .before .before .before .before .before .before .before .before .before .before .before .before .before .before .before .before .args .file .now) (c .before .before .before .before .before .before .before .before .before .before .before .before .before .before .before .before .args .limit) (known (c .before .before .before .before .before .before .before .before .before)) (c .before .before .before .before .start .ensures)
+returns-2 c =
+    let mid = c .before .before .before .before .before .before .before .before in
+    let far = mid .before .before .before .before .before .before .before .before in
+    run-started (far .args .file .now) (far .args .limit) (known (mid .before)) (c .before .before .before .before .start .ensures)
 
 pub run-spec : {M : Type 1} → statement M
 run-spec =

@@ -45,10 +45,12 @@ same-length-2 c = search needs
 
 returns : tie.Need-returns
 returns c =
-    let s = c .before .before .before .before .before .before .before .before .before .before .before .before .before .before in
-    let j = c .before .before .before .before .before .before .before .before .before .before .judge in
-    let r = c .before .before .before .before .before .before .before .before .r .given in
-    started-refused (s .args .words .now) (s .args .limit) (r .0 .0) (subst (Judged (s .args .words .now)) (r .1) (j .ensures)) (c .before .before .before .before .refused .ensures)
+    let mid = c .before .before .before .before .before .before .before .before in
+    let s = mid .before .before .before .before .before .before in
+    let j = mid .before .before .judge in
+    let r = mid .r .given in
+    started-refused (s .args .words .now) (s .args .limit) (r .0 .0) (subst (Judged (s .args .words .now)) (r .1) (j .ensures))
+    (c .before .before .before .before .refused .ensures)
 
 same-length-3 : tie.Need-same-length-3
 same-length-3 c = search needs
@@ -58,10 +60,12 @@ same-length-4 c = search needs
 
 returns-2 : tie.Need-returns-2
 returns-2 c =
-    let s = c .before .before .before .before .before .before .before .before .before .before .before .before .before .before in
-    let j = c .before .before .before .before .before .before .before .before .before .before .judge in
-    let q = c .before .before .before .before .before .before .before .before .enum-told .given .1 in
-    started-begun (s .args .words .now) (s .args .limit) (4 + s .args .types) (subst (Judged (s .args .words .now)) q (j .ensures)) (ap (λ (k : ℕ). 4 + k) (s .pre .1)) (c .before .before .before .before .begin .ensures)
+    let mid = c .before .before .before .before .before .before .before .before in
+    let s = mid .before .before .before .before .before .before in
+    let j = mid .before .before .judge in
+    let q = mid .enum-told .given .1 in
+    started-begun (s .args .words .now) (s .args .limit) (4 + s .args .types) (subst (Judged (s .args .words .now)) q (j .ensures))
+    (ap (λ (k : ℕ). 4 + k) (s .pre .1)) (c .before .before .before .before .begin .ensures)
 
 pub start-spec : {M : Type 1} → statement M
 start-spec =

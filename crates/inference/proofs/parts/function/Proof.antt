@@ -18,7 +18,9 @@ same-length : tie.Need-same-length
 same-length c = search needs
 
 returns : tie.Need-returns
-returns c = let a = c .before .before .args in linked (a .link .now) (a .at) (a .t) (c .link-to .result) (c .before .before .pre) (c .link-to .ensures) (a .next)
+returns c =
+    let a = c .before .before .args in
+    linked (a .link .now) (a .at) (a .t) (c .link-to .result) (c .before .before .pre) (c .link-to .ensures) (a .next)
 
 pub function-spec : {M : Type 1} → statement M
 function-spec = tie.close (tie.spec link-to-requires mul-link slice-write-link same-length returns)

@@ -21,7 +21,10 @@ same-length : tie.Need-same-length
 same-length c = search needs
 
 returns-2 : tie.Need-returns-2
-returns-2 c = let a = c .before .before .before .args in entered (a .link .now) (a .at) (a .scope) (c .link-to .result) (c .before .before .before .pre) (c .link-to .ensures) (a .shape) (c .before .if1 .left)
+returns-2 c =
+    let a = c .before .before .before .args in
+    entered (a .link .now) (a .at) (a .scope) (c .link-to .result) (c .before .before .before .pre) (c .link-to .ensures) (a .shape)
+    (c .before .if1 .left)
 
 pub scope-within-spec : {M : Type 1} → statement M
 scope-within-spec =

@@ -56,8 +56,13 @@ loop-again c =
     let l = c .before .before .before .before .before .loop in
     let ws = c .before .before .before .before .before .before .before .args .words .now in
     let n = c .count in
-    let e : n .result ≡ partCount (getD ws (l .i) 0) = n .ensures .0 ∙ ap (λ r. length (sortsOf (r .parts))) (c .before .row-at .ensures) ∙ sym (part-count (getD ws (l .i) 0)) in
-    (omega arith, omega (arith, l .inv .1, n .ensures .1), span-turn ws (l .left) (l .i) (n .result) _ (c .before .before .before .if1 .left) (c .before .before .before .before .loop-test .taken) e (l .inv .2))
+    let e : n .result ≡ partCount (getD ws (l .i) 0) = n .ensures .0 ∙ ap (λ r. length (sortsOf (r .parts))) (c .before .row-at .ensures)
+    ∙ sym (part-count (getD ws (l .i) 0)) in (
+      omega arith,
+      omega (arith, l .inv .1, n .ensures .1),
+      span-turn ws (l .left) (l .i) (n .result) _ (c .before .before .before .if1 .left) (c .before .before .before .before .loop-test .taken) e
+          (l .inv .2),
+    )
 
 returns-2 : tie.Need-returns-2 Inv-loop μ-loop
 returns-2 c =
