@@ -7,7 +7,7 @@ use lib.Dec.{T}
 use lib.ListN.{getD, drop}
 use lib.Seq.{drop-drop}
 use native.Mathlib.Omega.{arith}
-use Rattle.calculus.specs.Trees.{Ty, N, L, _to_, Lang, ml, sc, Term, wrong}
+use Rattle.calculus.specs.Trees.{Ty, N, L, Lang, ml, sc, Term, wrong}
 use Rattle.calculus.specs.Words.{word, put, putTy, size, sizeTy}
 use Rattle.calculus.specs.Kinds.{type, term}
 use Rattle.calculus.specs.Reduction.{form, becomes, nothing, onNumber, onLump, toML, toScheme}

@@ -14,7 +14,6 @@ use Rattle.calculus.proofs.Views.{view, sized}
 use Rattle.nodes.specs.Table.{shapeNumber, rowOf}
 use Rattle.writing.proofs.Trees.{head-is, shape-is}
 use Rattle.contraction.specs.Forms.{formNumber, formBy, formAt}
-pub use Rattle.nodes.proofs.Terms.{Shaped, a-variable, a-number, a-lambda, one-part, two-parts, a-choice, a-nil, a-wrong, an-ms, an-sm, by-shape}
 
 -- A value by its form.
 pub data Formed : (l : Lang) → ℕ → Term l → Type 0 where

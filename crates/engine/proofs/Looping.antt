@@ -58,17 +58,26 @@ pub record Running (first₀ second₀ : List ℕ) (count cap limit : ℕ) (firs
   pub second-length : length second ≡ length second₀
   pub room : n ≤ cap
   pub left : made .steps ≤ limit
-  pub at : (e : Term ml) → take count first₀ ≡ words e → Good e → At (spec.run limit cap spec.uncounted e) limit cap made n from (held front first second)
+  pub at : (e : Term ml) → take count first₀ ≡ words e → Good e
+      → At (spec.run limit cap spec.uncounted e) limit cap made n from (held front first second)
   pub few : from .due ≤ 1 + 3 * from .place
 
-pub running-start : (first second : List ℕ) (count cap limit : ℕ) → count ≤ cap → Running first second count cap limit first second count (record { steps = 0 }) true beginning
+pub running-start : (first second : List ℕ) (count cap limit : ℕ) → count ≤ cap
+    → Running first second count cap limit first second count (record { steps = 0 }) true beginning
 running-start first second count cap limit h =
     record {
       first-length = refl;
       second-length = refl;
       room = h;
       left = omega arith;
-      at = λ e q g. record { term = e; good = g; words-are = q; same = rw (sub-zero limit); standing = record { lang = ml; around = root; part = e; is = refl; reached = tt; place = refl; due-is = refl } };
+      at = λ e q g.
+          record {
+            term = e;
+            good = g;
+            words-are = q;
+            same = rw (sub-zero limit);
+            standing = record { lang = ml; around = root; part = e; is = refl; reached = tt; place = refl; due-is = refl };
+          };
       few = omega arith;
     }
 
@@ -103,7 +112,8 @@ module _ {first₀ second₀ first second first′ second′ : List ℕ} {count 
     outcome : Moved (step (a .term)) (held (not front) first second) r (held (not front) first′ second′)
     outcome = moved (s .stepped) (a .term) (a .words-are) (a .standing)
 
-    at-next : (m : ℕ) (more : Counts) → chosen r n cap made limit ≡ Go m more → At whole limit cap more m (resumed r) (held (not front) first′ second′)
+    at-next : (m : ℕ) (more : Counts) → chosen r n cap made limit ≡ Go m more
+        → At whole limit cap more m (resumed r) (held (not front) first′ second′)
     at-next m more q =
         let g = goes (a .term) n cap limit made size-of (i .left) (limit - made .steps) (step (a .term)) _ _ r m more refl outcome q in
         let u = g .term in
@@ -129,7 +139,8 @@ module _ {first₀ second₀ first second first′ second′ : List ℕ} {count 
         let h = f .short in
         let k : x .left ≤ n = omega (arith, size-of) in (
           f .told-is ∙ ap lineOf w,
-          ap (take (x .left)) (s .kept) ∙ sym (take-take (x .left) n (held front first second) k) ∙ ap (take (x .left)) (a .words-are) ∙ f .left-is ∙ ap (λ (y : spec.Result). y .left) w,
+          ap (take (x .left)) (s .kept) ∙ sym (take-take (x .left) n (held front first second) k) ∙ ap (take (x .left)) (a .words-are)
+              ∙ f .left-is ∙ ap (λ (y : spec.Result). y .left) w,
         )
 
   pub running-next : (m : ℕ) (more : Counts) → chosen r n cap made limit ≡ Go m more → length first′ ≡ length first → length second′ ≡ length second
@@ -145,7 +156,8 @@ module _ {first₀ second₀ first second first′ second′ : List ℕ} {count 
         few = few-resumed r (s .few);
       }
 
-  pub running-end : (x : Report) → chosen r n cap made limit ≡ Stop x → Ran limit cap (take count first₀) (record { report = x; front = front }) first′ second′
+  pub running-end : (x : Report) → chosen r n cap made limit ≡ Stop x
+      → Ran limit cap (take count first₀) (record { report = x; front = front }) first′ second′
   running-end x q =
       record {
         short = omega (arith, end-short n cap limit made (i .left) r x q, i .room);
@@ -161,10 +173,15 @@ reduced {limit} {cap} {ws} {first} {second} {first₁} {second₁} {first₂} {s
     record {
       of = λ e w g.
           let x = r .of e w g in
-          subst (λ (k : ℕ). (told (h .report) ≡ lineOf (spec.run limit k spec.uncounted e)) × Settled (spec.run limit k spec.uncounted e .left) first second first₂ second₂) c (
+          subst
+          (λ (k : ℕ).
+          (told (h .report) ≡ lineOf (spec.run limit k spec.uncounted e))
+          × Settled (spec.run limit k spec.uncounted e .left) first second first₂ second₂) c (
             x .told-is,
             record {
-              first-is = s .first-is ∙ ap (λ (k : ℕ). padded k (take (h .report .left) (held (h .front) first₁ second₁))) p ∙ ap (padded (length first)) (x .left-is);
+              first-is =
+                  s .first-is ∙ ap (λ (k : ℕ). padded k (take (h .report .left) (held (h .front) first₁ second₁))) p
+                  ∙ ap (padded (length first)) (x .left-is);
               second-is = s .second-is ∙ ap (λ (k : ℕ). padded k []) q;
             },
           );

@@ -88,7 +88,8 @@ Owns root node back = ⊥
 Owns (inside f A) node back = (waitsFor f ≡ true → Owner A node back) × (waitsFor f ≡ false → Owns A node back)
 
 -- A walk may begin at that node, whatever stands in it.
-pub owner-standing : {m : Lang} (A : Around m) (node back : From) → Reached A → Owns A node back → (x : Term m) → Standing (whole A x) (node .place) (node .due)
+pub owner-standing : {m : Lang} (A : Around m) (node back : From) → Reached A → Owns A node back
+    → (x : Term m) → Standing (whole A x) (node .place) (node .due)
 owner-standing root node back r o x = absurd o
 owner-standing {m} (inside {k = k} f A) node back r o x = by (λ w. owner-standing A node back (r .1) (o .1 w) (plug f x)) (waitsFor f) refl
   where
@@ -133,7 +134,8 @@ pub record Over {m : Lang} (A : Around m) (x : Term m) : Type 0 where
   pub value : Free A → Value ml (whole A x)
 
 -- A node that waits has its turn.
-ripe-over : {m k : Lang} (f : Frame m k) (A : Around k) (x : Term m) → waitsFor f ≡ true → follows f ≡ 0 → Reached A → Ready (plug f x) → Over (inside f A) x
+ripe-over : {m k : Lang} (f : Frame m k) (A : Around k) (x : Term m) → waitsFor f ≡ true → follows f ≡ 0 → Reached A → Ready (plug f x)
+    → Over (inside f A) x
 ripe-over {m} {k} f A x w z r h =
     record {
       none = rw w (omega (arith, z));
@@ -193,7 +195,8 @@ onward m (inside (first o b) A) x r v = inl (to-second o b A x (r .1) v)
 onward m (inside (second apply a) A) x r v = inr (ripe-over (second apply a) A x refl refl (r .1) (refl, r .0, v))
 onward m (inside (second plus a) A) x r v = inr (ripe-over (second plus a) A x refl refl (r .1) (refl, r .0, v))
 onward m (inside (second minus a) A) x r v = inr (ripe-over (second minus a) A x refl refl (r .1) (refl, r .0, v))
-onward m (inside (second pair a) A) x r v = value-on (second pair a) A x refl refl (omega arith) (onward m A (plug (second pair a) x) (r .1) (consV (r .0) v))
+onward m (inside (second pair a) A) x r v =
+    value-on (second pair a) A x refl refl (omega arith) (onward m A (plug (second pair a) x) (r .1) (consV (r .0) v))
 onward m (inside (tested b c) A) x r v = inr (ripe-over (tested b c) A x refl refl (r .1) v)
 onward m (inside (intoML N) A) x r v = inr (ripe-over (intoML N) A x refl refl (r .1) (refl, v))
 onward m (inside (intoML L) A) x r v = value-on (intoML L) A x refl refl (omega arith) (onward ml A (plug (intoML L) x) (r .1) (lumpV v))

@@ -39,7 +39,8 @@ use Rattle.reducer.proofs.Onward.{contextAt, context-place, context-is,
 
 -- The splice: what the node becomes is written first, and the words before it and after it around that.
 module _ (source : List ℕ) (place end : ℕ) (rl : Rule) (fits : Fits source place end rl) (b b₀ b′ : List ℕ) (after k : ℕ) (back : From)
-    (wrote : Writes (take (length source - place) (drop place source)) rl b place after b₀) (next : writer.Next source place after end 1 b₀ k b′) where
+    (wrote : Writes (take (length source - place) (drop place source)) rl b place after b₀)
+    (next : writer.Next source place after end 1 b₀ k b′) where
   writes : Writes (drop place source) rl b place after b₀
   writes = subst (λ (v : List ℕ). Writes v rl b place after b₀) (part-to-end source place) wrote
 
@@ -153,13 +154,24 @@ module _ (source : List ℕ) (from : From) (b : List ℕ) (x : Found) (x-is : Tu
       by-node r b′ m = subst (λ t. Moved e r b b′ (stepped t)) (sym (ripe-turn ripe)) m
 
     pub step-stuck : endOf rl ≡ end.Stuck → Steps source from b Stuck b
-    step-stuck g = record { of = λ e q s. by-node e q s Stuck b (stuck-moved e b (drop place source) rl (contextAt (at e q s)) g (contract (at e q s .part)) (tells e q s)) }
+    step-stuck g =
+        record {
+          of = λ e q s.
+              let t = at e q s in
+              by-node e q s Stuck b (stuck-moved e b (drop place source) rl (contextAt t) g (contract (t .part)) (tells e q s));
+        }
 
     pub step-raised : (c : ℕ) → endOf rl ≡ end.Raised c → Steps source from b (Raised c) b
-    step-raised c g = record { of = λ e q s. by-node e q s (Raised c) b (raised-moved e b (drop place source) rl (contextAt (at e q s)) c g (contract (at e q s .part)) (tells e q s)) }
+    step-raised c g =
+        record {
+          of = λ e q s.
+              let t = at e q s in
+              by-node e q s (Raised c) b (raised-moved e b (drop place source) rl (contextAt t) c g (contract (t .part)) (tells e q s));
+        }
 
     module _ (b′ : List ℕ) (c : Change) (sp : Spliced source place back b c b′) (g : endOf rl ≡ end.Writes) where
-      next-moved : (e : Term ml) (q : source ≡ words e) (s : Standing e (from .place) (from .due)) (o : Became (at e q s .lang)) → contract (at e q s .part) ≡ o → Tells (drop place source) rl o
+      next-moved : (e : Term ml) (q : source ≡ words e) (s : Standing e (from .place) (from .due)) (o : Became (at e q s .lang))
+          → contract (at e q s .part) ≡ o → Tells (drop place source) rl o
           → Moved e (Next c) b b′ (outcome (contextAt (at e q s)) o)
       next-moved e q s₀ (becomes u) k t =
           let s = at e q s₀ in
@@ -187,7 +199,9 @@ module _ (source : List ℕ) (from : From) (b : List ℕ) (x : Found) (x-is : Tu
               stands = w .1;
               sized = omega (arith, v .place, tree-length (term ml) (fill F u) []);
               written = v;
-              resumes = rw (sp .from-there) (subst (λ (y : Term ml). Standing y (back .place) (back .due)) (sym (context-is s u)) (ripe e q s₀ .resumes u));
+              resumes =
+                  rw (sp .from-there)
+                  (subst (λ (y : Term ml). Standing y (back .place) (back .due)) (sym (context-is s u)) (ripe e q s₀ .resumes u));
             },
           )
       next-moved e q s₀ (raises i) k t = absurd (subst T (ap isWriting (sym g ∙ ap endOf t)) tt)

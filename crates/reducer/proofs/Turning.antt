@@ -18,7 +18,8 @@ use Rattle.writing.specs.Spans.{span}
 use Rattle.writing.proofs.Measures.{span-tree, span-none}
 use Rattle.writing.proofs.Lengths.{span-next, span-parts, shape-parts}
 use Rattle.contraction.specs.Forms.{formNumber, formAt}
-use Rattle.contraction.proofs.Views.{Shaped, a-variable, a-number, a-lambda, one-part, two-parts, a-choice, a-nil, a-wrong, an-ms, an-sm, by-shape, form-at}
+use Rattle.nodes.proofs.Terms.{Shaped, a-variable, a-number, a-lambda, one-part, two-parts, a-choice, a-nil, a-wrong, an-ms, an-sm, by-shape}
+use Rattle.contraction.proofs.Views.{form-at}
 use Rattle.reducer.specs.Placed.{taking, Alone, Enters, Looked}
 
 module _ (ws : List ℕ) (shape : ℕ) (shape-is : shape ≡ rowOf (getD ws 0 0 % 256) .shape) (some : 1 ≤ length ws) where
@@ -58,7 +59,8 @@ module _ (ws : List ℕ) (shape : ℕ) (shape-is : shape ≡ rowOf (getD ws 0 0 
 
   -- if0: the other two parts are the rest.
   choice-seen : (l : Lang) (e : Term l) → Shaped l 6 e → Alone (taking 1 1 2 true) e ⊎ Enters (taking 1 1 2 true) e
-  choice-seen l e (a-choice a b c) = inr (record { lang = l; frame = tested b c; part = a; is = refl; taken = tt; start = refl; takes = refl; own = refl })
+  choice-seen l e (a-choice a b c) =
+      inr (record { lang = l; frame = tested b c; part = a; is = refl; taken = tt; start = refl; takes = refl; own = refl })
 
   pub look-choice : shape ≡ 6 → Looked ws (taking 1 1 2 true)
   look-choice h =

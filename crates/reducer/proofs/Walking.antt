@@ -53,7 +53,8 @@ pub record Walking (ws : List ℕ) (from : From) (i due rest : ℕ) (node back :
   pub waiting : waits ≡ true → Waiting ws i due rest node back
   pub of : (e : Term ml) → ws ≡ words e → Standing e (from .place) (from .due) → Stood from e i due node back waits ⊎ Came from e due node back waits
 
-pub walking-start : (ws : List ℕ) (from : From) → from .due ≤ 1 + 3 * from .place → Walking ws from (from .place) (from .due) 0 beginning beginning false
+pub walking-start : (ws : List ℕ) (from : From) → from .due ≤ 1 + 3 * from .place
+    → Walking ws from (from .place) (from .due) 0 beginning beginning false
 walking-start ws from r =
     record {
       few = r;
@@ -82,7 +83,8 @@ module _ {ws : List ℕ} {from : From} {i due rest : ℕ} {node back : From} {wa
   sight q s = seen .of (s .lang) (s .part) (wordsAfter (contextAt s) ++ []) (part-stands s ws q)
 
   -- Into its first part.
-  abbrev entered : {e : Term ml} (s : Standing e i due) (n : Enters r (s .part)) (due′ : ℕ) → due′ ≡ 1 + pending (inside (n .frame) (s .around)) → Standing e i′ due′
+  abbrev entered : {e : Term ml} (s : Standing e i due) (n : Enters r (s .part)) (due′ : ℕ)
+      → due′ ≡ 1 + pending (inside (n .frame) (s .around)) → Standing e i′ due′
   entered s n due′ h =
       record {
         lang = n .lang;
@@ -101,7 +103,8 @@ module _ {ws : List ℕ} {from : From} {i due rest : ℕ} {node back : From} {wa
   abbrev back′ : From
   back′ = cond waits node at
 
-  resumes : {e : Term ml} (s : Stood from e i due node back waits) → (x : Term (s .standing .lang)) → Standing (whole (s .standing .around) x) (back′ .place) (back′ .due)
+  resumes : {e : Term ml} (s : Stood from e i due node back waits) → (x : Term (s .standing .lang))
+      → Standing (whole (s .standing .around) x) (back′ .place) (back′ .due)
   resumes s x = by waits refl
     where
       by : (b : Bool) → waits ≡ b → Standing (whole (s .standing .around) x) (cond b node at .place) (cond b node at .due)
@@ -250,12 +253,13 @@ module _ {ws : List ℕ} {from : From} {i due rest : ℕ} {node back : From} {wa
   came e q (inl z) (inl s) = absurd (omega (arith, z, s .standing .due-is))
   came e q (inr h) (inl s) =
       let t = s .standing in
-      absurd
-      (omega (arith, ap length (sym (drop-of-length-le ws h) ∙ part-stands t ws q), tree-length (term (t .lang)) (t .part) (wordsAfter (contextAt t) ++ []), size-some (t .lang) (t .part)))
+      let none = ap length (sym (drop-of-length-le ws h) ∙ part-stands t ws q) in
+      absurd (omega (arith, none, tree-length (term (t .lang)) (t .part) (wordsAfter (contextAt t) ++ []), size-some (t .lang) (t .part)))
 
   pub walk-turns : Turns ws from from r
   walk-turns = record { of = λ e q s₀. rw r-is (by e (came e q over (w .of e q s₀)) waits refl) }
     where
-      by : (e : Term ml) → Came from e due node back waits → (b : Bool) → waits ≡ b → Told e from (finished b (node .place) (i + span (drop i ws) rest) back)
+      by : (e : Term ml) → Came from e due node back waits → (b : Bool) → waits ≡ b
+          → Told e from (finished b (node .place) (i + span (drop i ws) rest) back)
       by e c true b = c .ripe b
       by e c false b = c .value b

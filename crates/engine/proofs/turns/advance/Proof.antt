@@ -10,10 +10,14 @@ slice-reshare-prefix-step : tie.Need-slice-reshare-prefix-step
 slice-reshare-prefix-step c = search needs
 
 slice-aggregate-step : tie.Need-slice-aggregate-step
-slice-aggregate-step c = let s = c .before .before .before .before in sym (length-take-le (s .args .n) (s .args .first .now) (s .pre .1))
+slice-aggregate-step c =
+    let start = c .before .before .before .before in
+    let s = start in sym (length-take-le (s .args .n) (s .args .first .now) (s .pre .1))
 
 step-requires : tie.Need-step-requires
-step-requires c κs = let s = c .before .before .before .before .before in (s .pre .0, omega (arith, length-take-le (s .args .n) (s .args .first .now) (s .pre .1), s .pre .3), s .pre .4)
+step-requires c κs =
+    let start = c .before .before .before .before .before in
+    let s = start in (s .pre .0, omega (arith, length-take-le (s .args .n) (s .args .first .now) (s .pre .1), s .pre .3), s .pre .4)
 
 same-length : tie.Need-same-length
 same-length c = search needs
@@ -23,17 +27,23 @@ same-length-2 c = search needs
 
 returns : tie.Need-returns
 returns c =
-    let r = c .before .before .step .ensures in
-    rw (c .before .before .before .before .before .if1 .taken) (record { kept = refl; few = r .0; stepped = r .1 })
+    let after-step = c .before .before in
+    let then1 = c .before .before .before .before .before in
+    let r = after-step .step .ensures in
+    rw (then1 .if1 .taken) (record { kept = refl; few = r .0; stepped = r .1 })
 
 slice-reshare-prefix-step-2 : tie.Need-slice-reshare-prefix-step-2
 slice-reshare-prefix-step-2 c = search needs
 
 slice-aggregate-step-2 : tie.Need-slice-aggregate-step-2
-slice-aggregate-step-2 c = let s = c .before .before .before .before in sym (length-take-le (s .args .n) (s .args .second .now) (s .pre .2))
+slice-aggregate-step-2 c =
+    let start = c .before .before .before .before in
+    let s = start in sym (length-take-le (s .args .n) (s .args .second .now) (s .pre .2))
 
 step-requires-2 : tie.Need-step-requires-2
-step-requires-2 c κs = let s = c .before .before .before .before .before in (s .pre .0, omega (arith, length-take-le (s .args .n) (s .args .second .now) (s .pre .2), s .pre .3), s .pre .4)
+step-requires-2 c κs =
+    let start = c .before .before .before .before .before in
+    let s = start in (s .pre .0, omega (arith, length-take-le (s .args .n) (s .args .second .now) (s .pre .2), s .pre .3), s .pre .4)
 
 same-length-3 : tie.Need-same-length-3
 same-length-3 c = search needs
@@ -43,8 +53,10 @@ same-length-4 c = search needs
 
 returns-2 : tie.Need-returns-2
 returns-2 c =
-    let r = c .before .before .step2 .ensures in
-    rw (c .before .before .before .before .before .if1 .left) (record { kept = refl; few = r .0; stepped = r .1 })
+    let after-step2 = c .before .before in
+    let else1 = c .before .before .before .before .before in
+    let r = after-step2 .step2 .ensures in
+    rw (else1 .if1 .left) (record { kept = refl; few = r .0; stepped = r .1 })
 
 pub advance-spec : {M : Type 1} → statement M
 advance-spec =

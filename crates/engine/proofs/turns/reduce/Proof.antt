@@ -32,7 +32,8 @@ same-length-2 c = search needs
 returns : tie.Need-returns
 returns c =
     let t = c .before .before .before .before .before .before .before .before .before .before .before .before .turns in
-    reduced (c .before .before .before .before .before .before .before .before .before .before .before .before .before .before .before .before .capacity .ensures) (t .ensures) (t .kept .1 .0) (t .kept .1 .1 .0) (c .before .before .before .before .settle .ensures)
+    let cap = c .before .before .before .before .before .before .before .before .before .before .before .before .before .before .before .before in
+    reduced (cap .capacity .ensures) (t .ensures) (t .kept .1 .0) (t .kept .1 .1 .0) (c .before .before .before .before .settle .ensures)
 
 pub reduce-spec : {M : Type 1} → statement M
 reduce-spec =

@@ -24,7 +24,9 @@ returns-2 : tie.Need-returns-2
 returns-2 c = sym (ap resumed (c .enum-told2 .given .1))
 
 returns-3 : tie.Need-returns-3
-returns-3 c = sym (ap resumed (c .before .before .moved .given .1))
+returns-3 c =
+    let after-moved = c .before .before in
+    sym (ap resumed (after-moved .moved .given .1))
 
 returns-4 : tie.Need-returns-4
 returns-4 c = sym (ap resumed (c .enum-told3 .given .1))

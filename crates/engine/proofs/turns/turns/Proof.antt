@@ -16,32 +16,55 @@ abbrev μ-loop : tie.MeasureT-loop
 μ-loop table first₀ second₀ count cap limit n₀ made₀ front₀ from₀ first second n made front from = limit - made .steps
 
 loop-holds : tie.Need-loop-holds Inv-loop μ-loop
-loop-holds c = let s = c .before .before in running-start (s .args .first .now) (s .args .second .now) (s .args .count) (s .args .cap) (s .args .limit) (s .pre .1)
+loop-holds c =
+    let start = c .before .before in
+    let s = start .args in
+    running-start (s .first .now) (s .second .now) (s .count) (s .cap) (s .limit) (start .pre .1)
 
 advance-requires : tie.Need-advance-requires Inv-loop μ-loop
 advance-requires c κs =
-    let s = c .before .before .before .before .before in
-    let i = c .before .before .loop .inv in
-    (s .pre .0, omega (arith, i .room, i .first-length, s .pre .2), omega (arith, i .room, i .second-length, s .pre .3), omega (arith, i .room, s .pre .4), i .few)
+    let at-loop = c .before .before in
+    let start = c .before .before .before .before .before in
+    let s = start in
+    let i = at-loop .loop .inv in (
+      s .pre .0,
+      omega (arith, i .room, i .first-length, s .pre .2),
+      omega (arith, i .room, i .second-length, s .pre .3),
+      omega (arith, i .room, s .pre .4),
+      i .few,
+    )
 
 decide-requires : tie.Need-decide-requires Inv-loop μ-loop
-decide-requires c κs = c .before .before .before .before .before .before .before .loop .inv .left
+decide-requires c κs =
+    let at-loop = c .before .before .before .before .before .before .before in
+    at-loop .loop .inv .left
 
 enum-known-report : tie.Need-enum-known-report Inv-loop μ-loop
 enum-known-report c = search needs
 
 same-length : tie.Need-same-length Inv-loop μ-loop
-same-length c = c .before .before .before .before .before .before .before .before .advance .kept .1 .1 .0 ∙ c .before .before .before .before .before .before .before .before .before .before .before .loop .inv .first-length
+same-length c =
+    let after-advance = c .before .before .before .before .before .before .before .before in
+    let at-loop = c .before .before .before .before .before .before .before .before .before .before .before in
+    after-advance .advance .kept .1 .1 .0 ∙ at-loop .loop .inv .first-length
 
 same-length-2 : tie.Need-same-length-2 Inv-loop μ-loop
-same-length-2 c = c .before .before .before .before .before .before .before .before .advance .kept .1 .1 .1 .0 ∙ c .before .before .before .before .before .before .before .before .before .before .before .loop .inv .second-length
+same-length-2 c =
+    let after-advance = c .before .before .before .before .before .before .before .before in
+    let at-loop = c .before .before .before .before .before .before .before .before .before .before .before in
+    after-advance .advance .kept .1 .1 .1 .0 ∙ at-loop .loop .inv .second-length
 
 returns : tie.Need-returns Inv-loop μ-loop
 returns c =
-    let s = c .before .before .before .before .before .before .before .before .before .before .before .before .before .before in
-    let a = c .before .before .before .before .before .before .before .before .advance in
-    running-end (c .before .before .before .before .before .before .before .before .before .before .before .loop .inv) (a .ensures) (s .pre .2) (s .pre .3) (c .before .report .given .0 .0)
-    (sym (c .before .before .before .decide .ensures) ∙ c .before .report .given .1)
+    let after-report = c .before in
+    let after-decide = c .before .before .before in
+    let after-advance = c .before .before .before .before .before .before .before .before in
+    let at-loop = c .before .before .before .before .before .before .before .before .before .before .before in
+    let start = c .before .before .before .before .before .before .before .before .before .before .before .before .before .before in
+    let s = start in
+    let a = after-advance .advance in
+    running-end (at-loop .loop .inv) (a .ensures) (s .pre .2) (s .pre .3) (after-report .report .given .0 .0)
+    (sym (after-decide .decide .ensures) ∙ after-report .report .given .1)
 
 enum-known-size : tie.Need-enum-known-size Inv-loop μ-loop
 enum-known-size c = search needs
@@ -51,19 +74,30 @@ resume-requires c κs = search needs
 
 loop-less : tie.Need-loop-less Inv-loop μ-loop
 loop-less c =
-    let s = c .before .before .before .before .before .before .before .before .before .before .before .before .before .before .before in
-    let l = c .before .before .before .before .before .before .before .before .before .before .before .before .loop in
-    let g = c .before .before .size .given in
-    let q = sym (c .before .before .before .before .decide .ensures) ∙ g .1 in
-    omega (arith, go-fits (l .n) (s .args .cap) (s .args .limit) (l .made) (l .inv .left) (c .before .before .before .before .before .before .before .before .before .advance .result) (g .0 .0) (g .0 .1 .0) q)
+    let after-size = c .before .before in
+    let after-decide = c .before .before .before .before in
+    let after-advance = c .before .before .before .before .before .before .before .before .before in
+    let at-loop = c .before .before .before .before .before .before .before .before .before .before .before .before in
+    let start = c .before .before .before .before .before .before .before .before .before .before .before .before .before .before .before in
+    let s = start in
+    let l = at-loop .loop in
+    let g = after-size .size .given in
+    let q = sym (after-decide .decide .ensures) ∙ g .1 in
+    omega (arith, go-fits (l .n) (s .args .cap) (s .args .limit) (l .made) (l .inv .left) (after-advance .advance .result) (g .0 .0) (g .0 .1 .0) q)
 
 loop-again : tie.Need-loop-again Inv-loop μ-loop
 loop-again c =
-    let s = c .before .before .before .before .before .before .before .before .before .before .before .before .before .before .before in
-    let a = c .before .before .before .before .before .before .before .before .before .advance in
-    let g = c .before .before .size .given in
-    let q = sym (c .before .before .before .before .decide .ensures) ∙ g .1 in
-    rw (c .resume .ensures) (running-next (c .before .before .before .before .before .before .before .before .before .before .before .before .loop .inv) (a .ensures) (s .pre .2) (s .pre .3) (g .0 .0) (g .0 .1 .0) q (a .kept .1 .1 .0) (a .kept .1 .1 .1 .0))
+    let after-size = c .before .before in
+    let after-decide = c .before .before .before .before in
+    let after-advance = c .before .before .before .before .before .before .before .before .before in
+    let at-loop = c .before .before .before .before .before .before .before .before .before .before .before .before in
+    let start = c .before .before .before .before .before .before .before .before .before .before .before .before .before .before .before in
+    let s = start in
+    let a = after-advance .advance in
+    let g = after-size .size .given in
+    let q = sym (after-decide .decide .ensures) ∙ g .1 in
+    rw (c .resume .ensures)
+    (running-next (at-loop .loop .inv) (a .ensures) (s .pre .2) (s .pre .3) (g .0 .0) (g .0 .1 .0) q (a .kept .1 .1 .0) (a .kept .1 .1 .1 .0))
 
 pub turns-spec : {M : Type 1} → statement M
 turns-spec =

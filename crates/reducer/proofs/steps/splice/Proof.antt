@@ -2,7 +2,7 @@
 use borrow.Author.Needs.{needs}
 use mathlib.Core.Path.{sym, subst}
 use Prim.Native.Nat.{ℕ, _≤_}
-use lib.ListN.{length, drop}
+use lib.ListN.{length, drop, length-drop}
 use native.Mathlib.Omega.{arith}
 use Rattle.nodes.proofs.Ways.{part-length}
 use Rattle.writing.proofs.Lengths.{span-within}
@@ -16,45 +16,70 @@ module _ (c : tie.Start) where
   end-in : c .args .end ≤ length (c .args .source .now)
   end-in =
       let s = c .args in
-      omega (arith, c .pre .2 .ends, span-within (drop (s .place) (s .source .now)) 1, lib.ListN.length-drop (s .place) (s .source .now), c .pre .2 .inside)
+      let l = length-drop (s .place) (s .source .now) in
+      omega (arith, c .pre .2 .ends, span-within (drop (s .place) (s .source .now)) 1, l, c .pre .2 .inside)
 
   end-past : c .args .place ≤ c .args .end
   end-past = omega (arith, c .pre .2 .ends)
 
 mul-contract : tie.Need-mul-contract
-mul-contract c = record { fits = omega (arith, c .before .before .pre .1, c .before .before .pre .2 .inside) }
+mul-contract c =
+    let start = c .before .before in
+    record { fits = omega (arith, start .pre .1, start .pre .2 .inside) }
 
 sub-contract : tie.Need-sub-contract
-sub-contract c = c .before .before .pre .2 .inside
+sub-contract c =
+    let start = c .before .before in
+    start .pre .2 .inside
 
 part-contract-start : tie.Need-part-contract-start
-part-contract-start c = c .before .before .pre .2 .inside
+part-contract-start c =
+    let start = c .before .before in
+    start .pre .2 .inside
 
 part-contract-end : tie.Need-part-contract-end
 part-contract-end c = search needs
 
 contract-requires : tie.Need-contract-requires
 contract-requires c κs =
-    let s = c .before .before .before .before in
+    let start = c .before .before .before .before in
+    let s = start in
     let l = part-length (s .args .source .now) (s .args .place) in
-    ((s .pre .0, omega (arith, l, s .pre .1), omega (arith, s .pre .1, s .pre .2 .inside)), subst (λ (n : ℕ). Placed n (s .args .rule)) (sym l) (s .pre .2 .within))
+    let p = subst (λ (n : ℕ). Placed n (s .args .rule)) (sym l) (s .pre .2 .within) in
+    ((s .pre .0, omega (arith, l, s .pre .1), omega (arith, s .pre .1, s .pre .2 .inside)), p)
 
 write-next-requires : tie.Need-write-next-requires
 write-next-requires c κs =
-    let s = c .before .before .before .before .before .before .before .before in
-    record { size = s .pre .1; first = s .pre .2 .inside; order = λ z. absurd (omega (arith, z)); within = end-in s; far = omega (arith, c .before .before .before .contract .ensures .1 .1, s .pre .1, s .pre .2 .inside) }
+    let after-contract = c .before .before .before in
+    let start = c .before .before .before .before .before .before .before .before in
+    let s = start in
+    record {
+      size = s .pre .1;
+      first = s .pre .2 .inside;
+      order = λ z. absurd (omega (arith, z));
+      within = end-in s;
+      far = omega (arith, after-contract .contract .ensures .1 .1, s .pre .1, s .pre .2 .inside);
+    }
 
 sub-t10 : tie.Need-sub-t10
-sub-t10 c = end-past (c .before .before .before .before .before .before .before .before .before .before .before)
+sub-t10 c =
+    let start = c .before .before .before .before .before .before .before .before .before .before .before in
+    end-past start
 
 sub-t12 : tie.Need-sub-t12
-sub-t12 c = c .before .before .before .before .before .before .contract .ensures .1 .0
+sub-t12 c =
+    let after-contract = c .before .before .before .before .before .before in
+    after-contract .contract .ensures .1 .0
 
 same-length : tie.Need-same-length
 same-length c = search needs
 
 returns : tie.Need-returns
-returns c = spliced _ _ _ _ (c .before .before .before .before .before .before .before .before .before .before .before .pre .2) _ _ _ _ _ _ (c .before .before .before .before .before .before .contract .ensures .0) (c .before .before .write-next .ensures)
+returns c =
+    let after-write-next = c .before .before in
+    let after-contract = c .before .before .before .before .before .before in
+    let start = c .before .before .before .before .before .before .before .before .before .before .before in
+    spliced _ _ _ _ (start .pre .2) _ _ _ _ _ _ (after-contract .contract .ensures .0) (after-write-next .write-next .ensures)
 
 pub splice-spec : {M : Type 1} → statement M
 splice-spec =

@@ -6,7 +6,9 @@ use Rattle.reducer.proofs.steps.whose.Statement.{statement}
 use Rattle.reducer.proofs.steps.whose.Tie as tie
 
 turn-requires : tie.Need-turn-requires
-turn-requires c κs = (c .before .pre .0, c .before .pre .1, c .before .pre .2)
+turn-requires c κs =
+    let start = c .before in
+    (start .pre .0, start .pre .1, start .pre .2)
 
 enum-told : tie.Need-enum-told
 enum-told c = search needs
@@ -16,11 +18,14 @@ enum-told-2 c = search needs
 
 returns : tie.Need-returns
 returns c =
-    let t = c .before .before .turn .ensures in
+    let after-turn = c .before .before in
+    let t = after-turn .turn .ensures in
     (t .0, at-any-rate (t .1) _ _ _ (c .enum-told2 .given .1))
 
 turn-requires-2 : tie.Need-turn-requires-2
-turn-requires-2 c κs = (c .before .before .before .before .pre .0, c .before .before .before .before .pre .1, omega arith)
+turn-requires-2 c κs =
+    let start = c .before .before .before .before in
+    (start .pre .0, start .pre .1, omega arith)
 
 returns-2 : tie.Need-returns-2
 returns-2 c = (c .turn2 .ensures .0, from-the-start (c .turn2 .ensures .1))

@@ -14,11 +14,16 @@ use Rattle.reducer.proofs.turns.finish.Tie as tie
 
 -- Where a node waited, words are left or there are none.
 module _ (c : tie.Then1) where
-  inside : c .before .before .args .i ≤ length (c .before .before .args .words .now)
-  inside = c .before .before .pre .2 (c .if1 .taken)
+  abbrev start : tie.Start
+  start = c .before .before
+
+  inside : start .args .i ≤ length (start .args .words .now)
+  inside = start .pre .2 (c .if1 .taken)
 
 mul-skip : tie.Need-mul-skip
-mul-skip c = record { fits = omega (arith, inside c, c .before .before .pre .1) }
+mul-skip c =
+    let start = c .before .before in
+    record { fits = omega (arith, inside c, start .pre .1) }
 
 sub-skip : tie.Need-sub-skip
 sub-skip c = inside c
@@ -30,16 +35,24 @@ part-skip-end : tie.Need-part-skip-end
 part-skip-end c = search needs
 
 skip-requires : tie.Need-skip-requires
-skip-requires c κs = (c .before .before .before .pre .0, omega (arith, part-length (c .before .before .before .args .words .now) (c .before .before .before .args .i), c .before .before .before .pre .1, c .before .before .before .pre .3))
+skip-requires c κs =
+    let start = c .before .before .before in
+    (start .pre .0, omega (arith, part-length (start .args .words .now) (start .args .i), start .pre .1, start .pre .3))
 
 add-t15 : tie.Need-add-t15
-add-t15 c = omega (arith, c .skip .ensures .0, part-length (c .before .before .before .before .args .words .now) (c .before .before .before .before .args .i), c .before .before .before .before .pre .1, inside (c .before .before))
+add-t15 c =
+    let then1 = c .before .before in
+    let start = c .before .before .before .before in
+    omega (arith, c .skip .ensures .0, part-length (start .args .words .now) (start .args .i), start .pre .1, inside then1)
 
 returns : tie.Need-returns
 returns c =
-    let s = c .before .before .before .before in
-    let e : c .skip .result ≡ span (drop (s .args .i) (s .args .words .now)) (s .args .rest) = c .skip .ensures .1 ∙ ap (λ (v : List ℕ). span v (s .args .rest)) (part-to-end (s .args .words .now) (s .args .i)) in
-    rw (c .before .before .if1 .taken) (ap (λ (n : ℕ). At (s .args .place) (s .args .i + n) (s .args .back)) e)
+    let then1 = c .before .before in
+    let start = c .before .before .before .before in
+    let s = start in
+    let e : c .skip .result ≡ span (drop (s .args .i) (s .args .words .now)) (s .args .rest) =
+    c .skip .ensures .1 ∙ ap (λ (v : List ℕ). span v (s .args .rest)) (part-to-end (s .args .words .now) (s .args .i)) in
+    rw (then1 .if1 .taken) (ap (λ (n : ℕ). At (s .args .place) (s .args .i + n) (s .args .back)) e)
 
 returns-2 : tie.Need-returns-2
 returns-2 c = rw (c .if1 .left)
