@@ -123,6 +123,8 @@ fn depth(words: &[u32]) -> usize {
 fn a_term_of_16_384_words_nested_16_382_deep_on_a_stack_of_8_mib() {
     let shown = compare_stack(port::run, 8 << 20).unwrap_or_else(|shown| panic!("{shown}"));
     assert_eq!(shown[0], "tl nested: 16384 words after 16378 steps");
+    // The last substitution went through 16,347 lambdas.
+    assert_eq!(shown[8], "lambdas nested, and substituted into: 16378 words after 49043 steps");
     // The term that is left: tl again and again around the fix, as the model's own tests have it.
     let term = [vec![27; 16_378], vec![20, 18, 3, 1, 27, 16]].concat();
     assert_eq!((term.len(), depth(&term)), (16_384, 16_382));

@@ -3,7 +3,7 @@
 use std::time::{Duration, Instant};
 
 /// Rounds in which every work is timed once.
-const ROUNDS: usize = 11;
+const ROUNDS: usize = 31;
 
 /// The least time that a round gives to each.
 const ROUND: Duration = Duration::from_millis(12);

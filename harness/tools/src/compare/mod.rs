@@ -3,6 +3,7 @@
 mod case;
 mod check;
 mod counts;
+mod deepest;
 pub mod lent;
 mod plan;
 mod report;

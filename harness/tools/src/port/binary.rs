@@ -2,41 +2,34 @@
 
 use super::forms::{form_at, number_at, Form};
 use super::rules::{amiss, numbered, Rule, NOTHING};
-use super::turn::At;
-use super::walks::skip;
+use super::spans::skip;
 
 /// The largest number.
 const MOST: u32 = 16_777_215;
 
-/// Application, add or subtract of two values; a cons of two values is a value itself.
-pub fn of_two(words: &[u32], at: At) -> Rule {
-    let word = words[at.place];
+/// Application, add or subtract of two values; a cons of two values is a value itself. The node's words end at `end`.
+pub fn of_two(words: &[u32], end: usize) -> Rule {
+    let middle = 1 + skip(&words[1..], 1);
+    let form = form_at(&words[1..]);
+    let word = words[0];
     let scheme = word >= 32;
     match word {
-        19 | 35 => of_apply(words, at, scheme),
+        19 | 35 => of_apply(words, scheme, form, middle, end),
         25 | 40 => Rule::Stuck,
-        _ => {
-            let (first, second) = (at.place + 1, at.first_end);
-            if form_at(words, first) != Form::Number || form_at(words, second) != Form::Number {
-                return amiss(scheme, 1);
-            }
-            let (a, b) = (number_at(words, first), number_at(words, second));
-            match word {
-                21 | 36 => sum(scheme, a, b),
-                _ => numbered(scheme, a.saturating_sub(b)),
-            }
-        }
+        _ if form != Form::Number || form_at(&words[middle..]) != Form::Number => amiss(scheme, 1),
+        21 | 36 => sum(scheme, number_at(&words[1..]), number_at(&words[middle..])),
+        _ => numbered(scheme, number_at(&words[1..]).saturating_sub(number_at(&words[middle..]))),
     }
 }
 
-/// The body with the argument for the variable.
-fn of_apply(words: &[u32], At { place, first_end, end }: At, scheme: bool) -> Rule {
-    if form_at(words, place + 1) != Form::Function {
+/// Application: the first part's form is told, its words end at `middle`, and the argument's at `end`.
+fn of_apply(words: &[u32], scheme: bool, form: Form, middle: usize, end: usize) -> Rule {
+    if form != Form::Function {
         return amiss(scheme, 2);
     }
     match scheme {
-        true => Rule::Substituted { variable: 32, body: place + 2, value: first_end..end },
-        false => Rule::Substituted { variable: 16, body: skip(words, place + 2, 1), value: first_end..end },
+        true => Rule::Substituted { variable: 32, body: 2, value: middle..end },
+        false => Rule::Substituted { variable: 16, body: 2 + skip(&words[2..], 1), value: middle..end },
     }
 }
 
@@ -45,20 +38,18 @@ fn sum(scheme: bool, a: u32, b: u32) -> Rule {
     match (a + b <= MOST, scheme) {
         (true, _) => numbered(scheme, a + b),
         (false, true) => amiss(scheme, 5),
-        (false, false) => Rule::LedByTwo(29 + 256 * 5, 1, NOTHING),
+        (false, false) => Rule::Led2(29 + 256 * 5, 1, NOTHING),
     }
 }
 
-/// if0: its second part ends at `end`, its third where the node does.
-pub fn of_if(words: &[u32], At { place, first_end, end }: At, node_end: usize) -> Rule {
-    if form_at(words, place + 1) != Form::Number {
-        return match words[place] {
-            38 => Rule::Part(end..node_end),
-            _ => Rule::Stuck,
-        };
-    }
-    match number_at(words, place + 1) {
-        0 => Rule::Part(first_end..end),
-        _ => Rule::Part(end..node_end),
+/// if0. The node's words end at `end`.
+pub fn of_if(words: &[u32], end: usize) -> Rule {
+    let second = 1 + skip(&words[1..], 1);
+    let third = second + skip(&words[second..], 1);
+    match form_at(&words[1..]) {
+        Form::Number if number_at(&words[1..]) == 0 => Rule::Part(second..third),
+        Form::Number => Rule::Part(third..end),
+        _ if words[0] == 38 => Rule::Part(third..end),
+        _ => Rule::Stuck,
     }
 }

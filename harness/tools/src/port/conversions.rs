@@ -2,70 +2,67 @@
 
 use super::forms::{form_at, number_at, Form};
 use super::rules::{numbered, Rule, NOTHING};
-use super::turn::At;
-use super::walks::skip;
+use super::spans::skip;
 
-/// ms or sm of a value: its type ends, and the value starts, where the first part ends.
-pub fn of_boundary(words: &[u32], at: At) -> Rule {
-    let form = form_at(words, at.first_end);
-    let scheme = words[at.place] == 45;
-    match words[at.place + 1] {
-        1 => at_number(words, at, scheme, form),
-        2 => at_lump(at, scheme, form),
-        3 => at_list(words, at, scheme, form),
-        _ => at_function(words, at, scheme, form),
+/// ms or sm of a value. The node's words end at `end`.
+pub fn of_boundary(words: &[u32], end: usize) -> Rule {
+    let value = 1 + skip(&words[1..], 1);
+    let form = form_at(&words[value..]);
+    let scheme = words[0] == 45;
+    match words[1] {
+        1 => at_number(words, scheme, form, value),
+        2 => at_lump(scheme, form, value, end),
+        3 => at_list(words, scheme, form, value, end),
+        _ => at_function(words, scheme, form, value, end),
     }
 }
 
-/// A value that does not fit the type: a wrong in ML, which carries the type.
-fn refused(At { place, first_end, .. }: At, scheme: bool, code: u32) -> Rule {
+/// A value that has not the type, whose words end at `value`: a wrong in ML.
+fn refused(scheme: bool, code: u32, value: usize) -> Rule {
     match scheme {
         true => Rule::Stuck,
-        false => Rule::Led(29 + 256 * code, place + 1..first_end),
+        false => Rule::Led(29 + 256 * code, 1..value),
     }
 }
 
-/// At the type N.
-fn at_number(words: &[u32], at: At, scheme: bool, form: Form) -> Rule {
+/// At the type N. The value's form is told; its words start at `value`.
+fn at_number(words: &[u32], scheme: bool, form: Form, value: usize) -> Rule {
     match form {
-        Form::Number => numbered(scheme, number_at(words, at.first_end)),
-        _ => refused(at, scheme, 1),
+        Form::Number => numbered(scheme, number_at(&words[value..])),
+        _ => refused(scheme, 1, value),
     }
 }
 
 /// At the type L: nothing is opened on its way into ML.
-fn at_lump(At { first_end, end, .. }: At, scheme: bool, form: Form) -> Rule {
+fn at_lump(scheme: bool, form: Form, value: usize, end: usize) -> Rule {
     match (scheme, form) {
-        (true, Form::Lump) => Rule::Part(first_end + 2..end),
+        (true, Form::Lump) => Rule::Part(value + 2..end),
         _ => Rule::Stuck,
     }
 }
 
 /// At a type {t}.
-fn at_list(words: &[u32], at: At, scheme: bool, form: Form) -> Rule {
-    let At { place, first_end, end } = at;
+fn at_list(words: &[u32], scheme: bool, form: Form, value: usize, end: usize) -> Rule {
     match form {
         Form::Empty if scheme => Rule::Led(39, NOTHING),
-        Form::Empty => Rule::Led(24, place + 2..first_end),
+        Form::Empty => Rule::Led(24, 2..value),
         Form::Pair => {
+            let tail = value + 1 + skip(&words[value + 1..], 1);
             let (cons, boundary) = if scheme { (40, 45) } else { (25, 30) };
-            let middle = skip(words, first_end + 1, 1);
-            let (list, head, tail) = (place + 1..first_end, first_end + 1..middle, middle..end);
-            Rule::Items { cons, boundary, list, head, tail }
+            Rule::Items { cons, boundary, value, tail, end }
         }
-        _ => refused(at, scheme, 3),
+        _ => refused(scheme, 3, value),
     }
 }
 
 /// At a type t to u.
-fn at_function(words: &[u32], at: At, scheme: bool, form: Form) -> Rule {
+fn at_function(words: &[u32], scheme: bool, form: Form, value: usize, end: usize) -> Rule {
     if form != Form::Function {
-        return refused(at, scheme, 2);
+        return refused(scheme, 2, value);
     }
-    let second = skip(words, at.place + 2, 1);
-    let (t, u, lambda) = (at.place + 2..second, second..at.first_end, at.first_end..at.end);
+    let second = 2 + skip(&words[2..], 1);
     match scheme {
-        true => Rule::IntoScheme { t, u, lambda },
-        false => Rule::IntoMl { t, u, lambda },
+        true => Rule::IntoScheme { second, value, end },
+        false => Rule::IntoMl { second, value, end },
     }
 }

@@ -15,20 +15,20 @@ pub enum Form {
     Lump,
 }
 
-/// The form of the node that starts at a place.
-pub fn form_at(words: &[u32], at: usize) -> Form {
-    let Some(&word) = words.get(at) else { return Form::Other };
+/// The form of the node that the words start with.
+pub fn form_at(words: &[u32]) -> Form {
+    let Some(&word) = words.first() else { return Form::Other };
     match (row_of(word).shape, word) {
         (Shape::Number, _) => Form::Number,
         (Shape::Lambda, _) => Form::Function,
         (Shape::Nil, _) => Form::Empty,
         (_, 25 | 40) => Form::Pair,
-        (_, 30) if words.get(at + 1) == Some(&2) => Form::Lump,
+        (_, 30) if words.get(1) == Some(&2) => Form::Lump,
         _ => Form::Other,
     }
 }
 
-/// The number that stands at a place.
-pub fn number_at(words: &[u32], at: usize) -> u32 {
-    words[at] / 256
+/// The number that the words start with.
+pub fn number_at(words: &[u32]) -> u32 {
+    words[0] / 256
 }

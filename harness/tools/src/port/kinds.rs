@@ -23,7 +23,14 @@ pub enum Shape {
 #[derive(Clone, Copy)]
 pub struct Row {
     pub shape: Shape,
-    pub parts: u8,
+    parts: u8,
+}
+
+impl Row {
+    /// How many parts the kind has.
+    pub fn parts(self) -> usize {
+        usize::from(self.parts)
+    }
 }
 
 /// A row of the table.

@@ -1,6 +1,6 @@
 //! The loop: a term is reduced, step by step, until its run ends. The buffers take turns.
 
-use super::step::{step, Move};
+use super::steps::{step, Move};
 use model::run::MOST_WORDS;
 use model::{End, Ended};
 

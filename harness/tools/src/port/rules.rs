@@ -1,8 +1,8 @@
-//! The rules' answers: what a node becomes whose turn it is. Places are those of the term's words.
+//! The rules' answers: what a node becomes whose turn it is. Places are counted from the node's word on.
 
 use std::ops::Range;
 
-/// Words of the term, from a place to another.
+/// Words of the node, from a place to another.
 pub type Part = Range<usize>;
 
 /// What a node becomes: nothing, or an error; or the words to write, of which some stand in the node.
@@ -10,33 +10,36 @@ pub enum Rule {
     Stuck,
     /// The code of the wrong whose turn it is.
     Raised(u32),
-    /// A word, and a part behind it.
-    Led(u32, Part),
-    /// Two words, and a part behind them.
-    LedByTwo(u32, u32, Part),
+    /// A kind and a number.
+    Number(u32, u32),
     /// A part of the node alone.
     Part(Part),
-    /// A cons brought over: the words of the new cons and of its boundaries, the list type, the head and the tail.
+    /// A word, and a part after it.
+    Led(u32, Part),
+    /// Two words, and a part after them.
+    Led2(u32, u32, Part),
+    /// A list brought over: the words of the cons and of the boundary; where the value starts, where its tail does, and
+    /// where it ends.
     Items {
         cons: u32,
         boundary: u32,
-        list: Part,
-        head: Part,
-        tail: Part,
+        value: usize,
+        tail: usize,
+        end: usize,
     },
-    /// A Scheme lambda brought over into ML, from the type t to the type u.
+    /// A Scheme lambda brought over: where the second type starts, where the lambda does, and where it ends.
     IntoMl {
-        t: Part,
-        u: Part,
-        lambda: Part,
+        second: usize,
+        value: usize,
+        end: usize,
     },
-    /// An ML lambda brought over into Scheme, from the type t to the type u.
+    /// An ML lambda brought over, told in the same way.
     IntoScheme {
-        t: Part,
-        u: Part,
-        lambda: Part,
+        second: usize,
+        value: usize,
+        end: usize,
     },
-    /// A body, where it starts, with a value for the variable of the given word.
+    /// The word of a variable, where the body starts, and the value for the variable.
     Substituted {
         variable: u32,
         body: usize,
@@ -44,7 +47,7 @@ pub enum Rule {
     },
 }
 
-/// No words behind a word.
+/// No words after a word.
 pub const NOTHING: Part = 0..0;
 
 /// A value that no rule takes: a wrong in Scheme.
@@ -57,5 +60,5 @@ pub fn amiss(scheme: bool, code: u32) -> Rule {
 
 /// A number of Scheme, or of ML.
 pub fn numbered(scheme: bool, number: u32) -> Rule {
-    Rule::Led(if scheme { 33 } else { 17 } + 256 * number, NOTHING)
+    Rule::Number(if scheme { 33 } else { 17 }, number)
 }

@@ -1,41 +1,31 @@
-//! A writer: it borrows the unused buffer and counts the words of the next term, those that did not fit too.
+//! A writer: it borrows the unused buffer, and counts the words of the next term, those that did not fit too.
+
+use super::writing::copy;
 
 /// The buffer, and how many words of the next term there are so far.
-pub struct Writer<'a> {
+struct Writer<'a> {
     buffer: &'a mut [u32],
-    filled: usize,
+    at: usize,
 }
 
-impl<'a> Writer<'a> {
-    /// A writer that has put nothing yet.
-    pub fn new(buffer: &'a mut [u32]) -> Writer<'a> {
-        Writer { buffer, filled: 0 }
+impl Writer<'_> {
+    /// Words after the others.
+    fn put(&mut self, words: &[u32]) {
+        self.at = copy(words, self.buffer, self.at);
     }
 
-    /// How many words were put.
-    pub fn filled(&self) -> usize {
-        self.filled
+    /// The words up to a place are there already.
+    fn pass(&mut self, after: usize) {
+        self.at = after;
     }
+}
 
-    /// Puts one word.
-    pub fn put(&mut self, word: u32) {
-        if let Some(place) = self.buffer.get_mut(self.filled) {
-            *place = word;
-        }
-        self.filled += 1;
-    }
-
-    /// Puts all the words.
-    pub fn copy(&mut self, words: &[u32]) {
-        let from = self.filled.min(self.buffer.len());
-        let fitting = words.len().min(self.buffer.len() - from);
-        self.buffer[from..from + fitting].copy_from_slice(&words[..fitting]);
-        self.filled += words.len();
-    }
-
-    /// A word, and words behind it.
-    pub fn lead(&mut self, word: u32, words: &[u32]) {
-        self.put(word);
-        self.copy(words);
-    }
+/// The next term: the words of the source before the place, what stands in the buffer up to `after` already, and the words
+/// of the source from `end` on. Answers its size, whether or not it fits.
+pub fn write_next(buffer: &mut [u32], source: &[u32], place: usize, after: usize, end: usize) -> usize {
+    let mut writer = Writer { buffer, at: 0 };
+    writer.put(&source[..place]);
+    writer.pass(after);
+    writer.put(&source[end..]);
+    writer.at
 }

@@ -1,0 +1,102 @@
+//! The recipes that take the most stack, with what is known of their runs beforehand.
+
+use crate::engine::RecipeRun;
+use model::file::file;
+use model::run::MOST_WORDS;
+
+/// A recipe, its run's answer, and the words left.
+pub struct Known {
+    pub name: &'static str,
+    pub file: Vec<u8>,
+    pub answer: RecipeRun,
+    pub left: Vec<u32>,
+}
+
+/// All of them: terms that grow as deep as the words allow, lambdas substituted into, and files nested 256 deep.
+pub fn deepest() -> Vec<Known> {
+    let grown = GROWING.iter().map(Growing::known);
+    grown.chain([nested_lambdas(), nested_choices(), nested_types()]).collect()
+}
+
+/// A recipe that grows by the same words at each step, those of its term, and by how many it grows.
+struct Growing {
+    name: &'static str,
+    declared: &'static [u32],
+    term: &'static [u32],
+    grows: usize,
+}
+
+const GROWING: [Growing; 8] = [
+    Growing { name: "tl nested", declared: &[3, 1], term: &[20, 18, 3, 1, 27, 16], grows: 1 },
+    Growing { name: "add nested in its first part", declared: &[1], term: &[20, 18, 1, 21, 16, 17], grows: 2 },
+    Growing { name: "add nested in its second part", declared: &[1], term: &[20, 18, 1, 21, 17, 16], grows: 2 },
+    Growing { name: "cons nested", declared: &[3, 1], term: &[20, 18, 3, 1, 25, 17, 16], grows: 2 },
+    Growing { name: "conversions nested", declared: &[1], term: &[20, 18, 1, 30, 1, 45, 1, 16], grows: 4 },
+    Growing { name: "applications nested", declared: &[1], term: &[20, 18, 1, 19, 18, 1, 17, 16], grows: 4 },
+    Growing { name: "if0 nested in its test", declared: &[1], term: &[20, 18, 1, 23, 16, 17, 17], grows: 3 },
+    Growing {
+        name: "Scheme tl nested",
+        declared: &[3, 1],
+        term: &[20, 18, 3, 1, 30, 3, 1, 42, 45, 3, 1, 16],
+        grows: 7,
+    },
+];
+
+impl Growing {
+    /// The run ends where the next words do not fit.
+    fn known(&self) -> Known {
+        let steps = (MOST_WORDS - self.term.len()) / self.grows;
+        let left = self.left(steps);
+        let answer = full(steps, left.len(), left.len() + self.grows);
+        Known { name: self.name, file: file(self.declared, self.term), answer, left }
+    }
+
+    /// The term left: the body's words around the term again and again.
+    fn left(&self, steps: usize) -> Vec<u32> {
+        let body = &self.term[2 + self.declared.len()..];
+        let at = body.iter().position(|&word| word == 16).unwrap_or(0);
+        let (before, after) = (&body[..at], &body[at + 1..]);
+        [before.repeat(steps), self.term.to_vec(), after.repeat(steps)].concat()
+    }
+}
+
+/// The answer of a run that ends as full.
+fn full(steps: usize, left: usize, wanted: usize) -> RecipeRun {
+    RecipeRun { end: 3, steps: steps as u32, left: left as u32, wanted: wanted as u32, ..RecipeRun::default() }
+}
+
+/// w = fn (fn (app (app v1 v1) (app (fn (fn v2)) 0))): applied to itself and to a value, it calls itself with the value in
+/// one more lambda.
+const AGAIN: [u32; 11] = [34, 34, 35, 35, 32 + 256, 32 + 256, 35, 34, 34, 32 + 512, 33];
+
+/// ms L (app (app w w) 0). Lambdas nest as deep as the words allow: each round puts two of them around the others and
+/// applies the outer one to 0, so that a substitution goes through all the others to the innermost.
+fn nested_lambdas() -> Known {
+    let pair = [&[35][..], &AGAIN, &AGAIN].concat();
+    let term = [&[30, 2, 35][..], &pair, &[33]].concat();
+    // The lambda that (app w w) becomes: w's body, w being put in.
+    let becomes = [&[34, 35][..], &pair, &[35, 34, 34, 32 + 512, 33]].concat();
+    // ms L (app (app w w) (app (fn (fn V)) 0)), and the same one step later, with V one word and its lambdas.
+    let waits = |lambdas: usize| [&[30, 2, 35][..], &pair, &[35, 34, 34], &vec![34; lambdas], &[33, 33]].concat();
+    let one_later = |lambdas: usize| waits(lambdas).len() - pair.len() + becomes.len();
+    let rounds = MOST_WORDS + 1 - one_later(0);
+    let left = waits(rounds);
+    // One step to the lambda at first, three in each round, and one in the round that does not end.
+    let answer = full(2 + 3 * rounds, left.len(), one_later(rounds));
+    Known { name: "lambdas nested, and substituted into", file: file(&[2], &term), answer, left }
+}
+
+/// if0 1 0 (if0 1 0 ..), 256 levels deep: the check's walks go to the third part at each level, by three calls.
+fn nested_choices() -> Known {
+    let term = [[23, 17 + 256, 17].repeat(255), vec![17]].concat();
+    let answer = RecipeRun { steps: 255, left: 1, ..RecipeRun::default() };
+    Known { name: "a file of if0 nested 256 deep in the third part", file: file(&[1], &term), answer, left: vec![17] }
+}
+
+/// A wrong of a type nested 255 deep in functions' second parts, which the check compares with the declared type.
+fn nested_types() -> Known {
+    let declared = [[4, 1].repeat(254), vec![1]].concat();
+    let term = [&[29 + 256 * 7][..], &declared].concat();
+    let answer = RecipeRun { end: 2, code: 7, steps: 1, ..RecipeRun::default() };
+    Known { name: "a file of types nested 256 deep", file: file(&declared, &term), answer, left: vec![] }
+}
