@@ -1,13 +1,14 @@
 //! The loop: a term is reduced, step by step, until its run ends. The buffers take turns.
 
 use super::steps::{step, Move};
+use super::turns::{From, START};
 use model::run::MOST_WORDS;
 use model::{End, Ended};
 
-/// What follows a move: the run's end, or a step to a term of so many words.
+/// What follows a move: the run's end, or a step to a term of so many words, and where its walk may begin.
 enum Choice {
     Stop(Ended),
-    Go(usize),
+    Go(usize, From),
 }
 
 /// What a run is lent, and the steps that it has made.
@@ -32,14 +33,15 @@ pub fn capacity(first: &[u32], second: &[u32]) -> usize {
 /// Steps until the run ends. Answers also whether the term then stands in the first buffer.
 fn turns(first: &mut [u32], second: &mut [u32], count: usize, limit: u32) -> (Ended, bool) {
     let mut lent = Lent { capacity: capacity(first, second), limit, steps: 0 };
-    let (mut words, mut front) = (count, true);
+    let (mut words, mut front, mut from) = (count, true, START);
     let (mut source, mut target) = (first, second);
     loop {
-        let moved = step(&source[..words], target);
+        let moved = step(&source[..words], target, from);
         match lent.decide(moved, words) {
             Choice::Stop(ended) => return (ended, front),
-            Choice::Go(size) => {
+            Choice::Go(size, back) => {
                 words = size;
+                from = back;
                 lent.steps += 1;
                 front = !front;
                 std::mem::swap(&mut source, &mut target);
@@ -59,8 +61,8 @@ impl Lent {
             Move::Raised(code) => {
                 Choice::Stop(Ended { end: End::Error, code, steps: self.steps + 1, left: 0, wanted: 0 })
             }
-            Move::Next(size) if size > self.capacity => self.stop(End::Full, words, size),
-            Move::Next(size) => Choice::Go(size),
+            Move::Next(size, _) if size > self.capacity => self.stop(End::Full, words, size),
+            Move::Next(size, back) => Choice::Go(size, back),
         }
     }
 

@@ -1,13 +1,29 @@
 //! Whose turn it is: one pass over the words, which looks at each at most once. Of the nodes that wait for their parts only
-//! the last one met is remembered, since it is the first whose parts are all values.
+//! the last one met is remembered, since it is the first whose parts are all values. The pass need not begin at the root.
 
 use super::forms::{form_at, Form};
 use super::kinds::{row_of, Shape};
 use super::spans::skip;
 use std::ops::Range;
 
-/// The words of the node whose turn it is. None: the term is a value.
-pub type Found = Option<Range<usize>>;
+/// Where a walk begins: a place, and how many parts are due there.
+#[derive(Clone, Copy)]
+pub struct From {
+    place: usize,
+    due: usize,
+}
+
+/// The start of a term.
+pub const START: From = From { place: 0, due: 1 };
+
+/// The words of the node whose turn it is, and where the next walk may begin: at the node that waits for it, or at itself.
+pub struct Turn {
+    pub node: Range<usize>,
+    pub back: From,
+}
+
+/// None: all parts that were due are values.
+pub type Found = Option<Turn>;
 
 /// What evaluation does at a node: past `start` words it takes so many parts, and leaves the rest. Then it is the node's own
 /// turn, unless the node is a value.
@@ -37,22 +53,24 @@ fn look_at(words: &[u32]) -> Look {
 }
 
 /// The words from the place i on are the rest of the node that waited, if one did.
-fn finish(words: &[u32], i: usize, rest: usize, waits: Option<usize>) -> Found {
-    waits.map(|place| place..i + skip(&words[i..], rest))
+fn finish(words: &[u32], i: usize, rest: usize, waits: Option<From>, back: From) -> Found {
+    waits.map(|node| Turn { node: node.place..i + skip(&words[i..], rest), back })
 }
 
-/// The turn in the term that the words start with. `due` parts that evaluation takes stand from the place i on.
-pub fn turn(words: &[u32]) -> Found {
-    let (mut i, mut due, mut rest, mut waits) = (0, 1, 0, None);
+/// The turn in the term whose words these are. `due` parts that evaluation takes stand from the place i on.
+pub fn turn(words: &[u32], from: From) -> Found {
+    let (mut i, mut due, mut rest, mut waits, mut back) = (from.place, from.due, 0, None, START);
     while due > 0 && i < words.len() {
         let seen = look_at(&words[i..]);
         if seen.own {
-            waits = Some(i);
+            let here = From { place: i, due };
+            back = waits.unwrap_or(here);
+            waits = Some(here);
             rest = seen.rest;
             due = 1;
         }
         due = due - 1 + seen.takes;
         i += seen.start;
     }
-    finish(words, i, rest, waits)
+    finish(words, i, rest, waits, back)
 }
