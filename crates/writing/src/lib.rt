@@ -2,7 +2,7 @@
 
 ghost use mathlib.Core.Path.{_≡_};
 ghost use mathlib.Core.List.{[], _∷_};
-ghost use Prim.Native.Nat.{_+_, _-_, _<_, _^_, min};
+ghost use Prim.Native.Nat.{_+_, _-_, _<_, _≤_, _^_, min};
 ghost use lib.ListN.{length};
 ghost use Rattle.writing.specs.Wrote.{Wrote};
 ghost use Rattle.writing.specs.Pieces.{Ready, Emitted};
@@ -48,6 +48,26 @@ pub fn copy(source: &[u32], target: &mut [u32], n: usize) -> usize
     n + source.len()
 }
 
+// How many of so many words come before a place that is a multiple of 16; none of few words.
+fn uneven(n: usize, count: usize) -> usize
+    ensures { λ r. ⌜ r ≤ count ⌝ }
+{
+    if count < 64 {
+        return 0;
+    }
+    (16 - n % 16) % 16
+}
+
+// The same as copy, for a long stretch: a few words first, so that the stores after them straddle no line of the cache.
+fn copy_long(source: &[u32], target: &mut [u32], n: usize) -> usize
+    requires { ⌜ n + length (now source) < 2 ^ 62 ⌝ }
+    ensures { λ r. ⌜ Wrote (now (target .entry)) n (now (source .entry)) r (now (target .exit)) ⌝ }
+{
+    let k = uneven(n, source.len());
+    let m = copy(&source[..k], target, n);
+    copy(&source[k..], target, m)
+}
+
 // A piece of the next term, from the place n on: the words of src from a to e; or, where it is there already, up to the place a, nothing.
 // Returns the place after it.
 pub fn piece(src: &[u32], a: usize, e: usize, there: u32, buf: &mut [u32], n: usize) -> usize
@@ -55,7 +75,7 @@ pub fn piece(src: &[u32], a: usize, e: usize, there: u32, buf: &mut [u32], n: us
     ensures { λ r. ⌜ Emitted there (now (src .entry)) a e (now (buf .entry)) n r (now (buf .exit)) ⌝ }
 {
     if there == 0 {
-        return copy(&src[a..e], buf, n);
+        return copy_long(&src[a..e], buf, n);
     }
     a
 }

@@ -9,53 +9,62 @@ use Rattle.writing.proofs.piece.Tie as tie
 
 -- Where the words are copied from.
 module _ (c : tie.Then1) where
-  within : let a = c .before .before .before .args in (a .a ≤ a .e) × (a .e ≤ length (a .src .now))
-  within = c .before .before .before .pre .within (c .if1 .taken)
+  abbrev start : tie.Start
+  start = c .before .before .before
 
-mul-copy : tie.Need-mul-copy
-mul-copy c = record { fits = omega (arith, within c, c .before .before .before .pre .size) }
+  within : (start .args .a ≤ start .args .e) × (start .args .e ≤ length (start .args .src .now))
+  within = start .pre .within (c .if1 .taken)
 
-sub-copy : tie.Need-sub-copy
-sub-copy c = within c .0
+mul-copy-long : tie.Need-mul-copy-long
+mul-copy-long c =
+    let start = c .before .before .before in
+    record { fits = omega (arith, within c, start .pre .size) }
 
-part-copy-start : tie.Need-part-copy-start
-part-copy-start c = omega (arith, within c)
+sub-copy-long : tie.Need-sub-copy-long
+sub-copy-long c = within c .0
 
-part-copy-end : tie.Need-part-copy-end
-part-copy-end c = omega (arith, within c)
+part-copy-long-start : tie.Need-part-copy-long-start
+part-copy-long-start c = omega (arith, within c)
 
-copy-requires : tie.Need-copy-requires
-copy-requires c κs =
-    let s = c .before .before .before .before .before in
-    let a = s .args in
-    omega (arith, s .pre .size, s .pre .at, length-take (a .e - a .a) (drop (a .a) (a .src .now)), length-drop (a .a) (a .src .now))
+part-copy-long-end : tie.Need-part-copy-long-end
+part-copy-long-end c = omega (arith, within c)
+
+copy-long-requires : tie.Need-copy-long-requires
+copy-long-requires c κs =
+    let start = c .before .before .before .before .before in
+    omega (arith, start .pre .size, start .pre .at, length-take (start .args .e - start .args .a) (drop (start .args .a) (start .args .src .now)), length-drop (start .args .a) (start .args .src .now))
 
 same-length : tie.Need-same-length
 same-length c = search needs
 
 returns : tie.Need-returns
 returns c =
-    let s = c .before .before .before .before .before .before .before .before in
-    let w = c .before .before .copy .ensures in
+    let after-copy-long = c .before .before in
+    let then1 = c .before .before .before .before .before in
+    let start = c .before .before .before .before .before .before .before .before in
+    let s = start in
+    let w = after-copy-long .copy-long .ensures in
     let l = length-take (s .args .e - s .args .a) (drop (s .args .a) (s .args .src .now)) in
     record {
       bound = omega (arith, w .place, l, length-drop (s .args .a) (s .args .src .now), s .pre .size);
       copied = λ _. w;
-      passed = λ g. absurd (g (c .before .before .before .before .before .if1 .taken));
+      passed = λ g. absurd (g (then1 .if1 .taken));
     }
 
 returns-2 : tie.Need-returns-2
-returns-2 c = record { bound = omega (arith, c .before .before .before .pre .far); copied = λ z. absurd (c .if1 .left z); passed = λ _. (refl, refl) }
+returns-2 c =
+    let start = c .before .before .before in
+    record { bound = omega (arith, start .pre .far); copied = λ z. absurd (c .if1 .left z); passed = λ _. (refl, refl) }
 
 pub piece-spec : {M : Type 1} → statement M
 piece-spec =
     tie.close
     (tie.spec
-    mul-copy
-    sub-copy
-    part-copy-start
-    part-copy-end
-    copy-requires
+    mul-copy-long
+    sub-copy-long
+    part-copy-long-start
+    part-copy-long-end
+    copy-long-requires
     same-length
     returns
     returns-2)
