@@ -17,8 +17,9 @@ pub struct Reached {
 }
 
 // The first nodes of the words, so many as are due, with the value for the variable whose word is x, from the place n on. `at` words are gone
-// by. The words and the value may have 2^20 words each. Inside a lambda of either language the variable's word is another: only there the
-// function calls itself. Where there are fewer words than nodes due, it stops.
+// by. The words and the value may have 2^20 words each. Inside a lambda of either language the variable's word is another. Where nothing is due
+// after the lambda, the loop goes on with its parts; only at other lambdas the function calls itself. Where there are fewer words than nodes
+// due, it stops.
 pub fn substitute(
     table: &[u64; 48],
     words: &[u32],
@@ -38,6 +39,7 @@ pub fn substitute(
     let mut left = due;
     let mut i = 0;
     let mut k = n;
+    let mut y = x;
     while left != 0 {
         if words.len() - i < left {
             return Reached {
@@ -48,7 +50,7 @@ pub fn substitute(
         let w = words[i];
         i += 1;
         left -= 1;
-        if w == x {
+        if w == y {
             k = copy(value, target, k);
             continue;
         }
@@ -59,7 +61,12 @@ pub fn substitute(
             left += parts;
             continue;
         }
-        let inner = substitute(table, &words[i..], at + i, parts, x + 256, value, target, k);
+        if left == 0 {
+            left = parts;
+            y += 256;
+            continue;
+        }
+        let inner = substitute(table, &words[i..], at + i, parts, y + 256, value, target, k);
         i = inner.read - at;
         k = inner.at;
     }
