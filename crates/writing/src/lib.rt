@@ -64,6 +64,9 @@ fn copy_long(source: &[u32], target: &mut [u32], n: usize) -> usize
     ensures { λ r. ⌜ Wrote (now (target .entry)) n (now (source .entry)) r (now (target .exit)) ⌝ }
 {
     let k = uneven(n, source.len());
+    if k == 0 {
+        return copy(source, target, n);
+    }
     let m = copy(&source[..k], target, n);
     copy(&source[k..], target, m)
 }

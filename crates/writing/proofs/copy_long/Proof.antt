@@ -21,15 +21,28 @@ module _ (c : tie.After-uneven) where
 uneven-requires : tie.Need-uneven-requires
 uneven-requires c κs = search needs
 
-slice-aggregate-copy : tie.Need-slice-aggregate-copy
-slice-aggregate-copy c =
-    let after-uneven = c .before in
-    sym (first-length after-uneven)
-
 copy-requires : tie.Need-copy-requires
 copy-requires c κs =
-    let after-uneven = c .before .before in
     let start = c .before .before .before .before .before in
+    start .pre
+
+same-length : tie.Need-same-length
+same-length c = search needs
+
+returns : tie.Need-returns
+returns c =
+    let after-copy = c .before .before in
+    after-copy .copy .ensures
+
+slice-aggregate-copy : tie.Need-slice-aggregate-copy
+slice-aggregate-copy c =
+    let after-uneven = c .before .before in
+    sym (first-length after-uneven)
+
+copy-requires-2 : tie.Need-copy-requires-2
+copy-requires-2 c κs =
+    let after-uneven = c .before .before .before in
+    let start = c .before .before .before .before .before .before in
     omega (arith, first-length after-uneven, after-uneven .uneven .ensures, start .pre)
 
 mul-copy : tie.Need-mul-copy
@@ -37,50 +50,53 @@ mul-copy c = search needs
 
 sub-copy : tie.Need-sub-copy
 sub-copy c =
-    let after-uneven = c .before .before .before .before .before in
+    let after-uneven = c .before .before .before .before .before .before in
     after-uneven .uneven .ensures
 
 part-copy-start : tie.Need-part-copy-start
 part-copy-start c =
-    let after-uneven = c .before .before .before .before .before in
+    let after-uneven = c .before .before .before .before .before .before in
     after-uneven .uneven .ensures
 
 part-copy-end : tie.Need-part-copy-end
 part-copy-end c = search needs
 
-copy-requires-2 : tie.Need-copy-requires-2
-copy-requires-2 c κs =
-    let after-copy = c .before .before .before .before in
-    let after-uneven = c .before .before .before .before .before .before .before in
-    let start = c .before .before .before .before .before .before .before .before .before .before in
+copy-requires-3 : tie.Need-copy-requires-3
+copy-requires-3 c κs =
+    let after-copy2 = c .before .before .before .before in
+    let after-uneven = c .before .before .before .before .before .before .before .before in
+    let start = c .before .before .before .before .before .before .before .before .before .before .before in
     let u = after-uneven .uneven in
     let l = part-length (start .args .source .now) (u .result) in
-    omega (arith, after-copy .copy .ensures .place, first-length after-uneven, l, u .ensures, start .pre)
+    omega (arith, after-copy2 .copy2 .ensures .place, first-length after-uneven, l, u .ensures, start .pre)
 
-same-length : tie.Need-same-length
-same-length c = search needs
+same-length-2 : tie.Need-same-length-2
+same-length-2 c = search needs
 
-returns : tie.Need-returns
-returns c =
-    let after-copy2 = c .before .before in
-    let after-copy = c .before .before .before .before .before .before .before in
-    let after-uneven = c .before .before .before .before .before .before .before .before .before .before in
-    let start = c .before .before .before .before .before .before .before .before .before .before .before .before .before in
+returns-2 : tie.Need-returns-2
+returns-2 c =
+    let after-copy3 = c .before .before in
+    let after-copy2 = c .before .before .before .before .before .before .before in
+    let after-uneven = c .before .before .before .before .before .before .before .before .before .before .before in
+    let start = c .before .before .before .before .before .before .before .before .before .before .before .before .before .before in
     let ws = start .args .source .now in
     let k = after-uneven .uneven .result in
-    wrote-as (take-append-drop k ws) (then (after-copy .copy .ensures) (wrote-as (part-to-end ws k) (after-copy2 .copy2 .ensures)))
+    wrote-as (take-append-drop k ws) (then (after-copy2 .copy2 .ensures) (wrote-as (part-to-end ws k) (after-copy3 .copy3 .ensures)))
 
 pub copy-long-spec : {M : Type 1} → statement M
 copy-long-spec =
     tie.close
     (tie.spec
     uneven-requires
-    slice-aggregate-copy
     copy-requires
+    same-length
+    returns
+    slice-aggregate-copy
+    copy-requires-2
     mul-copy
     sub-copy
     part-copy-start
     part-copy-end
-    copy-requires-2
-    same-length
-    returns)
+    copy-requires-3
+    same-length-2
+    returns-2)
