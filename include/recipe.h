@@ -21,8 +21,8 @@ extern "C" {
 #endif
 
 /* Stack that one call takes at most, for files and buffers of up to 16,384 words.
- * Measured on x86-64 with the deepest terms: 2,560 KiB serve, 2,048 do not. `compare stack` in harness/ tries a figure. */
-#define RECIPE_STACK_BYTES (4u * 1024u * 1024u)
+ * Measured on x86-64 with the deepest terms: 1,280 KiB serve, 1,152 do not. `compare stack` in harness/ tries a figure. */
+#define RECIPE_STACK_BYTES (2u * 1024u * 1024u)
 
 /* A file has 24 to 16,384 bytes. Of a buffer, words past the 16,384th are never used, but they are set to 0. */
 #define RECIPE_FILE_BYTES 16384u

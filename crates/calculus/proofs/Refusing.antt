@@ -3,9 +3,9 @@ use Prim.Native.Nat.{ℕ, _+_, _≤_}
 use mathlib.Core.Bool.{Bool, true, false, cond}
 use mathlib.Core.List.{List, [], _∷_}
 use mathlib.Core.Option.{Option, none, some}
-use mathlib.Core.Path.{_≡_, refl, subst}
+use mathlib.Core.Path.{_≡_, refl}
 use lib.Dec.{eqb}
-use lib.ListN.{length, take, drop, length-drop}
+use lib.ListN.{length, drop, length-drop}
 use lib.Seq.{length-take-le}
 use native.Mathlib.Omega.{arith}
 use Rattle.calculus.specs.Trees.{Ty, ml, Term}
@@ -15,7 +15,7 @@ use Rattle.calculus.specs.Reading.{later, walk, noneLeft, nestedDue, lev
 use Rattle.calculus.specs.Scope.{scopeDue}
 use Rattle.calculus.specs.Inference.{sameType, infer}
 use Rattle.calculus.specs.File.{wordsOf, isSize, isHeader, typeCount, typeWords, termWords, ordered, scoped, Recipe, withTree, typed, checkWords, check}
-use Rattle.calculus.proofs.Walks.{reach, reach-later, walk-reach}
+use Rattle.calculus.proofs.Walks.{reach, walk-reach}
 use Rattle.calculus.proofs.Files.{header-iff}
 
 -- A refusal's place is at most b.

@@ -11,7 +11,7 @@ ghost use Prim.Native.Nat.{_≤_, _-_};
 ghost use lib.ListN.{length};
 ghost use Rattle.nodes.specs.Table.{kinds};
 ghost use Rattle.contraction.specs.Forms.{operator2};
-ghost use Rattle.contraction.specs.Told.{Placed, numberRule, sumRule};
+ghost use Rattle.contraction.specs.Told.{Placed, sumRule};
 ghost use Rattle.contraction.specs.Chosen.{Ends, TwoParts, OfApply, OfTwo, OfIf};
 
 const APPLY: u64 = 0;

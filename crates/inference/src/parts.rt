@@ -9,7 +9,7 @@ use rules::result_2;
 use rules::result_3;
 use types::type_end;
 ghost use mathlib.Core.Path.{_≡_};
-ghost use Prim.Native.Nat.{_+_, _<_, _≤_};
+ghost use Prim.Native.Nat.{_+_, _<_};
 ghost use lib.ListN.{length, getD};
 ghost use Rattle.nodes.specs.Table.{kinds};
 ghost use Rattle.inference.specs.Parts.{PartsStart, Linked, Entered, Function};

@@ -3,12 +3,12 @@ use Prim.Native.Nat.{ℕ, _%_}
 use mathlib.Core.Bool.{Bool, true, false, cond}
 use mathlib.Core.List.{List, [], _∷_}
 use mathlib.Core.Option.{some, Option·none-ne-some, Option·some-injective}
-use mathlib.Core.Path.{_≡_, refl, sym, ap, _∙_, subst}
+use mathlib.Core.Path.{_≡_, refl, ap, _∙_, subst}
 use lib.Dec.{eqb}
 use lib.ListN.{getD}
-use Rattle.calculus.specs.Trees.{Lang, ml, sc}
+use Rattle.calculus.specs.Trees.{ml, sc}
 use Rattle.calculus.specs.Words.{word}
-use Rattle.calculus.specs.Kinds.{Sort, type, term, Tree, Trees, putTree, putTrees, Row, table, rowIn}
+use Rattle.calculus.specs.Kinds.{Sort, type, term, Tree, Trees, putTree, Row, table, rowIn}
 use Rattle.calculus.proofs.Views.{View, view, kind-of}
 use Rattle.nodes.specs.declared.kinds.Row as code
 use Rattle.nodes.specs.Table.{sortNumber, shapeNumber, entry, rowOf}

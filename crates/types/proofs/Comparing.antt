@@ -1,11 +1,10 @@
 -- The ways out of comparing the types that the references p and q mean. Assumes nothing.
-use Prim.Native.Nat.{ℕ, suc, _+_, _-_, _≤_, _<_}
-use mathlib.Core.Bool.{Bool, true, false, cond, _&&_}
+use Prim.Native.Nat.{ℕ, _+_, _-_, _≤_, _<_}
+use mathlib.Core.Bool.{Bool, true, false}
 use mathlib.Core.List.{List, []}
 use mathlib.Core.Path.{_≡_, refl, sym, ap, _∙_, subst, subst₂}
 use borrow.Rule.Slice.PartAt.{part-to-end}
-use lib.ListN.{length, getD, take, drop, length-drop}
-use native.Mathlib.Nat.{add-zero}
+use lib.ListN.{length, take, drop, length-drop}
 use native.Mathlib.Omega.{arith}
 use Rattle.calculus.specs.Trees.{Ty, N, L, list, _to_, ml}
 use Rattle.calculus.specs.Words.{putTy, wordsTy, sizeTy}
@@ -13,8 +12,8 @@ use Rattle.calculus.specs.Kinds.{type}
 use Rattle.calculus.specs.Inference.{sameType}
 use Rattle.calculus.proofs.Sizes.{past-word, past-tree}
 use Rattle.nodes.specs.Table.{shapeNumber}
-use Rattle.types.specs.References.{shapeAt, formerAt, Written, Means, codomainOf, arrows}
-use Rattle.types.specs.Comparisons.{firstDifference, Within, Matched, Says, Compares, Compared, Equality}
+use Rattle.types.specs.References.{formerAt, Written, Means, codomainOf, arrows}
+use Rattle.types.specs.Comparisons.{firstDifference, Matched, Says, Compares, Compared, Equality}
 use Rattle.types.specs.declared.Match.{Match}
 use Rattle.types.specs.declared.Match.the-variants.{Same, Differ}
 use Rattle.types.specs.declared.Comparison.{Comparison}

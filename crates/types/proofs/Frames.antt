@@ -1,16 +1,14 @@
 -- A reference's meaning hangs on no link outside its own, and a type has no more arrows in a row than its reference has places to go. Assumes
 -- nothing.
 use Prim.Native.Nat.{ℕ, suc, _+_, _-_, _≤_, _<_}
-use mathlib.Core.Bool.{cond}
 use mathlib.Core.List.{List}
-use mathlib.Core.Logic.{_⊎_, inl, inr}
-use mathlib.Core.Path.{_≡_, refl, sym, ap, _∙_, subst}
-use borrow.Author.Tests.{eq-eqb, ne-eqb}
+use mathlib.Core.Logic.{inl, inr}
+use mathlib.Core.Path.{_≡_, sym, subst}
 use lib.ListN.{length, getD}
 use native.Mathlib.Omega.{arith}
 use Rattle.calculus.specs.Trees.{Ty, N, L, list, _to_}
 use Rattle.calculus.specs.Words.{sizeTy}
-use Rattle.types.specs.References.{shapeAt, Written, Means, codomainOf, arrows}
+use Rattle.types.specs.References.{Means, codomainOf, arrows}
 use Rattle.types.proofs.Meanings.{Result, written-means, written-in}
 
 -- A wider range of links.

@@ -1,7 +1,7 @@
 -- The ways out of comparing the types that x and y begin with. Assumes nothing.
 use Prim.Native.Nat.{ℕ, suc, _+_, _-_, _%_, _≤_, _<_}
-use mathlib.Core.Bool.{Bool, true, false, cond, _&&_, false≢true}
-use mathlib.Core.List.{List, [], _∷_}
+use mathlib.Core.Bool.{Bool, true, false, cond, false≢true}
+use mathlib.Core.List.{List}
 use mathlib.Core.Path.{_≡_, refl, sym, ap, _∙_, subst, subst₂}
 use lib.ListN.{length, getD, take, drop, length-drop}
 use borrow.Rule.Slice.PartAt.{part-to-end}
@@ -20,7 +20,7 @@ use Rattle.nodes.proofs.Shapes.{shape-first}
 use Rattle.types.specs.Comparisons.{firstDifference, Within, Matched, Ends}
 use Rattle.types.specs.declared.Match.{Match}
 use Rattle.types.specs.declared.Match.the-variants.{Same, Differ}
-use Rattle.types.proofs.Pairs.{same-refl, same-lists, same-functions, other-shapes, one-shape}
+use Rattle.types.proofs.Pairs.{same-refl, same-lists, same-functions, one-shape}
 use Rattle.types.proofs.Differences.{at-first, past-first, past-type}
 
 -- What an answer for two types says of them.

@@ -1,11 +1,10 @@
 -- `types::compare_within` meets its contract: each way out is one law of Comparing. The measure is the room. Assumes nothing.
 use borrow.Author.Needs.{needs}
 use lib.ListN.{length}
-use mathlib.Core.Path.{_≡_, sym, _∙_}
+use mathlib.Core.Path.{_∙_}
 use Prim.Native.Nat.{_+_, _-_, _≤_}
 use native.Mathlib.Omega.{arith}
 use Rattle.nodes.proofs.Ways.{part-length}
-use Rattle.types.specs.declared.Match.the-variants.{Same}
 use Rattle.types.proofs.Meanings.{behind}
 use Rattle.types.proofs.Comparing.{no-room, other-formers, no-parts, differ, ends, lists, functions}
 use Prim.Native.Nat.{ℕ, _<_}

@@ -1,6 +1,6 @@
 -- `types::former_at` meets its contract: each way out is one law of Meanings. Assumes nothing.
 use borrow.Author.Needs.{needs}
-use mathlib.Core.Path.{sym, ap, _∙_}
+use mathlib.Core.Path.{ap, _∙_}
 use Rattle.types.specs.References.{former}
 use Rattle.types.proofs.Meanings.{of-number, of-operator, of-nil, of-lambda, of-type}
 use Rattle.types.proofs.former_at.Statement.{statement}

@@ -18,7 +18,7 @@ usage: compare check [--files N] [--seed S] [--start I] [--all-reached]
 check        every term of up to 3 words, files at the edges, and N random files (200000): number and place
 run          every small recipe, edges of files and of what is lent, and N random files (100000): result and every word
              of both buffers
-stack        the deepest runs of 16,384 words, and the deepest files, on a stack of K KiB (4096)
+stack        the deepest runs of 16,384 words, and the deepest files, on a stack of K KiB (2048)
 --seed S     random files depend on the seed (1) and their index alone
 --start I    begin with random file I; the files that are the same every time are left out unless I is 0
 --all-reached  fail if a rule, an end or a refusal was never reached
@@ -74,7 +74,7 @@ fn run(args: Args) -> Result<(), Fault> {
 }
 
 fn stack(mut args: Args) -> Result<(), Fault> {
-    let kib = args.number("--kib", 4_096).map_err(Fault::Usage)?;
+    let kib = args.number("--kib", 2_048).map_err(Fault::Usage)?;
     args.finish().map_err(Fault::Usage)?;
     let engine = linked_run().ok_or(without("run"))?;
     for line in compare_stack(engine, kib as usize * 1024).map_err(difference)? {

@@ -15,7 +15,7 @@ pub struct Known {
 /// All of them: terms that grow as deep as the words allow, lambdas substituted into, and files nested 256 deep.
 pub fn deepest() -> Vec<Known> {
     let grown = GROWING.iter().map(Growing::known);
-    grown.chain([nested_lambdas(), nested_choices(), nested_types()]).collect()
+    grown.chain(WRAPS.iter().map(Wrap::known)).chain([nested_choices(), nested_types()]).collect()
 }
 
 /// A recipe that grows by the same words at each step, those of its term, and by how many it grows.
@@ -65,25 +65,44 @@ fn full(steps: usize, left: usize, wanted: usize) -> RecipeRun {
     RecipeRun { end: 3, steps: steps as u32, left: left as u32, wanted: wanted as u32, ..RecipeRun::default() }
 }
 
-/// w = fn (fn (app (app v1 v1) (app (fn (fn v2)) 0))): applied to itself and to a value, it calls itself with the value in
-/// one more lambda.
-const AGAIN: [u32; 11] = [34, 34, 35, 35, 32 + 256, 32 + 256, 35, 34, 34, 32 + 512, 33];
+/// What a round puts around a value: words before it and after it. Its lambda is the last of its node, or it is not.
+struct Wrap {
+    name: &'static str,
+    before: &'static [u32],
+    after: &'static [u32],
+}
 
-/// ms L (app (app w w) 0). Lambdas nest as deep as the words allow: each round puts two of them around the others and
-/// applies the outer one to 0, so that a substitution goes through all the others to the innermost.
-fn nested_lambdas() -> Known {
-    let pair = [&[35][..], &AGAIN, &AGAIN].concat();
-    let term = [&[30, 2, 35][..], &pair, &[33]].concat();
-    // The lambda that (app w w) becomes: w's body, w being put in.
-    let becomes = [&[34, 35][..], &pair, &[35, 34, 34, 32 + 512, 33]].concat();
-    // ms L (app (app w w) (app (fn (fn V)) 0)), and the same one step later, with V one word and its lambdas.
-    let waits = |lambdas: usize| [&[30, 2, 35][..], &pair, &[35, 34, 34], &vec![34; lambdas], &[33, 33]].concat();
-    let one_later = |lambdas: usize| waits(lambdas).len() - pair.len() + becomes.len();
-    let rounds = MOST_WORDS + 1 - one_later(0);
-    let left = waits(rounds);
-    // One step to the lambda at first, three in each round, and one in the round that does not end.
-    let answer = full(2 + 3 * rounds, left.len(), one_later(rounds));
-    Known { name: "lambdas nested, and substituted into", file: file(&[2], &term), answer, left }
+const WRAPS: [Wrap; 2] = [
+    Wrap { name: "lambdas nested, and substituted into", before: &[34], after: &[] },
+    Wrap { name: "lambdas nested in heads of cons, and substituted into", before: &[40, 34], after: &[33] },
+];
+
+impl Wrap {
+    /// The words of a term with so many rounds around.
+    fn around(&self, term: &[u32], rounds: usize) -> Vec<u32> {
+        [self.before.repeat(rounds), term.to_vec(), self.after.repeat(rounds)].concat()
+    }
+
+    /// ms L (app (app w w) 0), where w = fn (fn (app (app v1 v1) (app (fn R) 0))), R being a round around v2: applied to
+    /// itself and to a value, w calls itself with the value in one more round. Rounds nest as deep as the words allow, and
+    /// each applies a lambda around all the others to 0, so that a substitution goes through them to the innermost.
+    fn known(&self) -> Known {
+        let round = [&[35, 34][..], &self.around(&[32 + 512], 1), &[33]].concat();
+        let again = [&[34, 34, 35, 35, 32 + 256, 32 + 256][..], &round].concat();
+        let pair = [&[35][..], &again, &again].concat();
+        let term = [&[30, 2, 35][..], &pair, &[33]].concat();
+        // The lambda that (app w w) becomes: w's body, w being put in.
+        let becomes = [&[34, 35][..], &pair, &round].concat();
+        // ms L (app (app w w) (app (fn R) 0)), and the same one step later, with so many rounds around 0 in R.
+        let waits =
+            |rounds: usize| [&[30, 2, 35][..], &pair, &[35, 34], &self.around(&[33], rounds + 1), &[33]].concat();
+        let one_later = |rounds: usize| waits(rounds).len() - pair.len() + becomes.len();
+        let rounds = (MOST_WORDS - one_later(0)) / (self.before.len() + self.after.len()) + 1;
+        let left = waits(rounds);
+        // One step to the lambda at first, three in each round, and one in the round that does not end.
+        let answer = full(2 + 3 * rounds, left.len(), one_later(rounds));
+        Known { name: self.name, file: file(&[2], &term), answer, left }
+    }
 }
 
 /// if0 1 0 (if0 1 0 ..), 256 levels deep: the check's walks go to the third part at each level, by three calls.

@@ -10,10 +10,10 @@ pub struct Reached {
 }
 
 /// The first nodes of the words, so many as are due, with the value for the given variable's word, from the place n on.
-/// Inside a lambda of either language the variable's word is another: only there the function calls itself. Where there are
-/// fewer words than nodes due, it stops.
+/// Inside a lambda of either language the variable's word is another: only there the function calls itself, and not where
+/// the lambda is the last node due. Where there are fewer words than nodes due, it stops.
 pub fn substitute(words: &[u32], due: usize, variable: u32, value: &[u32], target: &mut [u32], n: usize) -> Reached {
-    let (mut left, mut read, mut at) = (due, 0, n);
+    let (mut left, mut read, mut at, mut variable) = (due, 0, n, variable);
     while left > 0 && left <= words.len() - read {
         let word = words[read];
         read += 1;
@@ -26,6 +26,11 @@ pub fn substitute(words: &[u32], due: usize, variable: u32, value: &[u32], targe
         let row = row_of(word);
         if row.shape != Shape::Lambda {
             left += row.parts();
+            continue;
+        }
+        if left == 0 {
+            left = row.parts();
+            variable += 256;
             continue;
         }
         let inner = substitute(&words[read..], row.parts(), variable + 256, value, target, at);
