@@ -21,8 +21,8 @@ which is not measured, puts a list into the term at four places, since a file ho
 /// Two tables: the spinning node behind all other words, and before them.
 pub fn tables() -> Vec<String> {
     let mut lines = vec![ABOUT.to_string()];
-    lines.extend(table("The spinning node comes last: a step walks all words and copies all.", spinning_last));
-    lines.extend(table("The spinning node comes first: a step walks few words and copies all.", spinning_first));
+    lines.extend(table("The spinning node comes last: all words stand before it.", spinning_last));
+    lines.extend(table("The spinning node comes first: all words stand behind it.", spinning_first));
     lines
 }
 
