@@ -41,9 +41,10 @@ fn items(
     ensures { λ r. ⌜ Wrote (now (target .entry)) n (itemsWords q m value tail end (now (words .entry))) r (now (target .exit)) ⌝ }
     ensures bound { λ r. ⌜ (n ≤ r) × (r ≤ n + 8388608) ⌝ }
 {
+    let head = value + 1;
     let a = put(target, n, q);
     let b = lead(m, words, 2, value, target, a);
-    let c = copy(&words[value + 1..tail], target, b);
+    let c = copy(&words[head..tail], target, b);
     let d = lead(m, words, 1, value, target, c);
     copy(&words[tail..end], target, d)
 }

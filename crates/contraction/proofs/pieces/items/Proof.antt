@@ -4,9 +4,11 @@ use Prim.Native.Nat.{_+_}
 use native.Mathlib.Omega.{arith}
 use Rattle.writing.proofs.Stores.{then}
 use Rattle.contraction.proofs.Dispatch.{stretch-length}
-use borrow.Author.Needs.{needs}
 use Rattle.contraction.proofs.pieces.items.Statement.{statement}
 use Rattle.contraction.proofs.pieces.items.Tie as tie
+
+add-head : tie.Need-add-head
+add-head c = search needs
 
 put-requires : tie.Need-put-requires
 put-requires c κs = search needs
@@ -17,9 +19,6 @@ lead-requires c κs =
     let w = c .before .before .before .put .ensures .place in
     let p = s .pre .1 in
     (s .pre .0 .0, p .0, omega (arith, p .1, p .2, p .3), omega (arith, w, s .pre .0 .1))
-
-add-copy : tie.Need-add-copy
-add-copy c = search needs
 
 mul-copy : tie.Need-mul-copy
 mul-copy c = search needs
@@ -39,7 +38,8 @@ copy-requires c κs =
     let mid = c .before .before .before .before .before .before .before .before in
     let s = mid .before .before .before .before in
     let l = stretch-length (s .args .words .now) (s .args .value + 1) (s .args .tail) in
-    omega (arith, l, mid .put .ensures .place, c .before .before .before .before .lead .ensures .1 .1, s .pre .0)
+    let m = stretch-length (s .args .words .now) (s .args .tail) (s .args .end) in
+    omega (arith, l, m, mid .put .ensures .place, c .before .before .before .before .lead .ensures .1 .1, s .pre .0)
 
 lead-requires-2 : tie.Need-lead-requires-2
 lead-requires-2 c κs =
@@ -47,6 +47,7 @@ lead-requires-2 c κs =
     let far = mid .before .before .before .before .before .before .before .before in
     let s = far in
     let l = stretch-length (s .args .words .now) (s .args .value + 1) (s .args .tail) in
+    let m = stretch-length (s .args .words .now) (s .args .tail) (s .args .end) in
     let p = s .pre .1 in (
       s .pre .0 .0,
       omega (arith, p .0),
@@ -54,6 +55,7 @@ lead-requires-2 c κs =
       omega (
         arith,
         l,
+        m,
         mid .before .before .before .before .put .ensures .place,
         mid .lead .ensures .1 .1,
         c .before .before .before .copy .ensures .place,
@@ -114,9 +116,9 @@ pub items-spec : {M : Type 1} → statement M
 items-spec =
     tie.close
     (tie.spec
+    add-head
     put-requires
     lead-requires
-    add-copy
     mul-copy
     sub-copy
     part-copy-start

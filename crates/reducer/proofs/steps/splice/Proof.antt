@@ -57,7 +57,7 @@ write-next-requires c κs =
       size = s .pre .1;
       first = s .pre .2 .inside;
       order = λ z. absurd (omega (arith, z));
-      within = end-in s;
+      within = omega (arith, end-in s, s .pre .2 .inside);
       far = omega (arith, after-contract .contract .ensures .1 .1, s .pre .1, s .pre .2 .inside);
     }
 
