@@ -26,6 +26,7 @@ pub mod Ranges
 pub mod Splices
 -- runs and files
 pub mod Runs
+pub mod Endings
 pub mod Growth
 pub mod Continuing
 pub mod Files

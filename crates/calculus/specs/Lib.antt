@@ -12,6 +12,7 @@ pub mod Reduction
 pub mod Rules
 pub mod Substitution
 pub mod Run
+pub mod Endings
 pub mod File
 pub mod Accepted
 pub mod Demands
