@@ -1,18 +1,19 @@
--- Document 01, "A refusal carries its number and a place": the place is in the file, or one past its last word. Assumes nothing.
-use Prim.Native.Nat.{ℕ, _+_, _≤_}
+-- Document 01, "A refusal carries its number and a place": the place is in the file, or one past its last word, and the check's number is one of
+-- 1 to 7. Assumes nothing.
+use Prim.Native.Nat.{ℕ, _+_, _-_, _≤_}
 use mathlib.Core.Bool.{Bool, true, false, cond}
-use mathlib.Core.List.{List, [], _∷_}
+use mathlib.Core.List.{List, [], _∷_, _++_}
 use mathlib.Core.Option.{Option, none, some}
 use mathlib.Core.Path.{_≡_, refl}
 use lib.Dec.{eqb}
-use lib.ListN.{length, drop, length-drop}
+use lib.ListN.{length, drop, replicate, length-drop}
 use lib.Seq.{length-take-le}
 use native.Mathlib.Omega.{arith}
-use Rattle.calculus.specs.Trees.{Ty, ml, Term}
-use Rattle.calculus.specs.Kinds.{Sort, type, term}
-use Rattle.calculus.specs.Verdicts.{Verdict, refused, passed, andThen, unless, orRefuse}
-use Rattle.calculus.specs.Reading.{later, walk, noneLeft, nestedDue, levels, inOrder, readTree}
-use Rattle.calculus.specs.Scope.{scopeDue}
+use Rattle.calculus.specs.Trees.{Ty, Lang, ml, Term}
+use Rattle.calculus.specs.Kinds.{Sort, type, term, Row, rowFor}
+use Rattle.calculus.specs.Verdicts.{found, Verdict, refused, passed, andThen, unless, orRefuse}
+use Rattle.calculus.specs.Reading.{Act, opens, refuses, later, acted, walk, noneLeft, nestedDue, levels, levelled, inOrder, readTree}
+use Rattle.calculus.specs.Scope.{isFree, inside, partCount, scopeDue}
 use Rattle.calculus.specs.Inference.{sameType, infer}
 use Rattle.calculus.specs.File.{wordsOf, isSize, isHeader, typeCount, typeWords, termWords, ordered, scoped, Recipe, withTree, typed, checkWords, check}
 use Rattle.calculus.proofs.Walks.{reach, walk-reach}
@@ -95,3 +96,95 @@ words-within ws =
 pub place-in-file : (bytes : List ℕ) → Within (length (wordsOf bytes)) (check bytes)
 unfolding check
 place-in-file bytes = within-unless (length (wordsOf bytes)) (isSize (length bytes)) 1 0 _ (omega arith) (λ h. words-within (wordsOf bytes))
+
+-- "The check alone never gives 8": a refusal's number is one of 1 to 7.
+abbrev pub Numbered : {A : Type 0} → Verdict A → Type 0
+Numbered (refused n p) = (1 ≤ n) × (n ≤ 7)
+Numbered (passed a) = Unit {0}
+
+numbered-then : {A B : Type 0} (v : Verdict A) (k : A → Verdict B) → Numbered v → ((a : A) → Numbered (k a)) → Numbered (andThen v k)
+numbered-then (refused n p) k h f = h
+numbered-then (passed a) k h f = f a
+
+numbered-unless : {A : Type 0} (t : Bool) (n p : ℕ) (v : Verdict A) → (1 ≤ n) × (n ≤ 7) → Numbered v → Numbered (unless t n p v)
+numbered-unless true n p v h f = f
+numbered-unless false n p v h f = h
+
+numbered-or : {A : Type 0} (o : Option A) (n p : ℕ) → (1 ≤ n) × (n ≤ 7) → Numbered (orRefuse o n p)
+numbered-or none n p h = h
+numbered-or (some a) n p h = tt
+
+numbered-later : (a : ℕ) (v : Verdict ℕ) → Numbered v → Numbered (later a v)
+numbered-later a (refused n p) h = h
+numbered-later a (passed m) h = tt
+
+-- What a word means where something is due.
+abbrev Due : {D : Type 0} → Act D → Type 0
+Due (opens ps) = Unit {0}
+Due (refuses r) = (1 ≤ r) × (r ≤ 7)
+
+numbered-acted : {D : Type 0} (a : Act D) (rest : List D → Verdict ℕ) → Due a → ((ps : List D) → Numbered (rest ps)) → Numbered (acted a rest)
+numbered-acted (opens ps) rest h f = numbered-later 1 (rest ps) (f ps)
+numbered-acted (refuses r) rest h f = h
+
+numbered-walk : {D : Type 0} (f : D → ℕ → Act D) → ((d : D) (w : ℕ) → Due (f d w)) → (ws : List ℕ) (ds : List D) → Numbered (walk f ws ds)
+unfolding walk
+numbered-walk f h [] [] = tt
+numbered-walk f h [] (d ∷ ds) = (omega arith, omega arith)
+numbered-walk f h (w ∷ ws) [] = tt
+numbered-walk f h (w ∷ ws) (d ∷ ds) = numbered-acted (f d w) _ (h d w) (λ ps. numbered-walk f h ws (ps ++ ds))
+
+due-nested : (d : Sort × ℕ) (w : ℕ) → Due (nestedDue d w)
+due-nested d w = by (rowFor (d .0) w)
+  where
+    level : (t : Bool) (r : Row (d .0)) → Due (cond t (refuses 4) (opens (levelled (d .1 - 1) (r .parts))))
+    level true r = (omega arith, omega arith)
+    level false r = tt
+
+    by : (o : Option (Row (d .0))) → Due (found o (refuses 3) (λ r. cond (eqb (d .1) 0) (refuses 4) (opens (levelled (d .1 - 1) (r .parts)))))
+    by none = (omega arith, omega arith)
+    by (some r) = level (eqb (d .1) 0) r
+
+due-scope : (Γ : List Lang) (w : ℕ) → Due (scopeDue Γ w)
+due-scope Γ w = by (isFree Γ w)
+  where
+    by : (t : Bool) → Due (cond t (refuses 5) (opens (replicate (partCount w) (inside Γ w))))
+    by true = (omega arith, omega arith)
+    by false = tt
+
+numbered-order : (s : Sort) (ws : List ℕ) → Numbered (inOrder s ws)
+unfolding inOrder
+numbered-order s ws = by (walk nestedDue ws ((s, levels) ∷ [])) (numbered-walk nestedDue due-nested ws ((s, levels) ∷ []))
+  where
+    chosen : (t : Bool) (m : ℕ) → Numbered (cond t (passed m) (refused 3 m))
+    chosen true m = tt
+    chosen false m = (omega arith, omega arith)
+
+    by : (v : Verdict ℕ) → Numbered v → Numbered (noneLeft (length ws) v)
+    by (refused r p) h = h
+    by (passed m) h = chosen (eqb m (length ws)) m
+
+numbered-typed : (τ : Ty) (e : Term ml) → Numbered (typed τ e)
+unfolding typed
+numbered-typed τ e =
+    numbered-then (orRefuse (infer [] e) 6 0) _ (numbered-or (infer [] e) 6 0 (omega arith, omega arith))
+    (λ t. numbered-unless (sameType ml t τ) 7 0 (passed (τ, e)) (omega arith, omega arith) tt)
+
+numbered-words : (ws : List ℕ) → Numbered (checkWords ws)
+unfolding checkWords
+numbered-words ws =
+    let start = 4 + typeCount ws in
+    numbered-unless (isHeader ws) 2 0 _ (omega arith, omega arith)
+    (numbered-then (later 4 (inOrder type (typeWords ws))) _ (numbered-later 4 (inOrder type (typeWords ws)) (numbered-order type (typeWords ws)))
+    (λ i. numbered-then (later start (inOrder (term ml) (termWords ws))) _
+    (numbered-later start (inOrder (term ml) (termWords ws)) (numbered-order (term ml) (termWords ws)))
+    (λ j. numbered-then (later start (walk scopeDue (termWords ws) ([] ∷ []))) _
+    (numbered-later start (walk scopeDue (termWords ws) ([] ∷ [])) (numbered-walk scopeDue due-scope (termWords ws) ([] ∷ [])))
+    (λ k. numbered-then (orRefuse (readTree type (typeWords ws)) 3 4) _ (numbered-or (readTree type (typeWords ws)) 3 4 (omega arith, omega arith))
+    (λ τ. numbered-then (orRefuse (readTree (term ml) (termWords ws)) 3 start) _
+    (numbered-or (readTree (term ml) (termWords ws)) 3 start (omega arith, omega arith)) (λ e. numbered-typed τ e))))))
+
+-- Of every file that is refused.
+pub number-in-table : (bytes : List ℕ) → Numbered (check bytes)
+unfolding check
+number-in-table bytes = numbered-unless (isSize (length bytes)) 1 0 _ (omega arith, omega arith) (numbered-words (wordsOf bytes))
