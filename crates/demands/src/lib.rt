@@ -1,0 +1,51 @@
+// The demands as contracts of code that calls the public operations. Each is proved from what these promise and from nothing else of them: if one
+// promised less, no proof here would stand.
+
+use checker::Checked;
+use checker::check;
+use engine::runs::Answer;
+use engine::runs::run;
+ghost use Rattle.demands.specs.Demanded.{lent, given, Checks, Once, Twice};
+
+// Three answers on one file: the check's, and those of two runs.
+pub struct Answers {
+    pub checked: Checked,
+    pub earlier: Answer,
+    pub later: Answer,
+}
+
+// Demand 2 of the check.
+pub fn check_once(file: &[u8]) -> Checked
+    ensures { λ r. ⌜ Checks (now (file .entry)) r ⌝ }
+{
+    check(file)
+}
+
+// Demand 1, and demand 2 of a run: of this file, this limit and these buffers.
+pub fn run_once(file: &[u8], limit: u32, first: &mut [u32], second: &mut [u32]) -> Answer
+    ensures { λ x. ⌜ Once (lent (now (file .entry)) limit (now (first .entry)) (now (second .entry))) (given x (now (first .exit)) (now (second .exit))) ⌝ }
+{
+    run(file, limit, first, second)
+}
+
+// Demand 3, whole: of this file, and of two runs of it.
+pub fn run_twice(
+    file: &[u8],
+    limit: u32,
+    first: &mut [u32],
+    second: &mut [u32],
+    limit_2: u32,
+    first_2: &mut [u32],
+    second_2: &mut [u32],
+) -> Answers
+    ensures { λ r. ⌜ Twice (r .checked) (lent (now (file .entry)) limit (now (first .entry)) (now (second .entry))) (given (r .earlier) (now (first .exit)) (now (second .exit))) (lent (now (file .entry)) limit_2 (now (first_2 .entry)) (now (second_2 .entry))) (given (r .later) (now (first_2 .exit)) (now (second_2 .exit))) ⌝ }
+{
+    let checked = check(file);
+    let earlier = run(file, limit, first, second);
+    let later = run(file, limit_2, first_2, second_2);
+    Answers {
+        checked: checked,
+        earlier: earlier,
+        later: later,
+    }
+}
