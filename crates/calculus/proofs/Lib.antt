@@ -10,6 +10,7 @@ pub mod Nodes
 pub mod Scopes
 -- typing
 pub mod Inference
+pub mod Types
 pub mod Typing
 pub mod Faults
 -- reduction
@@ -25,6 +26,7 @@ pub mod Soundness
 pub mod Ranges
 pub mod Splices
 -- runs and files
+pub mod Bounds
 pub mod Runs
 pub mod Endings
 pub mod Growth

@@ -1,5 +1,5 @@
 -- What a C program gets.
-use Prim.Native.Nat.{ℕ, _+_, _*_, min}
+use Prim.Native.Nat.{ℕ, _+_, _*_}
 use Rattle.calculus.specs.Verdicts.{Verdict, refused, passed}
 use Rattle.calculus.specs.Run as spec
 use Rattle.engine.specs.Ran.{Line, told}
@@ -12,10 +12,6 @@ use Rattle.exports.specs.declared.runs.RecipeRun.{RecipeRun}
 abbrev pub checkNumber : Verdict (Unit {0}) → ℕ
 checkNumber (refused n p) = n + 256 * p
 checkNumber (passed x) = 0
-
--- A number in 32 bits.
-abbrev pub narrowed : ℕ → ℕ
-narrowed n = min n 4294967295
 
 -- "end 0 value, 1 spent, 2 error, 3 full".
 abbrev pub numberOfEnd : spec.End → ℕ
@@ -32,7 +28,7 @@ endNumber Full = 3
 
 -- After a refusal every other number is 0.
 abbrev pub refusedNumbers : ℕ → ℕ → RecipeRun
-refusedNumbers n p = record { refusal = n; place = narrowed p; end = 0; code = 0; steps = 0; left = 0; wanted = 0 }
+refusedNumbers n p = record { refusal = n; place = p; end = 0; code = 0; steps = 0; left = 0; wanted = 0 }
 
 abbrev pub lineNumbers : Line → RecipeRun
 lineNumbers x =
@@ -42,8 +38,8 @@ lineNumbers x =
       end = numberOfEnd (x .end);
       code = x .code;
       steps = x .made .steps;
-      left = narrowed (x .left);
-      wanted = narrowed (x .wanted);
+      left = x .left;
+      wanted = x .wanted;
     }
 
 abbrev pub endedNumbers : Report → RecipeRun

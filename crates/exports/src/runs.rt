@@ -1,4 +1,4 @@
-// A run for a C program. A number of words over 4,294,967,295 would be given as that; the terms of no recipe come near it.
+// A run for a C program. A place is at most 4,096, the words left are at most 16,384, and those wanted at most their square.
 
 use engine::ends::End;
 use engine::ends::Report;
@@ -6,12 +6,13 @@ use engine::runs::Answer;
 use engine::runs::run;
 use nodes::refusals::Refusal;
 ghost use mathlib.Core.Path.{_≡_};
+ghost use Prim.Native.Nat.{_≤_};
 ghost use lib.ListN.{length};
 ghost use Rattle.calculus.specs.Verdicts.{passed, andThen};
 ghost use Rattle.calculus.specs.File.{operate, firstAfter, secondAfter};
-ghost use Rattle.nodes.specs.Refusals.{refusal};
+ghost use Rattle.nodes.specs.Refusals.{placeOf, refusal};
 ghost use Rattle.engine.specs.Ran.{lineOf};
-ghost use Rattle.exports.specs.Numbers.{narrowed, endNumber, refusedNumbers, endedNumbers, runNumbers};
+ghost use Rattle.exports.specs.Numbers.{endNumber, refusedNumbers, endedNumbers, runNumbers};
 
 #[repr(C)]
 pub struct RecipeRun {
@@ -25,15 +26,14 @@ pub struct RecipeRun {
 }
 
 fn narrow(n: usize) -> u32
-    ensures { λ r. ⌜ r ≡ narrowed n ⌝ }
+    requires { ⌜ n ≤ 268435456 ⌝ }
+    ensures { λ r. ⌜ r ≡ n ⌝ }
 {
-    if n < 4294967295 {
-        return n as u32;
-    }
-    4294967295
+    n as u32
 }
 
 fn refused(number: u32, place: usize) -> RecipeRun
+    requires { ⌜ place ≤ 4096 ⌝ }
     ensures { λ r. ⌜ r ≡ refusedNumbers number place ⌝ }
 {
     RecipeRun {
@@ -48,6 +48,7 @@ fn refused(number: u32, place: usize) -> RecipeRun
 }
 
 fn refused_by(r: Refusal) -> RecipeRun
+    requires { ⌜ placeOf r ≤ 4096 ⌝ }
     ensures { λ x. ⌜ x ≡ runNumbers (refusal r) ⌝ }
 {
     match r {
@@ -74,6 +75,7 @@ fn end_number(e: End) -> u32
 }
 
 fn ended(x: Report) -> RecipeRun
+    requires { ⌜ (x .left ≤ 16384) × (x .wanted ≤ 268435456) ⌝ }
     ensures { λ r. ⌜ r ≡ endedNumbers x ⌝ }
 {
     let e = x.end;

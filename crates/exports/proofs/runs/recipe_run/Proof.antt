@@ -1,7 +1,7 @@
 -- `exports::runs::recipe_run` meets its contract, for every file, every limit and every pair of buffers. Assumes nothing.
 use borrow.Author.Needs.{needs}
 use Rattle.exports.proofs.Numbering.{answer-refused, answer-ended}
-use borrow.Author.Needs.{needs}
+use Rattle.exports.proofs.Packing.{run-place, run-words}
 use Rattle.exports.proofs.runs.recipe_run.Statement.{statement}
 use Rattle.exports.proofs.runs.recipe_run.Tie as tie
 
@@ -12,13 +12,17 @@ enum-known-r : tie.Need-enum-known-r
 enum-known-r c = search needs
 
 refused-by-requires : tie.Need-refused-by-requires
-refused-by-requires c κs = search needs
+refused-by-requires c κs =
+    let r = c .before .before .before .before .before .before .before .run in let g = c .before .r .given in
+    run-place _ _ _ _ (r .result) (r .ensures .answer-is) (g .0 .0) (g .1)
 
 enum-known-x : tie.Need-enum-known-x
 enum-known-x c = search needs
 
 ended-requires : tie.Need-ended-requires
-ended-requires c κs = search needs
+ended-requires c κs =
+    let r = c .before .before .before .before .before .before .before .run in let g = c .before .x .given in
+    run-words _ _ _ _ (r .result) (r .ensures .answer-is) (g .0 .0) (g .1)
 
 same-length : tie.Need-same-length
 same-length c = search needs

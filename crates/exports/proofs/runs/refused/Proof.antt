@@ -1,11 +1,10 @@
 -- `exports::runs::refused` meets its contract. Assumes nothing.
-use borrow.Author.Needs.{needs}
-use borrow.Author.Needs.{needs}
+use native.Mathlib.Omega.{arith}
 use Rattle.exports.proofs.runs.refused.Statement.{statement}
 use Rattle.exports.proofs.runs.refused.Tie as tie
 
 narrow-requires : tie.Need-narrow-requires
-narrow-requires c κs = search needs
+narrow-requires c κs = omega arith
 
 returns : tie.Need-returns
 returns c = rw (c .narrow .ensures)

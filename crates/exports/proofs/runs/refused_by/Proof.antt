@@ -1,5 +1,9 @@
 -- `exports::runs::refused_by` meets its contract: each case by its number and place. Assumes nothing.
-use borrow.Author.Needs.{needs}
+use Prim.Native.Nat.{_≤_}
+use mathlib.Core.Path.{subst}
+use native.Mathlib.Omega.{arith}
+use Rattle.nodes.specs.declared.refusals.Refusal.{Refusal}
+use Rattle.nodes.specs.Refusals.{placeOf}
 use Rattle.nodes.specs.declared.refusals.Refusal.the-variants.{Bytes, Header, Word, Nesting, Variable, Untyped, Mistyped, Capacity}
 use Rattle.exports.proofs.Numbering.{refused-as}
 use borrow.Author.Needs.{needs}
@@ -10,49 +14,49 @@ enum-told : tie.Need-enum-told
 enum-told c = search needs
 
 refused-requires : tie.Need-refused-requires
-refused-requires c κs = search needs
+refused-requires c κs = omega arith
 
 enum-told-2 : tie.Need-enum-told-2
 enum-told-2 c = search needs
 
 refused-requires-2 : tie.Need-refused-requires-2
-refused-requires-2 c κs = search needs
+refused-requires-2 c κs = omega arith
 
 enum-known-r : tie.Need-enum-known-r
 enum-known-r c = search needs
 
 refused-requires-3 : tie.Need-refused-requires-3
-refused-requires-3 c κs = search needs
+refused-requires-3 c κs = subst (λ (x : Refusal). placeOf x ≤ 4096) (c .before .r .given .1) (c .before .before .before .pre)
 
 enum-known-r-2 : tie.Need-enum-known-r-2
 enum-known-r-2 c = search needs
 
 refused-requires-4 : tie.Need-refused-requires-4
-refused-requires-4 c κs = search needs
+refused-requires-4 c κs = subst (λ (x : Refusal). placeOf x ≤ 4096) (c .before .r2 .given .1) (c .before .before .before .pre)
 
 enum-known-r-3 : tie.Need-enum-known-r-3
 enum-known-r-3 c = search needs
 
 refused-requires-5 : tie.Need-refused-requires-5
-refused-requires-5 c κs = search needs
+refused-requires-5 c κs = subst (λ (x : Refusal). placeOf x ≤ 4096) (c .before .r3 .given .1) (c .before .before .before .pre)
 
 enum-known-r-4 : tie.Need-enum-known-r-4
 enum-known-r-4 c = search needs
 
 refused-requires-6 : tie.Need-refused-requires-6
-refused-requires-6 c κs = search needs
+refused-requires-6 c κs = subst (λ (x : Refusal). placeOf x ≤ 4096) (c .before .r4 .given .1) (c .before .before .before .pre)
 
 enum-known-r-5 : tie.Need-enum-known-r-5
 enum-known-r-5 c = search needs
 
 refused-requires-7 : tie.Need-refused-requires-7
-refused-requires-7 c κs = search needs
+refused-requires-7 c κs = subst (λ (x : Refusal). placeOf x ≤ 4096) (c .before .r5 .given .1) (c .before .before .before .pre)
 
 enum-told-3 : tie.Need-enum-told-3
 enum-told-3 c = search needs
 
 refused-requires-8 : tie.Need-refused-requires-8
-refused-requires-8 c κs = search needs
+refused-requires-8 c κs = omega arith
 
 returns : tie.Need-returns
 returns c = refused-as (c .before .before .before .args .r) Bytes (c .refused .result) (c .refused .ensures) (c .before .enum-told .given .1)
