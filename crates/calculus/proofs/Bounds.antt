@@ -4,19 +4,22 @@ use mathlib.Core.Bool.{Bool, true, false, cond}
 use mathlib.Core.List.{List, []}
 use mathlib.Core.Logic.{_⊎_, inl, inr, ⊎-elim}
 use mathlib.Core.Path.{_≡_, refl, sym, ap, _∙_}
-use lib.Dec.{eqb}
+use lib.Dec.{eqb, leb}
 use lib.ListN.{length}
 use native.Mathlib.Nat.{add-mul, mul-le-mul, mul-le-mul-left, mul-le-mul-right}
 use native.Mathlib.Omega.{arith}
 use Rattle.calculus.specs.Trees.{Ty, N, L, list, _to_, Lang, ml, sc, Static, lists, numbers, Term, var, num, lam, op1, op2, if0, nil, wrong, ms, sm, app, fix}
 use Rattle.calculus.specs.Words.{sizeTy, sizeStatic, size}
-use Rattle.calculus.specs.Reduction.{replaced, substitute, Frame, under, first, second, tested, intoML, intoScheme, plug, Context, here, within, fill, next, step}
-use Rattle.calculus.specs.Rules.{_⊢_⇒_, app-lambda, app-no-lambda, fix-lambda, add-numbers, add-over, add-no-number, sub-numbers, sub-no-number, if0-zero, if0-other, if0-no-number, hd-cons, hd-nil, hd-no-list, tl-cons, tl-nil, tl-no-list, null-nil, null-cons, fun?-lambda, fun?-other, list?-nil, list?-cons, list?-other, null?-nil, null?-other, num?-number, num?-other, ms-number, ms-no-number, ms-nil, ms-cons, ms-no-list, ms-lambda, ms-no-lambda, sm-number, sm-lump, sm-nil, sm-cons, sm-lambda, _⟶_, by-rule}
+use Rattle.calculus.specs.Typing.{Typed}
+use Rattle.calculus.specs.Substitution.{shift, forOwn, ordinary}
+use Rattle.calculus.specs.Rules.{_⊢_⇒_, app-lambda, app-no-lambda, fix-lambda, add-numbers, add-over, add-no-number, sub-numbers, sub-no-number, if0-zero, if0-other, if0-no-number, hd-cons, hd-nil, hd-no-list, tl-cons, tl-nil, tl-no-list, null-nil, null-cons, fun?-lambda, fun?-other, list?-nil, list?-cons, list?-other, null?-nil, null?-other, num?-number, num?-other, ms-number, ms-no-number, ms-nil, ms-cons, ms-no-list, ms-lambda, ms-no-lambda, sm-number, sm-lump, sm-nil, sm-cons, sm-lambda, Around, hole, in-unary, in-first, in-second, in-test, in-ms, in-sm, around, _⟶_, by-rule}
 use Rattle.calculus.specs.Kinds.{term}
 use Rattle.calculus.specs.Verdicts.{passed}
 use Rattle.calculus.specs.Run.{Counts, uncounted, Result, capacity}
 use Rattle.calculus.specs.File.{operate}
 use Rattle.calculus.proofs.Sizes.{tree-length}
+use Rattle.calculus.proofs.Typing.{typed-scoped}
+use Rattle.calculus.proofs.Soundness.{sound}
 use Rattle.calculus.proofs.Agreement.{next-iff}
 use Rattle.calculus.proofs.Runs.{Ran, at-value, at-limit, at-error, at-full, at-stuck, by-step, run-ran}
 use Rattle.calculus.proofs.Checks.{operate-iff}
@@ -57,33 +60,53 @@ spread-3 a b c s = spread-2 (a + b) c s ∙ omega (arith, add-mul a b s)
 grown : (a s : ℕ) → 1 ≤ s → a ≤ a * s
 grown a s h = let i : a * 1 ≡ a = omega arith in rw i at (mul-le-mul-left a h)
 
--- Each variable may become the term that is put for it.
-size-substitute : {m l : Lang} (u : Term m) (k : ℕ) (e : Term l) → size (substitute u k e) ≤ size e * size u
-unfolding substitute size
-size-substitute {m} u k (var {l} i) = by m l u (eqb i k)
+-- A shift keeps the size.
+size-shift : {l : Lang} (d k : ℕ) (e : Term l) → size (shift d k e) ≡ size e
+unfolding shift size
+size-shift d k (var {l} i) = by (leb k i)
   where
-    by : (m l : Lang) (u : Term m) (b : Bool) → size {l = l} (cond b (replaced m l u i) (var i)) ≤ 1 * size u
-    by ml ml u true = omega arith
-    by ml sc u true = omega (arith, size-some u)
-    by sc ml u true = omega (arith, size-some u)
-    by sc sc u true = omega arith
-    by ml ml u false = omega (arith, size-some u)
-    by ml sc u false = omega (arith, size-some u)
-    by sc ml u false = omega (arith, size-some u)
-    by sc sc u false = omega (arith, size-some u)
-size-substitute u k (num n) = omega (arith, size-some u)
-size-substitute u k (lam {l} t b) =
-    omega (arith, size-some u, size-substitute u (suc k) b, spread-2 (sizeStatic l t) (size b) (size u), grown (sizeStatic l t) (size u) (size-some u))
-size-substitute u k (op1 o a) = omega (arith, size-some u, size-substitute u k a, spread-1 (size a) (size u))
-size-substitute u k (op2 o a b) = omega (arith, size-some u, size-substitute u k a, size-substitute u k b, spread-2 (size a) (size b) (size u))
-size-substitute u k (if0 a b c) =
-    omega (arith, size-some u, size-substitute u k a, size-substitute u k b, size-substitute u k c, spread-3 (size a) (size b) (size c) (size u))
-size-substitute u k (nil {l} t) = grown (suc (sizeStatic l t)) (size u) (size-some u)
-size-substitute u k (wrong {l} c t) = grown (suc (sizeStatic l t)) (size u) (size-some u)
-size-substitute u k (ms t a) =
-    omega (arith, size-some u, size-substitute u k a, spread-2 (sizeTy t) (size a) (size u), grown (sizeTy t) (size u) (size-some u))
-size-substitute u k (sm t a) =
-    omega (arith, size-some u, size-substitute u k a, spread-2 (sizeTy t) (size a) (size u), grown (sizeTy t) (size u) (size-some u))
+    by : (b : Bool) → size {l = l} (cond b (var (i + d)) (var i)) ≡ 1
+    by true = refl
+    by false = refl
+size-shift d k (num n) = refl
+size-shift d k (lam t b) = rw (size-shift d (suc k) b)
+size-shift d k (op1 o a) = rw (size-shift d k a)
+size-shift d k (op2 o a b) = rw (size-shift d k a, size-shift d k b)
+size-shift d k (if0 a b c) = rw (size-shift d k a, size-shift d k b, size-shift d k c)
+size-shift d k (nil t) = refl
+size-shift d k (wrong c t) = refl
+size-shift d k (ms t a) = rw (size-shift d k a)
+size-shift d k (sm t a) = rw (size-shift d k a)
+
+-- Each variable may become the term that is put for it.
+size-ordinary : {m l : Lang} (u : Term m) (k : ℕ) (e : Term l) → size (ordinary u k e) ≤ size e * size u
+unfolding ordinary size
+size-ordinary {m} u k (var {l} i) = by m l u (eqb i k) (leb i k)
+  where
+    kept : (l : Lang) (c : Bool) → size {l = l} (cond c (var i) (var (i - 1))) ≡ 1
+    kept l true = refl
+    kept l false = refl
+
+    by : (m l : Lang) (u : Term m) (b c : Bool) → size {l = l} (cond b (forOwn m l (shift k 0 u) (var i)) (cond c (var i) (var (i - 1)))) ≤ 1 * size u
+    by ml ml u true c = omega (arith, size-shift k 0 u)
+    by ml sc u true c = omega (arith, size-some u)
+    by sc ml u true c = omega (arith, size-some u)
+    by sc sc u true c = omega (arith, size-shift k 0 u)
+    by ml l u false c = omega (arith, size-some u, kept l c)
+    by sc l u false c = omega (arith, size-some u, kept l c)
+size-ordinary u k (num n) = omega (arith, size-some u)
+size-ordinary u k (lam {l} t b) =
+    omega (arith, size-some u, size-ordinary u (suc k) b, spread-2 (sizeStatic l t) (size b) (size u), grown (sizeStatic l t) (size u) (size-some u))
+size-ordinary u k (op1 o a) = omega (arith, size-some u, size-ordinary u k a, spread-1 (size a) (size u))
+size-ordinary u k (op2 o a b) = omega (arith, size-some u, size-ordinary u k a, size-ordinary u k b, spread-2 (size a) (size b) (size u))
+size-ordinary u k (if0 a b c) =
+    omega (arith, size-some u, size-ordinary u k a, size-ordinary u k b, size-ordinary u k c, spread-3 (size a) (size b) (size c) (size u))
+size-ordinary u k (nil {l} t) = grown (suc (sizeStatic l t)) (size u) (size-some u)
+size-ordinary u k (wrong {l} c t) = grown (suc (sizeStatic l t)) (size u) (size-some u)
+size-ordinary u k (ms t a) =
+    omega (arith, size-some u, size-ordinary u k a, spread-2 (sizeTy t) (size a) (size u), grown (sizeTy t) (size u) (size-some u))
+size-ordinary u k (sm t a) =
+    omega (arith, size-some u, size-ordinary u k a, spread-2 (sizeTy t) (size a) (size u), grown (sizeTy t) (size u) (size-some u))
 
 twice : (m n : ℕ) → 2 ≤ m → n ≤ 2 * m → n ≤ m * m
 twice m n h i = omega (arith, mul-le-mul-right m h)
@@ -104,12 +127,12 @@ unfolding size sizeTy
 rule-growth (app-lambda {l} {t} {b} {u} v) =
     let i : size b ≤ size (app (lam t b) u) = omega arith in
     let j : size u ≤ size (app (lam t b) u) = omega arith in
-    inl (omega (arith, size-substitute u 0 b, mul-le-mul i j))
+    inl (omega (arith, size-ordinary u 0 b, mul-le-mul i j))
 rule-growth (app-no-lambda {f} {u} v w n) = inr (omega (arith, size-some f, size-some u), omega (arith, size-some f, size-some u))
 rule-growth (fix-lambda {t} {b}) =
     let i : size b ≤ size (fix (lam t b)) = omega arith in
     let j : size (fix (lam t b)) ≤ size (fix (lam t b)) = omega arith in
-    inl (omega (arith, size-substitute (fix (lam t b)) 0 b, mul-le-mul i j))
+    inl (omega (arith, size-ordinary (fix (lam t b)) 0 b, mul-le-mul i j))
 rule-growth (add-numbers h) = inr (omega arith, omega arith)
 rule-growth (add-over {l} h) = inr (omega (arith, numbers-size l), omega (arith, numbers-size l))
 rule-growth (add-no-number {v} {w} a b n) = inr (omega (arith, size-some v, size-some w), omega (arith, size-some v, size-some w))
@@ -117,7 +140,8 @@ rule-growth sub-numbers = inr (omega arith, omega arith)
 rule-growth (sub-no-number {v} {w} a b n) = inr (omega (arith, size-some v, size-some w), omega (arith, size-some v, size-some w))
 rule-growth (if0-zero {a = a} {b}) = inr (omega (arith, size-some a, size-some b), omega (arith, size-some a, size-some b))
 rule-growth (if0-other {a = a} {b} n) = inr (omega (arith, size-some a, size-some b), omega (arith, size-some a, size-some b))
-rule-growth (if0-no-number {v} {a} {b} x n) = inr (omega (arith, size-some v, size-some a, size-some b), omega (arith, size-some v, size-some a, size-some b))
+rule-growth (if0-no-number {v} {a} {b} x n) =
+    inr (omega (arith, size-some v, size-some a, size-some b), omega (arith, size-some v, size-some a, size-some b))
 rule-growth (hd-cons {v = v} {w} a b) = inr (omega (arith, size-some v, size-some w), omega (arith, size-some v, size-some w))
 rule-growth hd-nil = inr (omega arith, omega arith)
 rule-growth (hd-no-list {v} a n m) = inr (omega (arith, size-some v), omega (arith, size-some v))
@@ -140,41 +164,41 @@ rule-growth (ms-no-number {v} a n) = inr (omega (arith, size-some v), omega (ari
 rule-growth (ms-nil {t}) = inr (omega (arith, sizeTy-some t), omega (arith, sizeTy-some t))
 rule-growth (ms-cons {t} {v} {w} a b) = inr (omega (arith, size-some v, size-some w), omega (arith, size-some v, size-some w))
 rule-growth (ms-no-list {t} {v} a n m) = inr (omega (arith, size-some v), omega (arith, size-some v))
-rule-growth (ms-lambda {t} {u} {b}) = inr (omega (arith, size-some b, sizeTy-some t, sizeTy-some u), omega (arith, size-some b, sizeTy-some t, sizeTy-some u))
+rule-growth (ms-lambda {t} {u} {b}) =
+    let i = size-shift 1 0 (lam {l = sc} tt b) in
+    inr (omega (arith, size-some b, sizeTy-some t, sizeTy-some u), omega (arith, i, size-some b, sizeTy-some t, sizeTy-some u))
 rule-growth (ms-no-lambda {t} {u} {v} a n) = inr (omega (arith, size-some v), omega (arith, size-some v))
 rule-growth sm-number = inr (omega arith, omega arith)
 rule-growth (sm-lump {v} a) = inr (omega (arith, size-some v), omega (arith, size-some v))
 rule-growth sm-nil = inr (omega arith, omega arith)
 rule-growth (sm-cons {t} {v} {w} a b) = inr (omega (arith, size-some v, size-some w), omega (arith, size-some v, size-some w))
-rule-growth (sm-lambda {t} {u} {r} {b}) = inr (omega (arith, size-some b, sizeTy-some t, sizeTy-some u), omega (arith, size-some b, sizeTy-some t, sizeTy-some u))
+rule-growth (sm-lambda {t} {u} {r} {b}) =
+    let i = size-shift 1 0 (lam r b) in
+    inr (omega (arith, size-some b, sizeTy-some t, sizeTy-some u), omega (arith, i, size-some b, sizeTy-some t, sizeTy-some u))
 
 rule-size : {l : Lang} {e r : Term l} → l ⊢ e ⇒ r → size r ≤ size e * size e
 rule-size {e = e} {r = r} h = ⊎-elim (λ i. i) (λ i. twice (size e) (size r) (i .0) (i .1)) (rule-growth h)
 
 -- Around a node stands what stood there.
-plug-size : {m l : Lang} (f : Frame m l) (a b : Term m) → size (plug f b) + size a ≡ size (plug f a) + size b
-unfolding size
-plug-size (under o) a b = omega arith
-plug-size (first o c) a b = omega arith
-plug-size (second o c) a b = omega arith
-plug-size (tested c d) a b = omega arith
-plug-size (intoML t) a b = omega arith
-plug-size (intoScheme t) a b = omega arith
+around-size : {m l : Lang} (E : Around m l) (a b : Term m) → size (around E b) + size a ≡ size (around E a) + size b
+unfolding around size
+around-size hole a b = omega arith
+around-size (in-unary o E) a b = omega (arith, around-size E a b)
+around-size (in-first o E c) a b = omega (arith, around-size E a b)
+around-size (in-second o v h E) a b = omega (arith, around-size E a b)
+around-size (in-test E c d) a b = omega (arith, around-size E a b)
+around-size (in-ms t E) a b = omega (arith, around-size E a b)
+around-size (in-sm t E) a b = omega (arith, around-size E a b)
 
-fill-size : {m l : Lang} (F : Context m l) (a b : Term m) → size (fill F b) + size a ≡ size (fill F a) + size b
-unfolding fill
-fill-size here a b = omega arith
-fill-size (within f F) a b = omega (arith, fill-size F a b, plug-size f (fill F a) (fill F b))
-
-fill-least : {m l : Lang} (F : Context m l) (a : Term m) → size a ≤ size (fill F a)
-unfolding fill size
-fill-least here a = omega arith
-fill-least (within (under o) F) a = omega (arith, fill-least F a)
-fill-least (within (first o c) F) a = omega (arith, fill-least F a)
-fill-least (within (second o c) F) a = omega (arith, fill-least F a)
-fill-least (within (tested c d) F) a = omega (arith, fill-least F a)
-fill-least (within (intoML t) F) a = omega (arith, fill-least F a)
-fill-least (within (intoScheme t) F) a = omega (arith, fill-least F a)
+around-least : {m l : Lang} (E : Around m l) (a : Term m) → size a ≤ size (around E a)
+unfolding around size
+around-least hole a = omega arith
+around-least (in-unary o E) a = omega (arith, around-least E a)
+around-least (in-first o E c) a = omega (arith, around-least E a)
+around-least (in-second o v h E) a = omega (arith, around-least E a)
+around-least (in-test E c d) a = omega (arith, around-least E a)
+around-least (in-ms t E) a = omega (arith, around-least E a)
+around-least (in-sm t E) a = omega (arith, around-least E a)
 
 squares : (c m : ℕ) → 1 ≤ m → c + m * m ≤ (c + m) * (c + m)
 squares c m h =
@@ -184,28 +208,29 @@ squares c m h =
 
 -- The next term has at most as many words as the term's words squared.
 pub next-size : {l : Lang} {e r : Term l} → e ⟶ r → size r ≤ size e * size e
-next-size (by-rule {e = e} {r = r} F ev h) =
-    let c = size (fill F e) - size e in
-    let q : c + size e ≡ size (fill F e) = omega (arith, fill-least F e) in
-    rw (← q) (omega (arith, fill-size F e r, rule-size h, squares c (size e) (size-some e), fill-least F e))
+next-size (by-rule {e = e} {r = r} E h) =
+    let c = size (around E e) - size e in
+    let q : c + size e ≡ size (around E e) = omega (arith, around-least E e) in
+    rw (← q) (omega (arith, around-size E e r, rule-size h, squares c (size e) (size-some e), around-least E e))
 
 -- Of a term that fits the largest capacity: 2^28 words at most.
 pub next-bounded : {l : Lang} {e r : Term l} → e ⟶ r → size e ≤ 16384 → size r ≤ 268435456
 next-bounded {e = e} h i = omega (arith, next-size h, mul-le-mul i i)
 
 -- A run that ends as full wants no more than that, and the words that a run leaves fit its capacity.
-ran-bounded : {cap k : ℕ} {made : Counts} {e t : Term ml} {x : Result} → Ran cap k made e x t → size e ≤ cap → cap ≤ 16384
+ran-bounded : (τ : Ty) {cap k : ℕ} {made : Counts} {e t : Term ml} {x : Result} → Typed [] e τ → Ran cap k made e x t → size e ≤ cap → cap ≤ 16384
     → (length (x .left) ≤ cap) × (x .wanted ≤ 268435456)
-ran-bounded (at-value {e = e} q) h c = (omega (arith, tree-length (term ml) e []), omega arith)
-ran-bounded (at-limit {e = e} q) h c = (omega (arith, tree-length (term ml) e []), omega arith)
-ran-bounded (at-error q) h c = (omega arith, omega arith)
-ran-bounded (at-full {e = e} {r} q d) h c = (omega (arith, tree-length (term ml) e []), next-bounded (next-iff e r .0 q) (omega (arith, h, c)))
-ran-bounded (at-stuck {e = e} q) h c = (omega (arith, tree-length (term ml) e []), omega arith)
-ran-bounded (by-step q d p) h c = ran-bounded p d c
+ran-bounded τ s (at-value {e = e} q) h c = (omega (arith, tree-length (term ml) e []), omega arith)
+ran-bounded τ s (at-limit {e = e} q) h c = (omega (arith, tree-length (term ml) e []), omega arith)
+ran-bounded τ s (at-error q) h c = (omega arith, omega arith)
+ran-bounded τ s (at-full {e = e} {r} q d) h c =
+    (omega (arith, tree-length (term ml) e []), next-bounded (next-iff e r (typed-scoped [] e τ s) .0 q) (omega (arith, h, c)))
+ran-bounded τ s (at-stuck {e = e} q) h c = (omega (arith, tree-length (term ml) e []), omega arith)
+ran-bounded τ s (by-step {e = e} q d p) h c = ran-bounded τ (rw q at (sound e τ s)) p d c
 
 -- Of every run of a file.
 pub operate-bounded : (bytes : List ℕ) (limit n m : ℕ) (r : Result) → operate bytes limit n m ≡ passed r
     → (length (r .left) ≤ capacity n m) × (r .wanted ≤ 268435456)
 operate-bounded bytes limit n m r q =
     let i = operate-iff bytes limit n m r .0 q in
-    rw (i .4) (ran-bounded (run-ran limit (capacity n m) uncounted (i .1)) (i .3) (omega arith))
+    rw (i .4) (ran-bounded (i .0) (i .2 .typed) (run-ran limit (capacity n m) uncounted (i .1)) (i .3) (omega arith))

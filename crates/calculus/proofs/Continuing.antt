@@ -5,11 +5,14 @@ use mathlib.Core.List.{List, []}
 use mathlib.Core.Path.{_≡_, refl, sym, _∙_}
 use native.Mathlib.Nat.{suc-add, zero-add, add-zero, add-suc}
 use native.Mathlib.Omega.{arith}
-use Rattle.calculus.specs.Trees.{ml, Term}
+use Rattle.calculus.specs.Trees.{Ty, ml, Term}
 use Rattle.calculus.specs.Words.{words, size}
+use Rattle.calculus.specs.Typing.{Typed}
 use Rattle.calculus.specs.Reduction.{next, step}
 use Rattle.calculus.specs.Rules.{Steps, stay, then}
 use Rattle.calculus.specs.Run.{End, valued, spent, error, full, Counts, uncounted, Result, ended, run}
+use Rattle.calculus.proofs.Typing.{typed-scoped}
+use Rattle.calculus.proofs.Soundness.{sound}
 use Rattle.calculus.proofs.Agreement.{next-iff}
 use Rattle.calculus.proofs.Runs.{lastTerm, Ran, at-value, at-limit, at-error, at-full, at-stuck, by-step, run-ran, run-value, run-next, run-full}
 
@@ -107,16 +110,16 @@ pub record StepCount (made : Counts) (e t : Term ml) (x : Result) : Type 0 where
   pub reached : Steps count e t
   pub adds : x .made .steps ≡ made .steps + count + ownStep (x .end)
 
-ran-counted : {cap k : ℕ} {made : Counts} {e t : Term ml} {x : Result} → Ran cap k made e x t → StepCount made e t x
-ran-counted (at-value q) = record { count = 0; reached = stay; adds = omega arith }
-ran-counted (at-limit q) = record { count = 0; reached = stay; adds = omega arith }
-ran-counted (at-error q) = record { count = 0; reached = stay; adds = omega arith }
-ran-counted (at-full q c) = record { count = 0; reached = stay; adds = omega arith }
-ran-counted (at-stuck q) = record { count = 0; reached = stay; adds = omega arith }
-ran-counted (by-step {e = e} {r} q c p) =
-    let h = ran-counted p in
-    record { count = suc (h .count); reached = then (next-iff e r .0 q) (h .reached); adds = omega (arith, h .adds) }
+ran-counted : (τ : Ty) {cap k : ℕ} {made : Counts} {e t : Term ml} {x : Result} → Typed [] e τ → Ran cap k made e x t → StepCount made e t x
+ran-counted τ s (at-value q) = record { count = 0; reached = stay; adds = omega arith }
+ran-counted τ s (at-limit q) = record { count = 0; reached = stay; adds = omega arith }
+ran-counted τ s (at-error q) = record { count = 0; reached = stay; adds = omega arith }
+ran-counted τ s (at-full q c) = record { count = 0; reached = stay; adds = omega arith }
+ran-counted τ s (at-stuck q) = record { count = 0; reached = stay; adds = omega arith }
+ran-counted τ s (by-step {e = e} {r} q c p) =
+    let h = ran-counted τ (rw q at (sound e τ s)) p in
+    record { count = suc (h .count); reached = then (next-iff e r (typed-scoped [] e τ s) .0 q) (h .reached); adds = omega (arith, h .adds) }
 
--- A run's count of steps is the reduction's own.
-pub run-counted : (k cap : ℕ) (made : Counts) (e : Term ml) → StepCount made e (lastTerm k cap e) (run k cap made e)
-run-counted k cap made e = ran-counted (run-ran k cap made e)
+-- A run's count of steps is the reduction's own, of every term that has a type.
+pub run-counted : (k cap : ℕ) (made : Counts) (e : Term ml) (τ : Ty) → Typed [] e τ → StepCount made e (lastTerm k cap e) (run k cap made e)
+run-counted k cap made e τ s = ran-counted τ s (run-ran k cap made e)

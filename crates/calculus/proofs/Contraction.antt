@@ -1,15 +1,18 @@
--- The rules at a node: what `contract` makes of a node that is ready for a rule is exactly what a published rule makes. Assumes nothing.
+-- The rules at a closed node: what `contract` makes of a node that is ready for a rule is exactly what a published rule makes. Assumes nothing.
 use Prim.Native.Nat.{ℕ, _+_}
 use mathlib.Core.Bool.{Bool, true, false, cond}
+use mathlib.Core.List.{[]}
 use mathlib.Core.Logic.{_↔_, _⊎_, inl, inr}
-use mathlib.Core.Path.{_≡_, refl, ap, subst}
+use mathlib.Core.Path.{_≡_, refl, sym, ap, subst}
 use lib.Dec.{eqb, leb}
 use native.Mathlib.Omega.{arith}
 use borrow.Author.Tests.{leb-true, leb-false, le-leb, lt-leb, eqb-true, eqb-false, ne-eqb}
-use Rattle.calculus.specs.Trees.{N, L, list, _to_, Lang, ml, sc, Static, numbers, Test, isFun, isList, isNull, isNum, head, tail, fixpoint, empty, testing, apply, plus, minus, pair, Term, var, num, lam, op1, op2, if0, nil, wrong, ms, sm, app, add, sub, cons, hd, tl, fix, null?, test}
+use Rattle.calculus.specs.Trees.{Ty, N, L, list, _to_, Lang, ml, sc, Static, numbers, Test, isFun, isList, isNull, isNum, head, tail, fixpoint, empty, testing, apply, plus, minus, pair, Term, var, num, lam, op1, op2, if0, nil, wrong, ms, sm, app, add, sub, cons, hd, tl, fix, null?, test}
 use Rattle.calculus.specs.Words.{largest}
-use Rattle.calculus.specs.Reduction.{isLump, isPair, Form, number, lambda, noItem, items, sealed, other, form, Became, becomes, raises, nothing, onNumber, onLambda, onList, onLump, amiss, third, answer, contract1, onNumbers, contract2, toML, toScheme, contract}
+use Rattle.calculus.specs.Scope.{Scoped}
+use Rattle.calculus.specs.Reduction.{substitute, isLump, isPair, Form, number, lambda, noItem, items, sealed, other, form, Became, becomes, raises, nothing, onNumber, onLambda, onList, onLump, amiss, third, answer, contract1, onNumbers, contract2, toML, toScheme, contract}
 use Rattle.calculus.specs.Rules.{Value, lamV, numV, nilV, consV, lumpV, Lambda, Number, Nil, Cons, _⊢_⇒_, app-lambda, app-no-lambda, fix-lambda, add-numbers, add-over, add-no-number, sub-numbers, sub-no-number, if0-zero, if0-other, if0-no-number, hd-cons, hd-nil, hd-no-list, tl-cons, tl-nil, tl-no-list, null-nil, null-cons, fun?-lambda, fun?-other, list?-nil, list?-cons, list?-other, null?-nil, null?-other, num?-number, num?-other, ms-number, ms-no-number, ms-nil, ms-cons, ms-no-list, ms-lambda, ms-no-lambda, sm-number, sm-lump, sm-nil, sm-cons, sm-lambda}
+use Rattle.calculus.proofs.Substitution.{closed-shift, substitute-ordinary}
 
 -- The node is no value, and the parts of it that evaluation takes are values: nothing stands before its own turn.
 abbrev pub Ready : {l : Lang} → Term l → Type 0
@@ -127,89 +130,113 @@ zero-ruled : {l : Lang} (n : ℕ) (a b : Term l) (x : Bool) → eqb n 0 ≡ x �
 zero-ruled n a b true q = rw (eqb-true n 0 q) if0-zero
 zero-ruled n a b false q = if0-other (eqb-false n 0 q)
 
--- So it is at every node that is ready.
-pub contract-ruled : {l : Lang} (e : Term l) → Ready e → Ruled e (contract e)
-unfolding contract contract1 contract2 toML toScheme form onLump amiss third
-contract-ruled (var i) h = tt
-contract-ruled (num n) h = tt
-contract-ruled (lam t b) h = tt
-contract-ruled (op1 (head {l = ml}) v) h = on-list (Ruled (hd v)) _ _ _ h (λ n c. tt) (λ t q. rw q hd-nil) (λ a b x y q. rw q (hd-cons x y))
-contract-ruled (op1 (head {l = sc}) v) h = on-list (Ruled (hd v)) _ _ _ h (hd-no-list h) (λ t q. rw q hd-nil) (λ a b x y q. rw q (hd-cons x y))
-contract-ruled (op1 (tail {l = ml}) v) h = on-list (Ruled (tl v)) _ _ _ h (λ n c. tt) (λ t q. rw q tl-nil) (λ a b x y q. rw q (tl-cons x y))
-contract-ruled (op1 (tail {l = sc}) v) h = on-list (Ruled (tl v)) _ _ _ h (tl-no-list h) (λ t q. rw q tl-nil) (λ a b x y q. rw q (tl-cons x y))
-contract-ruled (op1 fixpoint v) h = on-lambda (Ruled (fix v)) _ _ h (λ n. tt) (λ t b q. rw q fix-lambda)
-contract-ruled (op1 empty v) h = on-list (Ruled (null? v)) _ _ _ h (λ n c. tt) (λ t q. rw q null-nil) (λ a b x y q. rw q (null-cons x y))
-contract-ruled (op1 (testing k) v) h = answered k h .0
-contract-ruled (op2 {l = ml} apply v w) h = on-lambda (Ruled (app v w)) _ _ (h .1) (λ n. tt) (λ t b q. rw q (app-lambda (h .2)))
-contract-ruled (op2 {l = sc} apply v w) h = on-lambda (Ruled (app v w)) _ _ (h .1) (app-no-lambda (h .1) (h .2)) (λ t b q. rw q (app-lambda (h .2)))
-contract-ruled (op2 {l = ml} plus v w) h = on-numbers (Ruled (add v w)) _ (h .1) (h .2) (λ n. tt) (λ n m q p. rw (q, p) (sum-ruled n m _ refl))
-contract-ruled (op2 {l = sc} plus v w) h =
-    on-numbers (Ruled (add v w)) _ (h .1) (h .2) (add-no-number (h .1) (h .2)) (λ n m q p. rw (q, p) (sum-ruled n m _ refl))
-contract-ruled (op2 {l = ml} minus v w) h = on-numbers (Ruled (sub v w)) _ (h .1) (h .2) (λ n. tt) (λ n m q p. rw (q, p) sub-numbers)
-contract-ruled (op2 {l = sc} minus v w) h =
-    on-numbers (Ruled (sub v w)) _ (h .1) (h .2) (sub-no-number (h .1) (h .2)) (λ n m q p. rw (q, p) sub-numbers)
-contract-ruled (op2 pair v w) h = tt
-contract-ruled (if0 {l = ml} v b c) h = on-number (Ruled (if0 v b c)) _ _ h (λ n. tt) (λ n q. rw q (zero-ruled n b c _ refl))
-contract-ruled (if0 {l = sc} v b c) h = on-number (Ruled (if0 v b c)) _ _ h (if0-no-number h) (λ n q. rw q (zero-ruled n b c _ refl))
-contract-ruled (nil t) h = tt
-contract-ruled (wrong c t) h = (t, refl)
-contract-ruled (ms N v) h = on-number (Ruled (ms N v)) _ _ (h .1) (ms-no-number (h .1)) (λ n q. rw q ms-number)
-contract-ruled (ms L v) h = tt
-contract-ruled (ms (list t) v) h =
-    on-list (Ruled (ms (list t) v)) _ _ _ (h .1) (ms-no-list (h .1)) (λ u q. rw q ms-nil) (λ a b x y q. rw q (ms-cons x y))
-contract-ruled (ms (t to u) v) h = on-lambda (Ruled (ms (t to u) v)) _ _ (h .1) (ms-no-lambda (h .1)) (λ s b q. rw q ms-lambda)
-contract-ruled (sm N v) h = on-number (Ruled (sm N v)) _ _ h (λ n. tt) (λ n q. rw q sm-number)
-contract-ruled (sm L v) lamV = tt
-contract-ruled (sm L v) numV = tt
-contract-ruled (sm L v) nilV = tt
-contract-ruled (sm L v) (consV a b) = tt
-contract-ruled (sm L v) (lumpV a) = sm-lump a
-contract-ruled (sm (list t) v) h = on-list (Ruled (sm (list t) v)) _ _ _ h (λ n c. tt) (λ u q. rw q sm-nil) (λ a b x y q. rw q (sm-cons x y))
-contract-ruled (sm (t to u) v) h = on-lambda (Ruled (sm (t to u) v)) _ _ h (λ n. tt) (λ s b q. rw q sm-lambda)
+-- The rules that put a term elsewhere: what they put there is closed.
+app-ruled : {l : Lang} (v w : Term l) (t : Static l) (b : Term l) → Scoped [] v → Scoped [] w → Value l w → v ≡ lam t b
+    → l ⊢ app v w ⇒ substitute w 0 b
+app-ruled {l} v w t b s c h q =
+    rw q (subst (λ (x : Term l). l ⊢ app (lam t b) w ⇒ x) (sym (substitute-ordinary w b c (rw q at s))) (app-lambda h))
 
-rule-made : {l : Lang} {e r : Term l} → l ⊢ e ⇒ r → Ready e × (contract e ≡ becomes r)
+fix-ruled : (v : Term ml) (t : Ty) (b : Term ml) → Scoped [] v → v ≡ lam t b → ml ⊢ fix v ⇒ substitute (fix v) 0 b
+fix-ruled v t b s q =
+    let c : Scoped [] (lam t b) = rw q at s in
+    rw q (subst (λ (x : Term ml). ml ⊢ fix (lam t b) ⇒ x) (sym (substitute-ordinary (fix (lam t b)) b c c)) fix-lambda)
+
+ms-ruled : (v : Term sc) (t u : Ty) (b : Term sc) → Scoped [] v → v ≡ lam tt b → ml ⊢ ms (t to u) v ⇒ lam t (ms u (app v (sm t (var 0))))
+ms-ruled v t u b s q =
+    let c : Scoped [] (lam tt b) = rw q at s in
+    rw q (subst (λ (x : Term sc). ml ⊢ ms (t to u) (lam tt b) ⇒ lam t (ms u (app x (sm t (var 0))))) (closed-shift 1 (lam tt b) c) ms-lambda)
+
+sm-ruled : (v : Term ml) (t u r : Ty) (b : Term ml) → Scoped [] v → v ≡ lam r b → sc ⊢ sm (t to u) v ⇒ lam tt (sm u (app v (ms t (var 0))))
+sm-ruled v t u r b s q =
+    let c : Scoped [] (lam r b) = rw q at s in
+    rw q (subst (λ (x : Term ml). sc ⊢ sm (t to u) (lam r b) ⇒ lam tt (sm u (app x (ms t (var 0))))) (closed-shift 1 (lam r b) c) sm-lambda)
+
+-- So it is at every node that is ready and closed.
+pub contract-ruled : {l : Lang} (e : Term l) → Scoped [] e → Ready e → Ruled e (contract e)
+unfolding contract contract1 contract2 toML toScheme form onLump amiss third
+contract-ruled (var i) s h = tt
+contract-ruled (num n) s h = tt
+contract-ruled (lam t b) s h = tt
+contract-ruled (op1 (head {l = ml}) v) s h = on-list (Ruled (hd v)) _ _ _ h (λ n c. tt) (λ t q. rw q hd-nil) (λ a b x y q. rw q (hd-cons x y))
+contract-ruled (op1 (head {l = sc}) v) s h = on-list (Ruled (hd v)) _ _ _ h (hd-no-list h) (λ t q. rw q hd-nil) (λ a b x y q. rw q (hd-cons x y))
+contract-ruled (op1 (tail {l = ml}) v) s h = on-list (Ruled (tl v)) _ _ _ h (λ n c. tt) (λ t q. rw q tl-nil) (λ a b x y q. rw q (tl-cons x y))
+contract-ruled (op1 (tail {l = sc}) v) s h = on-list (Ruled (tl v)) _ _ _ h (tl-no-list h) (λ t q. rw q tl-nil) (λ a b x y q. rw q (tl-cons x y))
+contract-ruled (op1 fixpoint v) s h = on-lambda (Ruled (fix v)) _ _ h (λ n. tt) (λ t b q. fix-ruled v t b s q)
+contract-ruled (op1 empty v) s h = on-list (Ruled (null? v)) _ _ _ h (λ n c. tt) (λ t q. rw q null-nil) (λ a b x y q. rw q (null-cons x y))
+contract-ruled (op1 (testing k) v) s h = answered k h .0
+contract-ruled (op2 {l = ml} apply v w) s h = on-lambda (Ruled (app v w)) _ _ (h .1) (λ n. tt) (λ t b q. app-ruled v w t b (s .0) (s .1) (h .2) q)
+contract-ruled (op2 {l = sc} apply v w) s h =
+    on-lambda (Ruled (app v w)) _ _ (h .1) (app-no-lambda (h .1) (h .2)) (λ t b q. app-ruled v w t b (s .0) (s .1) (h .2) q)
+contract-ruled (op2 {l = ml} plus v w) s h = on-numbers (Ruled (add v w)) _ (h .1) (h .2) (λ n. tt) (λ n m q p. rw (q, p) (sum-ruled n m _ refl))
+contract-ruled (op2 {l = sc} plus v w) s h =
+    on-numbers (Ruled (add v w)) _ (h .1) (h .2) (add-no-number (h .1) (h .2)) (λ n m q p. rw (q, p) (sum-ruled n m _ refl))
+contract-ruled (op2 {l = ml} minus v w) s h = on-numbers (Ruled (sub v w)) _ (h .1) (h .2) (λ n. tt) (λ n m q p. rw (q, p) sub-numbers)
+contract-ruled (op2 {l = sc} minus v w) s h =
+    on-numbers (Ruled (sub v w)) _ (h .1) (h .2) (sub-no-number (h .1) (h .2)) (λ n m q p. rw (q, p) sub-numbers)
+contract-ruled (op2 pair v w) s h = tt
+contract-ruled (if0 {l = ml} v b c) s h = on-number (Ruled (if0 v b c)) _ _ h (λ n. tt) (λ n q. rw q (zero-ruled n b c _ refl))
+contract-ruled (if0 {l = sc} v b c) s h = on-number (Ruled (if0 v b c)) _ _ h (if0-no-number h) (λ n q. rw q (zero-ruled n b c _ refl))
+contract-ruled (nil t) s h = tt
+contract-ruled (wrong c t) s h = (t, refl)
+contract-ruled (ms N v) s h = on-number (Ruled (ms N v)) _ _ (h .1) (ms-no-number (h .1)) (λ n q. rw q ms-number)
+contract-ruled (ms L v) s h = tt
+contract-ruled (ms (list t) v) s h =
+    on-list (Ruled (ms (list t) v)) _ _ _ (h .1) (ms-no-list (h .1)) (λ u q. rw q ms-nil) (λ a b x y q. rw q (ms-cons x y))
+contract-ruled (ms (t to u) v) s h = on-lambda (Ruled (ms (t to u) v)) _ _ (h .1) (ms-no-lambda (h .1)) (λ r b q. ms-ruled v t u b s q)
+contract-ruled (sm N v) s h = on-number (Ruled (sm N v)) _ _ h (λ n. tt) (λ n q. rw q sm-number)
+contract-ruled (sm L v) s lamV = tt
+contract-ruled (sm L v) s numV = tt
+contract-ruled (sm L v) s nilV = tt
+contract-ruled (sm L v) s (consV a b) = tt
+contract-ruled (sm L v) s (lumpV a) = sm-lump a
+contract-ruled (sm (list t) v) s h = on-list (Ruled (sm (list t) v)) _ _ _ h (λ n c. tt) (λ u q. rw q sm-nil) (λ a b x y q. rw q (sm-cons x y))
+contract-ruled (sm (t to u) v) s h = on-lambda (Ruled (sm (t to u) v)) _ _ h (λ n. tt) (λ r b q. sm-ruled v t u r b s q)
+
+rule-made : {l : Lang} {e r : Term l} → Scoped [] e → l ⊢ e ⇒ r → Ready e × (contract e ≡ becomes r)
 unfolding contract contract1 contract2 toML toScheme onNumbers onNumber onLambda onList onLump form amiss third answer
-rule-made (app-lambda u) = ((refl, lamV, u), refl)
-rule-made (app-no-lambda f u ne) = ((refl, f, u), no-lambda f _ _ ne)
-rule-made fix-lambda = (lamV, refl)
-rule-made (add-numbers {n = n} {m = m} h) = ((refl, numV, numV), rw (le-leb (n + m) largest h))
-rule-made (add-over {n = n} {m = m} h) = ((refl, numV, numV), rw (lt-leb (n + m) largest h))
-rule-made (add-no-number v w ne) = ((refl, v, w), no-numbers _ v w ne)
-rule-made sub-numbers = ((refl, numV, numV), refl)
-rule-made (sub-no-number v w ne) = ((refl, v, w), no-numbers _ v w ne)
-rule-made if0-zero = (numV, refl)
-rule-made (if0-other {n = n} h) = (numV, rw (ne-eqb n 0 h))
-rule-made (if0-no-number v ne) = (v, no-number v _ _ ne)
-rule-made (hd-cons v w) = (consV v w, refl)
-rule-made hd-nil = (nilV, refl)
-rule-made (hd-no-list v nn nc) = (v, no-list v _ _ _ nn nc)
-rule-made (tl-cons v w) = (consV v w, refl)
-rule-made tl-nil = (nilV, refl)
-rule-made (tl-no-list v nn nc) = (v, no-list v _ _ _ nn nc)
-rule-made null-nil = (nilV, refl)
-rule-made (null-cons v w) = (consV v w, refl)
-rule-made fun?-lambda = (lamV, refl)
-rule-made (fun?-other v ne) = (v, rw (answered isFun v .1 ne))
-rule-made list?-nil = (nilV, refl)
-rule-made (list?-cons v w) = (consV v w, refl)
-rule-made (list?-other v nn nc) = (v, rw (answered isList v .1 (nn, nc)))
-rule-made null?-nil = (nilV, refl)
-rule-made (null?-other v ne) = (v, rw (answered isNull v .1 ne))
-rule-made num?-number = (numV, refl)
-rule-made (num?-other v ne) = (v, rw (answered isNum v .1 ne))
-rule-made ms-number = ((refl, numV), refl)
-rule-made (ms-no-number v ne) = ((refl, v), no-number v _ _ ne)
-rule-made ms-nil = ((refl, nilV), refl)
-rule-made (ms-cons v w) = ((refl, consV v w), refl)
-rule-made (ms-no-list v nn nc) = ((refl, v), no-list v _ _ _ nn nc)
-rule-made ms-lambda = ((refl, lamV), refl)
-rule-made (ms-no-lambda v ne) = ((refl, v), no-lambda v _ _ ne)
-rule-made sm-number = (numV, refl)
-rule-made (sm-lump v) = (lumpV v, refl)
-rule-made sm-nil = (nilV, refl)
-rule-made (sm-cons v w) = (consV v w, refl)
-rule-made sm-lambda = (lamV, refl)
+rule-made s (app-lambda {b = b} {u} v) = ((refl, lamV, v), ap becomes (substitute-ordinary u b (s .1) (s .0)))
+rule-made s (app-no-lambda f u ne) = ((refl, f, u), no-lambda f _ _ ne)
+rule-made s (fix-lambda {t} {b}) = (lamV, ap becomes (substitute-ordinary (fix (lam t b)) b s s))
+rule-made s (add-numbers {n = n} {m = m} h) = ((refl, numV, numV), rw (le-leb (n + m) largest h))
+rule-made s (add-over {n = n} {m = m} h) = ((refl, numV, numV), rw (lt-leb (n + m) largest h))
+rule-made s (add-no-number v w ne) = ((refl, v, w), no-numbers _ v w ne)
+rule-made s sub-numbers = ((refl, numV, numV), refl)
+rule-made s (sub-no-number v w ne) = ((refl, v, w), no-numbers _ v w ne)
+rule-made s if0-zero = (numV, refl)
+rule-made s (if0-other {n = n} h) = (numV, rw (ne-eqb n 0 h))
+rule-made s (if0-no-number v ne) = (v, no-number v _ _ ne)
+rule-made s (hd-cons v w) = (consV v w, refl)
+rule-made s hd-nil = (nilV, refl)
+rule-made s (hd-no-list v nn nc) = (v, no-list v _ _ _ nn nc)
+rule-made s (tl-cons v w) = (consV v w, refl)
+rule-made s tl-nil = (nilV, refl)
+rule-made s (tl-no-list v nn nc) = (v, no-list v _ _ _ nn nc)
+rule-made s null-nil = (nilV, refl)
+rule-made s (null-cons v w) = (consV v w, refl)
+rule-made s fun?-lambda = (lamV, refl)
+rule-made s (fun?-other v ne) = (v, rw (answered isFun v .1 ne))
+rule-made s list?-nil = (nilV, refl)
+rule-made s (list?-cons v w) = (consV v w, refl)
+rule-made s (list?-other v nn nc) = (v, rw (answered isList v .1 (nn, nc)))
+rule-made s null?-nil = (nilV, refl)
+rule-made s (null?-other v ne) = (v, rw (answered isNull v .1 ne))
+rule-made s num?-number = (numV, refl)
+rule-made s (num?-other v ne) = (v, rw (answered isNum v .1 ne))
+rule-made s ms-number = ((refl, numV), refl)
+rule-made s (ms-no-number v ne) = ((refl, v), no-number v _ _ ne)
+rule-made s ms-nil = ((refl, nilV), refl)
+rule-made s (ms-cons v w) = ((refl, consV v w), refl)
+rule-made s (ms-no-list v nn nc) = ((refl, v), no-list v _ _ _ nn nc)
+rule-made s (ms-lambda {t} {u} {b}) =
+    ((refl, lamV), ap (λ (x : Term sc). becomes (lam t (ms u (app x (sm t (var 0)))))) (sym (closed-shift 1 (lam tt b) s)))
+rule-made s (ms-no-lambda v ne) = ((refl, v), no-lambda v _ _ ne)
+rule-made s sm-number = (numV, refl)
+rule-made s (sm-lump v) = (lumpV v, refl)
+rule-made s sm-nil = (nilV, refl)
+rule-made s (sm-cons v w) = (consV v w, refl)
+rule-made s (sm-lambda {t} {u} {r} {b}) =
+    (lamV, ap (λ (x : Term ml). becomes (lam tt (sm u (app x (ms t (var 0)))))) (sym (closed-shift 1 (lam r b) s)))
 
 -- A rule applies exactly to a node that is ready, and makes what is computed.
-pub rule-iff : {l : Lang} (e r : Term l) → (Ready e × (contract e ≡ becomes r)) ↔ (l ⊢ e ⇒ r)
-rule-iff e r = (λ h. subst (Ruled e) (h .1) (contract-ruled e (h .0)), rule-made)
+pub rule-iff : {l : Lang} (e r : Term l) → Scoped [] e → (Ready e × (contract e ≡ becomes r)) ↔ (l ⊢ e ⇒ r)
+rule-iff e r s = (λ h. subst (Ruled e) (h .1) (contract-ruled e s (h .0)), rule-made s)

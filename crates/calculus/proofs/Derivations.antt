@@ -2,32 +2,33 @@
 use mathlib.Core.Path.{ap}
 use native.Mathlib.Omega.{arith}
 use Rattle.calculus.specs.Trees.{N, L, list, _to_, Lang, ml, apply, plus, pair, Term, var, num, lam, if0, nil, wrong, ms, sm, app, add, cons, fix}
-use Rattle.calculus.specs.Reduction.{substitute, form, first, second, intoML, here, within, fill}
-use Rattle.calculus.specs.Rules.{lamV, numV, nilV, _⊢_⇒_, app-lambda, fix-lambda, if0-no-number, ms-number, ms-cons, ms-no-list, ms-lambda, sm-number, sm-lump, _⟶_, by-rule, Steps, stay, then, Raises, by-wrong}
+use Rattle.calculus.specs.Substitution.{shift, ordinary}
+use Rattle.calculus.specs.Reduction.{form}
+use Rattle.calculus.specs.Rules.{Around, hole, in-first, in-second, in-ms, around, lamV, numV, nilV, _⊢_⇒_, app-lambda, fix-lambda, if0-no-number, ms-number, ms-cons, ms-no-list, ms-lambda, sm-number, sm-lump, _⟶_, by-rule, Steps, stay, then, Raises, by-wrong}
 use Rattle.calculus.proofs.Contraction.{mark}
 
 at-root : {l : Lang} {e r : Term l} → l ⊢ e ⇒ r → e ⟶ r
-unfolding fill
-at-root h = by-rule here tt h
+unfolding around
+at-root h = by-rule hole h
 
 -- (ms (N to N) (fn v0)) applied to 7: 7, 5 steps.
 pub function : Steps 5 (app (ms (N to N) (lam tt (var 0))) (num 7)) (num 7)
-unfolding fill substitute
+unfolding around shift ordinary
 function =
-    then (by-rule (within (first apply (num 7)) here) (tt, tt) ms-lambda)
+    then (by-rule (in-first apply hole (num 7)) ms-lambda)
     (then (at-root (app-lambda numV))
-    (then (by-rule (within (intoML N) (within (second apply (lam tt (var 0))) here)) (tt, (lamV, tt)) sm-number)
-    (then (by-rule (within (intoML N) here) (tt, tt) (app-lambda numV))
+    (then (by-rule (in-ms N (in-second apply (lam tt (var 0)) lamV hole)) sm-number)
+    (then (by-rule (in-ms N hole) (app-lambda numV))
     (then (at-root ms-number) stay))))
 
 -- ms N (sm L (ms L 4)): 4, 2 steps.
 pub unsealed : Steps 2 (ms N (sm L (ms L (num 4)))) (num 4)
-unfolding fill
-unsealed = then (by-rule (within (intoML N) here) (tt, tt) (sm-lump numV)) (then (at-root ms-number) stay)
+unfolding around
+unsealed = then (by-rule (in-ms N hole) (sm-lump numV)) (then (at-root ms-number) stay)
 
 -- fix (fn N v0): itself again.
 pub endless : Steps 1 (fix (lam N (var 0))) (fix (lam N (var 0)))
-unfolding substitute
+unfolding shift ordinary
 endless = then (at-root fix-lambda) stay
 
 -- ms {N} (cons 1 2): error 3, in the fourth step; the head is converted before the tail is looked at.
@@ -36,20 +37,20 @@ unfolding form
 tail-no-list = ms-no-list (numV {n = 2}) (λ h. omega (arith, ap mark (h .1))) (λ h. omega (arith, ap mark (h .2)))
 
 pub no-list : Steps 3 (ms (list N) (cons (num 1) (num 2))) (cons (num 1) (wrong 3 (list N))) × Raises {l = ml} 3 (cons (num 1) (wrong 3 (list N)))
-unfolding fill
+unfolding around
 no-list = (
   then (at-root (ms-cons numV numV))
-      (then (by-rule (within (first pair (ms (list N) (num 2))) here) (tt, tt) ms-number)
-      (then (by-rule (within (second pair (num 1)) here) (numV, tt) tail-no-list) stay)),
-  by-wrong (within (second pair (num 1)) here) (numV, tt) (list N),
+      (then (by-rule (in-first pair hole (ms (list N) (num 2))) ms-number)
+      (then (by-rule (in-second pair (num 1) numV hole) tail-no-list) stay)),
+  by-wrong (in-second pair (num 1) numV hole) (list N),
 )
 
 -- ms N (if0 nil 1 2): 2, 2 steps.
 pub third : Steps 2 (ms N (if0 (nil tt) (num 1) (num 2))) (num 2)
-unfolding fill form
-third = then (by-rule (within (intoML N) here) (tt, tt) (if0-no-number nilV (λ h. omega (arith, ap mark (h .1))))) (then (at-root ms-number) stay)
+unfolding around form
+third = then (by-rule (in-ms N hole) (if0-no-number nilV (λ h. omega (arith, ap mark (h .1))))) (then (at-root ms-number) stay)
 
 -- ms N (add (fn v0) (wrong 300)): error 300, in the first step.
 pub own-code : Raises 300 (ms N (add (lam tt (var 0)) (wrong 300 tt)))
-unfolding fill
-own-code = by-wrong (within (intoML N) (within (second plus (lam tt (var 0))) here)) (tt, (lamV, tt)) tt
+unfolding around
+own-code = by-wrong (in-ms N (in-second plus (lam tt (var 0)) lamV hole)) tt

@@ -16,11 +16,12 @@ pub mod Faults
 -- reduction
 pub mod Values
 pub mod Forms
+pub mod Substitution
 pub mod Contraction
 pub mod Turns
 pub mod Places
+pub mod Contexts
 pub mod Agreement
-pub mod Substitution
 pub mod Derivations
 pub mod Soundness
 pub mod Ranges

@@ -8,11 +8,11 @@ use lib.Dec.{T, eqb, leb}
 use lib.ListN.{length}
 use borrow.Author.Tests.{eqb-true, eqb-false, le-leb, lt-leb, eq-eqb, ne-eqb}
 use native.Mathlib.Omega.{arith}
-use Rattle.calculus.specs.Trees.{Ty, Lang, ml, sc, Static, Term, var, num, lam, op1, op2, if0, nil, wrong, ms, sm, app, fix}
+use Rattle.calculus.specs.Trees.{Lang, ml, sc, Term, var, num, lam, op1, op2, if0, nil, wrong, ms, sm}
 use Rattle.calculus.specs.Words.{word, by, put}
 use Rattle.calculus.specs.Scope.{lambdaAt, Scoped}
 use Rattle.calculus.specs.Reduction.{replaced, substitute, Frame, under, first, second, tested, intoML, intoScheme, plug, Context, here, within, fill}
-use Rattle.calculus.specs.Substitution.{shift, ordinary}
+use Rattle.calculus.specs.Substitution.{shift, forOwn, ordinary}
 
 -- A variable that has its lambda among Γ counts fewer than Γ has.
 below : (Γ : List Lang) (i : ℕ) (l : Lang) → T (lambdaAt Γ i l) → i < length Γ
@@ -38,10 +38,16 @@ shift-scoped d Γ (sm t a) h = ap (sm t) (shift-scoped d Γ a h)
 pub closed-shift : {l : Lang} (d : ℕ) (e : Term l) → Scoped [] e → shift d 0 e ≡ e
 closed-shift d e h = shift-scoped d [] e h
 
+own-only : (m l : Lang) (u : Term m) (i : ℕ) → replaced m l u i ≡ forOwn m l u (var i)
+own-only ml ml u i = refl
+own-only ml sc u i = refl
+own-only sc ml u i = refl
+own-only sc sc u i = refl
+
 module _ {m : Lang} (u : Term m) (closed : Scoped [] u) where
   at-variable : {l : Lang} (i k : ℕ) (b : Bool) → i ≤ k
-      → cond b (replaced m l u i) (var i) ≡ cond b (replaced m l (shift k 0 u) i) (cond (leb i k) (var i) (var (i - 1)))
-  at-variable i k true h = rw (closed-shift k u closed)
+      → cond b (replaced m l u i) (var i) ≡ cond b (forOwn m l (shift k 0 u) (var i)) (cond (leb i k) (var i) (var (i - 1)))
+  at-variable {l} i k true h = rw (closed-shift k u closed) (own-only m l u i)
   at-variable i k false h = rw (le-leb i k h)
 
   -- k lambdas have been passed on the way in, and Γ are those and the one that goes.
@@ -71,19 +77,10 @@ plug-closed (intoML t) a h = h
 plug-closed (intoScheme t) a h = h
 
 -- What stands in a closed term where evaluation goes is closed: no frame is a lambda.
-fill-closed : {m l : Lang} (F : Context m l) (n : Term m) → Scoped [] (fill F n) → Scoped [] n
+pub fill-closed : {m l : Lang} (F : Context m l) (n : Term m) → Scoped [] (fill F n) → Scoped [] n
 unfolding fill
 fill-closed here n h = h
 fill-closed (within f F) n h = fill-closed F n (plug-closed f (fill F n) h)
-
--- The two rules that substitute, wherever a closed term takes them.
-pub app-ordinary : {m l : Lang} (F : Context m l) (t : Static m) (b u : Term m) → Scoped [] (fill F (app (lam t b) u))
-    → substitute u 0 b ≡ ordinary u 0 b
-app-ordinary F t b u h = let c = fill-closed F (app (lam t b) u) h in substitute-ordinary u b (c .1) (c .0)
-
-pub fix-ordinary : {l : Lang} (F : Context ml l) (t : Ty) (b : Term ml) → Scoped [] (fill F (fix (lam t b)))
-    → substitute (fix (lam t b)) 0 b ≡ ordinary (fix (lam t b)) 0 b
-fix-ordinary F t b h = let c = fill-closed F (fix (lam t b)) h in substitute-ordinary (fix (lam t b)) b c c
 
 -- A variable is replaced exactly if its word is that of the variable replaced: of the same language, and with as many lambdas between.
 word-eqb : (n i k : ℕ) (b : Bool) → eqb i k ≡ b → eqb (word n i) (word n k) ≡ b

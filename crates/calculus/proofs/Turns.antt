@@ -6,7 +6,8 @@ use mathlib.Core.Path.{_≡_, refl, ap, subst}
 use lib.Dec.{T}
 use Rattle.calculus.specs.Trees.{Lang, Term, var, num, lam, op1, op2, if0, nil, wrong, ms, sm}
 use Rattle.calculus.specs.Reduction.{isLump, isPair, isValue, Frame, under, first, second, tested, intoML, intoScheme, plug, Context, here, within, fill, Turn, done, at, into, own, turn}
-use Rattle.calculus.specs.Rules.{Value, lamV, numV, nilV, Taken, Evaluated}
+use Rattle.calculus.specs.Rules.{Value, lamV, numV, nilV}
+use Rattle.calculus.specs.Evaluation.{Taken, Evaluated}
 use Rattle.calculus.proofs.Values.{pair-value, lump-value, value-iff, value-turn}
 use Rattle.calculus.proofs.Contraction.{Ready}
 

@@ -9,8 +9,9 @@ pub mod Typing
 pub mod Inference
 pub mod Faults
 pub mod Reduction
-pub mod Rules
 pub mod Substitution
+pub mod Rules
+pub mod Evaluation
 pub mod Run
 pub mod Endings
 pub mod File

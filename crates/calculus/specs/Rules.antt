@@ -1,5 +1,6 @@
 -- The reduction as it is published: values, evaluation contexts, and one rule for each line of figures 2.13, 2.15, 2.18 and 2.20 of
--- document 002 that document 01 keeps. Nothing here computes; proofs/Agreement.antt says that `step` does exactly this.
+-- document 002 that document 01 keeps. Nothing here is of specs/Reduction.antt, which computes; proofs/Agreement.antt says that `step` does exactly
+-- this, of every term whose variables have their lambdas.
 -- `l ⊢ e ⇒ r` is a rule of the language l; a rule that both languages have stands once, for any l.
 -- Codes: 1 not a number, 2 not a function, 3 not a list, 4 empty list, 5 over the limit.
 -- Where document 01 departs from the figures: fix-lambda is of documents 000 and 003; add-over is its own; if0-no-number takes the third
@@ -7,9 +8,9 @@
 use Prim.Native.Nat.{ℕ, suc, _+_, _-_, _≤_, _<_}
 use mathlib.Core.Path.{_≡_}
 use mathlib.Core.Logic.{_⊎_}
-use Rattle.calculus.specs.Trees.{Ty, N, L, list, _to_, Lang, ml, sc, Static, numbers, lists, isFun, isList, isNull, isNum, Term, var, num, lam, if0, nil, wrong, ms, sm, app, add, sub, cons, hd, tl, fix, null?, test}
+use Rattle.calculus.specs.Trees.{Ty, N, L, list, _to_, Lang, ml, sc, Static, numbers, lists, isFun, isList, isNull, isNum, Op1, Op2, Term, var, num, lam, op1, op2, if0, nil, wrong, ms, sm, app, add, sub, cons, hd, tl, fix, null?, test}
 use Rattle.calculus.specs.Words.{largest}
-use Rattle.calculus.specs.Reduction.{substitute, Frame, under, first, second, tested, intoML, intoScheme, Context, here, within, fill}
+use Rattle.calculus.specs.Substitution.{shift, ordinary}
 
 -- Values: lambda, number, nil, cons of two values; in ML ms L of a Scheme value.
 pub data Value : (l : Lang) → Term l → Type 0 where
@@ -33,13 +34,13 @@ abbrev pub Cons : {l : Lang} → Term l → Type 0
 Cons {l} e = (v : Term l) × (w : Term l) × (e ≡ cons v w)
 
 infix 4 _⊢_⇒_
--- The rules. `substitute u 0 b` is the body b with u for its variable.
+-- The rules. `ordinary u 0 b` is the body b with u for its variable; `shift 1 0 f` is f under one lambda more.
 pub data _⊢_⇒_ : (l : Lang) → Term l → Term l → Type 0 where
   -- application
-  app-lambda : {l : Lang} {t : Static l} {b u : Term l} → Value l u → l ⊢ app (lam t b) u ⇒ substitute u 0 b
+  app-lambda : {l : Lang} {t : Static l} {b u : Term l} → Value l u → l ⊢ app (lam t b) u ⇒ ordinary u 0 b
   app-no-lambda : {f u : Term sc} → Value sc f → Value sc u → ¬ Lambda f → sc ⊢ app f u ⇒ wrong 2 tt
   -- fix
-  fix-lambda : {t : Ty} {b : Term ml} → ml ⊢ fix (lam t b) ⇒ substitute (fix (lam t b)) 0 b
+  fix-lambda : {t : Ty} {b : Term ml} → ml ⊢ fix (lam t b) ⇒ ordinary (fix (lam t b)) 0 b
   -- add, subtract
   add-numbers : {l : Lang} {n m : ℕ} → n + m ≤ largest → l ⊢ add (num n) (num m) ⇒ num (n + m)
   add-over : {l : Lang} {n m : ℕ} → largest < n + m → l ⊢ add (num n) (num m) ⇒ wrong 5 (numbers l)
@@ -76,33 +77,41 @@ pub data _⊢_⇒_ : (l : Lang) → Term l → Term l → Type 0 where
   ms-nil : {t : Ty} → ml ⊢ ms (list t) (nil tt) ⇒ nil t
   ms-cons : {t : Ty} {v w : Term sc} → Value sc v → Value sc w → ml ⊢ ms (list t) (cons v w) ⇒ cons (ms t v) (ms (list t) w)
   ms-no-list : {t : Ty} {v : Term sc} → Value sc v → ¬ Nil v → ¬ Cons v → ml ⊢ ms (list t) v ⇒ wrong 3 (list t)
-  ms-lambda : {t u : Ty} {b : Term sc} → ml ⊢ ms (t to u) (lam tt b) ⇒ lam t (ms u (app (lam tt b) (sm t (var 0))))
+  ms-lambda : {t u : Ty} {b : Term sc} → ml ⊢ ms (t to u) (lam tt b) ⇒ lam t (ms u (app (shift 1 0 (lam tt b)) (sm t (var 0))))
   ms-no-lambda : {t u : Ty} {v : Term sc} → Value sc v → ¬ Lambda v → ml ⊢ ms (t to u) v ⇒ wrong 2 (t to u)
   -- sm: an ML value into Scheme
   sm-number : {n : ℕ} → sc ⊢ sm N (num n) ⇒ num n
   sm-lump : {v : Term sc} → Value sc v → sc ⊢ sm L (ms L v) ⇒ v
   sm-nil : {t u : Ty} → sc ⊢ sm (list t) (nil u) ⇒ nil tt
   sm-cons : {t : Ty} {v w : Term ml} → Value ml v → Value ml w → sc ⊢ sm (list t) (cons v w) ⇒ cons (sm t v) (sm (list t) w)
-  sm-lambda : {t u r : Ty} {b : Term ml} → sc ⊢ sm (t to u) (lam r b) ⇒ lam tt (sm u (app (lam r b) (ms t (var 0))))
+  sm-lambda : {t u r : Ty} {b : Term ml} → sc ⊢ sm (t to u) (lam r b) ⇒ lam tt (sm u (app (shift 1 0 (lam r b)) (ms t (var 0))))
 
--- The evaluation contexts of figures 2.11 and 2.16, and fix's: the places to which evaluation goes. What stands before the open part of a
--- node of two parts is a value.
-abbrev pub Taken : {m l : Lang} → Frame m l → Type 0
-Taken (under o) = Unit {0}
-Taken (first o b) = Unit {0}
-Taken (second {l} o v) = Value l v
-Taken (tested b c) = Unit {0}
-Taken (intoML t) = Unit {0}
-Taken (intoScheme t) = Unit {0}
+-- The evaluation contexts of figures 2.11 and 2.16, and fix's: a term of the language l with a hole for one of m, where evaluation goes.
+-- "function then argument, first operand then second, cons head then tail; for if0 the test alone; under a unary node, ms or sm its term; never
+-- under a lambda".
+pub data Around (m : Lang) : Lang → Type 0 where
+  hole : Around m m
+  in-unary : {l : Lang} → Op1 l → Around m l → Around m l
+  in-first : {l : Lang} → Op2 → Around m l → Term l → Around m l
+  in-second : {l : Lang} → Op2 → (v : Term l) → Value l v → Around m l → Around m l
+  in-test : {l : Lang} → Around m l → Term l → Term l → Around m l
+  in-ms : Ty → Around m sc → Around m ml
+  in-sm : Ty → Around m ml → Around m sc
 
-abbrev pub Evaluated : {m l : Lang} → Context m l → Type 0
-Evaluated here = Unit {0}
-Evaluated (within f F) = Taken f × Evaluated F
+-- The term with e in the hole.
+unfoldable pub around : {m l : Lang} → Around m l → Term m → Term l
+around hole e = e
+around (in-unary o E) e = op1 o (around E e)
+around (in-first o E b) e = op2 o (around E e) b
+around (in-second o v h E) e = op2 o v (around E e)
+around (in-test E b c) e = if0 (around E e) b c
+around (in-ms t E) e = ms t (around E e)
+around (in-sm t E) e = sm t (around E e)
 
 infix 4 _⟶_
 -- One step: a rule in an evaluation context.
 pub data _⟶_ {l : Lang} : Term l → Term l → Type 0 where
-  by-rule : {m : Lang} {e r : Term m} (F : Context m l) → Evaluated F → m ⊢ e ⇒ r → fill F e ⟶ fill F r
+  by-rule : {m : Lang} {e r : Term m} (E : Around m l) → m ⊢ e ⇒ r → around E e ⟶ around E r
 
 -- n steps from one term to another.
 pub data Steps {l : Lang} : ℕ → Term l → Term l → Type 0 where
@@ -111,7 +120,7 @@ pub data Steps {l : Lang} : ℕ → Term l → Term l → Type 0 where
 
 -- A raised error: a wrong in an evaluation context.
 pub data Raises {l : Lang} : ℕ → Term l → Type 0 where
-  by-wrong : {m : Lang} {c : ℕ} (F : Context m l) → Evaluated F → (t : Static m) → Raises c (fill F (wrong c t))
+  by-wrong : {m : Lang} {c : ℕ} (E : Around m l) (t : Static m) → Raises c (around E (wrong c t))
 
 -- A term to which none of it applies: no value, no raised error, no next term.
 abbrev pub Stuck : {l : Lang} → Term l → Type 0

@@ -13,7 +13,8 @@ use Rattle.calculus.specs.Words.{put, putTy, words, size}
 use Rattle.calculus.specs.Kinds.{type, term}
 use Rattle.calculus.specs.Reduction.{Frame, under, first, second, tested, intoML, intoScheme, plug, Context, here, within, fill, turn}
 use Rattle.calculus.specs.Reduction as calculus
-use Rattle.calculus.specs.Rules.{Value, consV, lumpV, Evaluated}
+use Rattle.calculus.specs.Rules.{Value, consV, lumpV}
+use Rattle.calculus.specs.Evaluation.{Evaluated}
 use Rattle.calculus.proofs.Sizes.{tree-length}
 use Rattle.calculus.proofs.Splices.{wordsBefore, wordsAfter, put-fill}
 use Rattle.calculus.proofs.Contraction.{Ready}

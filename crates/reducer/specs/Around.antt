@@ -5,7 +5,7 @@ use mathlib.Core.Path.{_≡_}
 use Rattle.calculus.specs.Trees.{Lang, ml, Term}
 use Rattle.calculus.specs.Words.{words, size, sizeTy}
 use Rattle.calculus.specs.Reduction.{isLump, isPair, Frame, under, first, second, tested, intoML, intoScheme, plug}
-use Rattle.calculus.specs.Rules.{Taken}
+use Rattle.calculus.specs.Evaluation.{Taken}
 use Rattle.calculus.proofs.Contraction.{Ready}
 
 -- The frames around an open place of a term, from the place outwards; and the term, with x there.

@@ -8,7 +8,8 @@ use lib.ListN.{length, drop}
 use Rattle.calculus.specs.Trees.{Lang, ml, Term}
 use Rattle.calculus.specs.Words.{put, words, size}
 use Rattle.calculus.specs.Reduction.{Frame, plug, done, turn}
-use Rattle.calculus.specs.Rules.{Value, Taken}
+use Rattle.calculus.specs.Rules.{Value}
+use Rattle.calculus.specs.Evaluation.{Taken}
 use Rattle.calculus.proofs.Contraction.{Ready}
 use Rattle.writing.specs.Spans.{span}
 use Rattle.reducer.specs.declared.turns.Found.{Found}
