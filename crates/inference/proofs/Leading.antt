@@ -1,35 +1,33 @@
--- The type that a node begins with is told by the node's language and shape. Assumes nothing.
-use Prim.Native.Nat.{ℕ, _+_, _<_}
-use mathlib.Core.Bool.{Bool, true, false, cond}
+-- The type that a node begins with is told by the table: the first part is a type. Assumes nothing.
+use Prim.Native.Nat.{ℕ, _+_, _%_}
+use mathlib.Core.Bool.{Bool, true, false}
 use mathlib.Core.List.{List}
 use mathlib.Core.Option.{Option, none, some, Option·none-ne-some, Option·some-injective}
 use mathlib.Core.Path.{_≡_, refl, sym, ap, _∙_, subst}
 use borrow.Author.Tests.{eq-eqb, ne-eqb}
 use lib.Dec.{T, eqb}
-use lib.ListN.{length, drop}
+use lib.ListN.{drop}
 use native.Mathlib.Omega.{arith}
 use Rattle.calculus.specs.Trees.{Ty, Lang, ml, sc, Term, var, num, lam, op1, op2, if0, nil, wrong, ms, sm}
 use Rattle.calculus.specs.Verdicts.{found}
 use Rattle.calculus.specs.Words.{putTy, put, sizeTy}
 use Rattle.calculus.specs.Kinds.{term}
 use Rattle.calculus.proofs.Sizes.{past-word}
+use Rattle.nodes.specs.declared.kinds.Row as code
 use Rattle.nodes.specs.Table.{sortNumber, shapeNumber}
 use Rattle.types.specs.References.{Written}
 use Rattle.types.specs.Comparisons.{Ends}
-use Rattle.inference.specs.Parts.{lead, PartsStart}
+use Rattle.inference.specs.Parts.{lead, Read, PartsStart}
+use Rattle.inference.proofs.Nodes.{leads, lead-row}
 
 clash : true ≡ false → ⊥
 clash q = subst T q tt
-
-pub leads : ℕ → ℕ → Bool
-leads sort shape = cond (eqb shape 9) true (cond (eqb sort 2) (cond (eqb shape 3) true (cond (eqb shape 7) true (eqb shape 8))) false)
 
 abbrev has : Option Ty → Bool
 has none = false
 has (some t) = true
 
 lead-told : (l : Lang) (e : Term l) → has (lead e) ≡ leads (sortNumber (term l)) (shapeNumber (term l) e)
-unfolding leads
 lead-told ml (var i) = refl
 lead-told ml (num n) = refl
 lead-told ml (lam t b) = refl
@@ -66,17 +64,17 @@ lead-written sc (lam u b) w k at t d q = absurd (Option·none-ne-some t q)
 lead-written sc (nil u) w k at t d q = absurd (Option·none-ne-some t q)
 lead-written sc (wrong c u) w k at t d q = absurd (Option·none-ne-some t q)
 
-module _ (w : List ℕ) (sort shape at : ℕ) where
-  told : (b : Bool) → leads sort shape ≡ b → (l : Lang) (e : Term l) → sort ≡ sortNumber (term l) → shape ≡ shapeNumber (term l) e → has (lead e) ≡ b
-  told b q l e s h = lead-told l e ∙ ap (λ (i : ℕ). leads i (shapeNumber (term l) e)) (sym s) ∙ ap (leads sort) (sym h) ∙ q
+module _ {w : List ℕ} {at : ℕ} {row : code.Row} (R : Read w at row) where
+  told : (b : Bool) → eqb (row .parts % 4) 1 ≡ b → (l : Lang) (e : Term l) (k : List ℕ) → drop at w ≡ put e k → has (lead e) ≡ b
+  told b q l e k d = lead-told l e ∙ sym (lead-row R e k d) ∙ q
 
   -- The ways out: past the type, or right behind the word.
-  pub past-type : (r : ℕ) → leads sort shape ≡ true → Ends w (at + 1) r → PartsStart w sort shape at r
-  past-type r q n =
+  pub past-type : {r : ℕ} → row .parts % 4 ≡ 1 → Ends w (at + 1) r → PartsStart w at r
+  past-type {r} q n =
       record {
-        least = n .least;
+        least = omega (arith, n .least);
         most = n .most;
-        is = λ l e k s h d. by l e k d (lead e) refl (told true q l e s h);
+        is = λ l e k d. by l e k d (lead e) refl (told true (eq-eqb (row .parts % 4) 1 q) l e k d);
       }
     where
       by : (l : Lang) (e : Term l) (k : List ℕ) → drop at w ≡ put e k → (o : Option Ty) → lead e ≡ o → has o ≡ true
@@ -84,39 +82,14 @@ module _ (w : List ℕ) (sort shape at : ℕ) where
       by l e k d none p h = absurd (clash (sym h))
       by l e k d (some t) p h = n .is t (lead-written l e w k at t d p)
 
-  pub right-behind : at < length w → leads sort shape ≡ false → PartsStart w sort shape at (at + 1)
-  right-behind i q =
+  pub right-behind : (row .parts % 4 ≡ 1 → ⊥) → PartsStart w at (at + 1)
+  right-behind q =
       record {
         least = omega arith;
-        most = omega arith;
-        is = λ l e k s h d. by (lead e) (told false q l e s h);
+        most = omega (arith, R .within);
+        is = λ l e k d. by (lead e) (told false (ne-eqb (row .parts % 4) 1 q) l e k d);
       }
     where
       by : (o : Option Ty) → has o ≡ false → at + 1 ≡ at + 1 + found o 0 (λ t. sizeTy t)
       by none h = omega arith
       by (some t) h = absurd (clash h)
-
-  -- What the code asks.
-  pub boundary : shape ≡ 9 → leads sort shape ≡ true
-  unfolding leads
-  boundary e = rw (eq-eqb shape 9 e)
-
-  pub scheme : (shape ≡ 9 → ⊥) → (sort ≡ 2 → ⊥) → leads sort shape ≡ false
-  unfolding leads
-  scheme a b = rw (ne-eqb shape 9 a, ne-eqb sort 2 b)
-
-  pub lambda : sort ≡ 2 → shape ≡ 3 → leads sort shape ≡ true
-  unfolding leads
-  lambda s h = rw (s, h)
-
-  pub empty-list : sort ≡ 2 → shape ≡ 7 → leads sort shape ≡ true
-  unfolding leads
-  empty-list s h = rw (s, h)
-
-  pub wrongs : sort ≡ 2 → shape ≡ 8 → leads sort shape ≡ true
-  unfolding leads
-  wrongs s h = rw (s, h)
-
-  pub untyped : (shape ≡ 9 → ⊥) → sort ≡ 2 → (shape ≡ 3 → ⊥) → (shape ≡ 7 → ⊥) → (shape ≡ 8 → ⊥) → leads sort shape ≡ false
-  unfolding leads
-  untyped a s b c d = rw (s, ne-eqb shape 9 a, ne-eqb shape 3 b, ne-eqb shape 7 c, ne-eqb shape 8 d)

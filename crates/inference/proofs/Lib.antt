@@ -1,7 +1,7 @@
+pub mod Nodes
 pub mod Leading
 pub mod Linking
-pub mod Concluding
 pub mod Scoping
-pub mod Nodes
 pub mod Leaves
-pub mod Inferring
+pub mod Walking
+pub mod Concluding

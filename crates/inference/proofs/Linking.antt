@@ -5,7 +5,7 @@ use mathlib.Core.Path.{_≡_, refl, _∙_}
 use lib.ListN.{length, getD, set, length-set}
 use lib.Seq.{getD-set-same, getD-set-other}
 use native.Mathlib.Omega.{arith}
-use Rattle.rules.specs.declared.Inferred.the-variants.{Typed}
+use Rattle.rules.specs.Answers.{whole}
 use Rattle.inference.specs.Parts.{Linked, Entered, Function}
 
 module _ (ls : List ℕ) (at p x : ℕ) (i : at < length ls) (h : Linked p x) where
@@ -21,7 +21,7 @@ module _ (ls : List ℕ) (at p x : ℕ) (i : at < length ls) (h : Linked p x) wh
         own = λ q. (refl, own);
       }
 
-  pub linked : (next : ℕ) → Function at p next ls (set ls at x) (Typed at next)
+  pub linked : (next : ℕ) → Function at p next ls (set ls at x) (whole at next)
   linked next =
       record {
         same = length-set ls at x;

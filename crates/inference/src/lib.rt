@@ -1,96 +1,124 @@
-// ML inference and Scheme well-formedness in one pass: the type of a term, or its fault. The words of a part are the part of the file that
-// starts at its own word, and fewer at each call. While the body of a lambda is inferred, the lambda's link is the place of the next lambda
-// around it, or 0; after that it is the type of the body.
+// The typing in one pass: ML inference and Scheme well-formedness, which call each other at every boundary. Each is handed the words of its term,
+// the part of the file that starts at the term's own word, and hands on those of a part, which are fewer. While the body of a lambda is inferred,
+// the lambda's link is the place of the next lambda around it, or 0; after that an ML lambda's is the type of the body.
 
 pub mod parts;
 
-use nodes::kinds::Row;
 use nodes::kinds::row_at;
-use parts::crossed;
 use parts::function;
-use parts::operator;
+use parts::leaf;
 use parts::parts_start;
+use parts::scheme_leaf;
 use parts::scope_within;
+use rules::Formed;
 use rules::Inferred;
-use rules::variable;
-ghost use mathlib.Core.Path.{_≡_};
-ghost use Prim.Native.Nat.{_+_, _<_, _≤_};
-ghost use lib.ListN.{length, drop};
-ghost use Rattle.nodes.specs.Table.{kinds};
-ghost use Rattle.inference.specs.Parts.{Node};
+use rules::at_ms;
+use rules::at_sm;
+use rules::concluded;
+use rules::result_1;
+use rules::result_2;
+use rules::result_3;
+ghost use Rattle.calculus.specs.Trees.{ml, sc};
+ghost use Rattle.rules.specs.Answers.{inferred, formed};
+ghost use Rattle.inference.specs.Parts.{Begins};
 ghost use Rattle.inference.specs.Infers.{Infers};
 
-// The type of the term that starts at the place `at`, inside the lambda at `scope`.
+// A row's parts are the digits of a number in base 4, the first the lowest. A node whose number is below these has no part that is a term, fewer
+// than two parts, and fewer than three.
+const SOME_TERM: u64 = 2;
+
+const TWO_PARTS: u64 = 4;
+
+const THREE_PARTS: u64 = 16;
+
+// The type of the ML term that starts at the place `at`, inside the lambda at `scope`.
 pub fn infer(
     table: &[u64; 48],
-    all: &[u32],
+    words: &[u32],
     term: &[u32],
     at: usize,
     link: &mut [u16],
     scope: usize,
 ) -> Inferred
-    requires { ⌜ (now table ≡ kinds) × (now term ≡ drop at (now all)) × (0 < at) × (at ≤ length (now all)) × (length (now all) ≤ 4096) × (length (now link) ≡ length (now all)) ⌝ }
-    ensures { λ r. ⌜ Infers (now (all .entry)) at scope (now (link .entry)) (now (link .exit)) r ⌝ }
+    requires { ⌜ Begins (now table) (now words) (now term) at (now link) ⌝ }
+    ensures { λ r. ⌜ Infers ml (now (words .entry)) at scope (now (link .entry)) (now (link .exit)) (inferred r) ⌝ }
 {
     if term.len() == 0 {
         return Inferred::Bad(at);
     }
     let w = term[0];
     let row = row_at(table, w);
-    let shape = row.shape;
-    if shape == nodes::kinds::VARIABLE {
-        return variable(table, all, link, row.sort, scope, w, at);
+    let start = parts_start(table, words, row, at);
+    if row.parts < SOME_TERM {
+        return leaf(table, words, link, row, scope, at, start);
     }
-    let start = parts_start(table, all, row.sort, shape, at);
-    if shape == nodes::kinds::NUMBER {
-        return Inferred::Typed(at, start);
+    if row.shape == nodes::kinds::BOUNDARY {
+        let crossing = well_formed(table, words, &words[start..], start, link, scope);
+        return at_ms(at, crossing);
     }
-    if shape == nodes::kinds::NIL {
-        return Inferred::Typed(at, start);
-    }
-    if shape == nodes::kinds::WRONG {
-        return Inferred::Typed(at + 1, start);
-    }
-    infer_parts(table, all, at, link, scope, row, start)
-}
-
-// The same of a node that has parts which are terms: its row, and the place where the first of them starts.
-fn infer_parts(
-    table: &[u64; 48],
-    all: &[u32],
-    at: usize,
-    link: &mut [u16],
-    scope: usize,
-    row: Row,
-    start: usize,
-) -> Inferred
-    requires { ⌜ (now table ≡ kinds) × (0 < at) × (length (now all) ≤ 4096) × (length (now link) ≡ length (now all)) × Node (now all) at row start ⌝ }
-    ensures { λ r. ⌜ Infers (now (all .entry)) at scope (now (link .entry)) (now (link .exit)) r ⌝ }
-{
     let inner = scope_within(row.shape, at, link, scope);
-    let one = infer(table, all, &all[start..], start, link, inner);
+    let one = infer(table, words, &words[start..], start, link, inner);
     let Inferred::Typed(t, second) = one else {
         return one;
     };
     if row.shape == nodes::kinds::LAMBDA {
         return function(at, link, t, second);
     }
-    if row.shape == nodes::kinds::BOUNDARY {
-        return crossed(table, all, link, row.sort, at, t, second);
-    }
     if row.shape == nodes::kinds::OPERATOR_1 {
-        return operator(table, all, link, row, at, t, 0, 0, second);
+        return concluded(at, result_1(table, words, link, w, at, t), second);
     }
-    let two = infer(table, all, &all[second..], second, link, scope);
+    let two = infer(table, words, &words[second..], second, link, scope);
     let Inferred::Typed(u, third) = two else {
         return two;
     };
     if row.shape == nodes::kinds::OPERATOR_2 {
-        return operator(table, all, link, row, at, t, u, 0, third);
+        return concluded(at, result_2(table, words, link, w, t, u), third);
     }
-    let three = infer(table, all, &all[third..], third, link, scope);
+    let three = infer(table, words, &words[third..], third, link, scope);
     let Inferred::Typed(v, next) = three else {
         return three;
     };
-    operator(table, all, link, row, at, t, u, v, next)
+    concluded(at, result_3(table, words, link, t, u, v), next)
+}
+
+// Whether the Scheme term that starts at the place `at`, inside the lambda at `scope`, is well formed.
+fn well_formed(
+    table: &[u64; 48],
+    words: &[u32],
+    term: &[u32],
+    at: usize,
+    link: &mut [u16],
+    scope: usize,
+) -> Formed
+    requires { ⌜ Begins (now table) (now words) (now term) at (now link) ⌝ }
+    ensures { λ r. ⌜ Infers sc (now (words .entry)) at scope (now (link .entry)) (now (link .exit)) (formed r) ⌝ }
+{
+    if term.len() == 0 {
+        return Formed::Bad(at);
+    }
+    let row = row_at(table, term[0]);
+    let start = parts_start(table, words, row, at);
+    if row.parts < SOME_TERM {
+        return scheme_leaf(table, words, link, row, scope, at, start);
+    }
+    if row.shape == nodes::kinds::BOUNDARY {
+        let crossing = infer(table, words, &words[start..], start, link, scope);
+        return at_sm(table, words, link, at, crossing);
+    }
+    let inner = scope_within(row.shape, at, link, scope);
+    let one = well_formed(table, words, &words[start..], start, link, inner);
+    let Formed::Whole(second) = one else {
+        return one;
+    };
+    if row.parts < TWO_PARTS {
+        return one;
+    }
+    let two = well_formed(table, words, &words[second..], second, link, scope);
+    let Formed::Whole(third) = two else {
+        return two;
+    };
+    if row.parts < THREE_PARTS {
+        return two;
+    }
+    well_formed(table, words, &words[third..], third, link, scope)
 }

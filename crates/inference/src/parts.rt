@@ -1,42 +1,71 @@
-// What the inference does at a node, apart from going into its parts.
+// What the typing does at a node, apart from going into its parts.
 
 use nodes::kinds::Row;
+use rules::Formed;
 use rules::Inferred;
-use rules::concluded;
-use rules::embedded;
-use rules::result_1;
-use rules::result_2;
-use rules::result_3;
+use rules::scheme_variable;
+use rules::variable;
 use types::type_end;
 ghost use mathlib.Core.Path.{_≡_};
-ghost use Prim.Native.Nat.{_+_, _<_};
-ghost use lib.ListN.{length, getD};
+ghost use Prim.Native.Nat.{_<_};
+ghost use lib.ListN.{length};
+ghost use Rattle.calculus.specs.Trees.{ml, sc};
 ghost use Rattle.nodes.specs.Table.{kinds};
-ghost use Rattle.inference.specs.Parts.{PartsStart, Linked, Entered, Function};
-ghost use Rattle.inference.specs.Conclusions.{Crossed, Concluded};
+ghost use Rattle.rules.specs.Answers.{inferred, formed};
+ghost use Rattle.inference.specs.Parts.{Read, PartsStart, Leaf, Linked, Entered, Function};
+ghost use Rattle.inference.specs.Infers.{Infers};
 
 // The place of the first term among the parts of the node at `at`: past the type that the node begins with, if it does.
-pub fn parts_start(table: &[u64; 48], all: &[u32], sort: u64, shape: u64, at: usize) -> usize
-    requires { ⌜ (now table ≡ kinds) × (at < length (now all)) ⌝ }
-    ensures { λ r. ⌜ PartsStart (now (all .entry)) sort shape at r ⌝ }
+pub fn parts_start(table: &[u64; 48], all: &[u32], row: Row, at: usize) -> usize
+    requires { ⌜ (now table ≡ kinds) × Read (now all) at row ⌝ }
+    ensures { λ r. ⌜ PartsStart (now (all .entry)) at r ⌝ }
 {
     let first = at + 1;
-    if shape == nodes::kinds::BOUNDARY {
-        return type_end(table, all, first);
-    }
-    if sort != nodes::kinds::ML {
-        return first;
-    }
-    if shape == nodes::kinds::LAMBDA {
-        return type_end(table, all, first);
-    }
-    if shape == nodes::kinds::NIL {
-        return type_end(table, all, first);
-    }
-    if shape == nodes::kinds::WRONG {
+    if row.parts % 4 == nodes::kinds::TYPE {
         return type_end(table, all, first);
     }
     first
+}
+
+// The ML term at `at`, which has no part that is a term and ends before `next`.
+pub fn leaf(
+    table: &[u64; 48],
+    all: &[u32],
+    link: &[u16],
+    row: Row,
+    scope: usize,
+    at: usize,
+    next: usize,
+) -> Inferred
+    requires { ⌜ (now table ≡ kinds) × (length (now link) ≡ length (now all)) × Leaf (now all) at row next ⌝ }
+    ensures { λ r. ⌜ Infers ml (now (all .entry)) at scope (now (link .entry)) (now (link .entry)) (inferred r) ⌝ }
+{
+    if row.shape == nodes::kinds::VARIABLE {
+        return variable(table, all, link, scope, all[at], at);
+    }
+    if row.shape == nodes::kinds::WRONG {
+        return Inferred::Typed(at + 1, next);
+    }
+    Inferred::Typed(at, next)
+}
+
+// The same of a Scheme term.
+pub fn scheme_leaf(
+    table: &[u64; 48],
+    all: &[u32],
+    link: &[u16],
+    row: Row,
+    scope: usize,
+    at: usize,
+    next: usize,
+) -> Formed
+    requires { ⌜ (now table ≡ kinds) × (length (now link) ≡ length (now all)) × Leaf (now all) at row next ⌝ }
+    ensures { λ r. ⌜ Infers sc (now (all .entry)) at scope (now (link .entry)) (now (link .entry)) (formed r) ⌝ }
+{
+    if row.shape == nodes::kinds::VARIABLE {
+        return scheme_variable(table, all, link, scope, all[at], at);
+    }
+    Formed::Whole(next)
 }
 
 // A place as a link. A place of a file is below 65,536.
@@ -61,57 +90,11 @@ pub fn scope_within(shape: u64, at: usize, link: &mut [u16], scope: usize) -> us
     at
 }
 
-// The lambda at `at`, whose body has the type t and ends before `next`.
+// The ML lambda at `at`, whose body has the type t and ends before `next`.
 pub fn function(at: usize, link: &mut [u16], t: usize, next: usize) -> Inferred
     requires { ⌜ at < length (now link) ⌝ }
-    ensures { λ r. ⌜ Function at t next (now (link .entry)) (now (link .exit)) r ⌝ }
+    ensures { λ r. ⌜ Function at t next (now (link .entry)) (now (link .exit)) (inferred r) ⌝ }
 {
     link[at] = link_to(t);
     Inferred::Typed(at, next)
-}
-
-// The boundary at `at`, around a term of the other language that has the type t and ends before `next`.
-pub fn crossed(
-    table: &[u64; 48],
-    all: &[u32],
-    link: &[u16],
-    sort: u64,
-    at: usize,
-    t: usize,
-    next: usize,
-) -> Inferred
-    requires { ⌜ (now table ≡ kinds) × (length (now link) ≡ length (now all)) × (at < length (now all)) ⌝ }
-    ensures { λ r. ⌜ Crossed (now (all .entry)) (now (link .entry)) sort at t next r ⌝ }
-{
-    if sort == nodes::kinds::ML {
-        return Inferred::Typed(at + 1, next);
-    }
-    embedded(table, all, link, at, t, next)
-}
-
-// The operator at `at` with this row, of a t, a u and a v. One of fewer parts has no v, or no u either: those are 0.
-pub fn operator(
-    table: &[u64; 48],
-    all: &[u32],
-    link: &[u16],
-    row: Row,
-    at: usize,
-    t: usize,
-    u: usize,
-    v: usize,
-    next: usize,
-) -> Inferred
-    requires { ⌜ (now table ≡ kinds) × (length (now link) ≡ length (now all)) × (at < length (now all)) ⌝ }
-    ensures { λ r. ⌜ Concluded (now (all .entry)) (now (link .entry)) row (getD (now (all .entry)) at 0) at t u v next r ⌝ }
-{
-    if row.sort != nodes::kinds::ML {
-        return Inferred::Typed(0, next);
-    }
-    if row.shape == nodes::kinds::OPERATOR_1 {
-        return concluded(at, result_1(table, all, link, all[at], at, t), next);
-    }
-    if row.shape == nodes::kinds::OPERATOR_2 {
-        return concluded(at, result_2(table, all, link, all[at], t, u), next);
-    }
-    concluded(at, result_3(table, all, link, t, u, v), next)
 }

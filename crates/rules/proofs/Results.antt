@@ -1,21 +1,21 @@
 -- The ways out of the rules of the operators, of if0 and of sm. Assumes nothing.
-use Prim.Native.Nat.{ℕ, _+_}
+use Prim.Native.Nat.{ℕ, _+_, _<_, _≤_}
 use mathlib.Core.Bool.{Bool, true, false, cond}
 use mathlib.Core.List.{List}
 use mathlib.Core.Option.{Option, none, some}
-use mathlib.Core.Path.{_≡_, refl, sym, ap, _∙_}
+use mathlib.Core.Path.{_≡_, refl, sym, ap, _∙_, subst}
 use borrow.Author.Tests.{eq-eqb, ne-eqb}
 use lib.Dec.{eqb}
 use native.Mathlib.Omega.{arith}
-use Rattle.calculus.specs.Trees.{Ty, list, ml, Op1, head, tail, fixpoint, empty, apply, plus, minus, pair}
+use Rattle.calculus.specs.Trees.{Ty, list, ml, sc, Op1, head, tail, fixpoint, empty, apply, plus, minus, pair}
 use Rattle.calculus.specs.Inference.{sameType, result1, sumType}
+use Rattle.calculus.specs.Verdicts.{found}
 use Rattle.types.specs.References.{former, formerAt, Written, Means}
 use Rattle.types.specs.Comparisons.{Equality}
 use Rattle.types.proofs.Pairs.{same-sym}
 use Rattle.types.proofs.Meanings.{written-means, means-in}
-use Rattle.rules.specs.Answers.{Answers, Passes, conclusion, Embedded}
+use Rattle.rules.specs.Answers.{Answer, whole, bad, Answers, Passes, Advances, conclusion, crossing, Crossed, carried}
 use Rattle.rules.specs.Operators.{Found, elementOf, Fixed, Applied, Paired, Result1, Result2, Result3}
-use Rattle.rules.specs.declared.Inferred.the-variants.{Typed, Bad}
 use Rattle.rules.proofs.Formers.{is-list, no-list, is-number, no-number}
 use Rattle.rules.proofs.Operations.{element-means}
 
@@ -117,18 +117,61 @@ module _ (w ls : List ℕ) (t u v f : ℕ) (ef : f ≡ formerAt w t) where
     unfolding Found
     three-differ y a b c lo hi few ma mb mc = rw (is-number w t f ef ls lo hi one a ma, sym (same b c lo hi lo hi few mb mc) ∙ y) refl
 
--- sm.
-module _ (w ls : List ℕ) (at t next : ℕ) (s : Bool) (same : Equality w ls (at + 1) t s) where
-  declared : (τ u : Ty) (lo hi : ℕ) → Written w (at + 1) τ → Means w ls lo hi t u → s ≡ sameType ml u τ
-  declared τ u lo hi x m = same τ u 0 0 lo hi (omega arith) (written-means w ls 0 0 (at + 1) τ (omega arith) x) m ∙ same-sym τ u
-
-  pub sm-same : s ≡ true → Embedded w ls at t next (Typed 0 next)
+-- sm: the answer for the ML term in it is bad, or a type that is the written one, or another.
+module _ (w ls : List ℕ) (at : ℕ) where
+  pub sm-bad : (f : ℕ) → Crossed sc w ls at (bad f) (bad f)
   unfolding Answers
-  sm-same y = record { passes = refl; is = λ τ u lo hi few x m. rw (sym (declared τ u lo hi x m) ∙ y) (0, refl, tt) }
+  sm-bad f = record { advances = λ end h. tt; is = by }
+    where
+      by : (τ : Ty) (o : Option Ty) (lo hi fault next : ℕ) → Written w (at + 1) τ → Answers ml w ls lo hi fault next o (bad f)
+          → Answers sc w ls lo hi (found o fault (λ u. at)) next (found o none (λ u. crossing sc τ u)) (bad f)
+      by τ none lo hi fault next x a = cc
+      by τ (some u) lo hi fault next x a = let c = a .1 in let z : _≡_ {A = ℕ} 0 1 = cc in absurd (omega arith)
 
-  pub sm-differ : s ≡ false → Embedded w ls at t next (Bad at)
-  unfolding Answers
-  sm-differ y = record { passes = tt; is = λ τ u lo hi few x m. rw (sym (declared τ u lo hi x m) ∙ y) refl }
+  module _ (t next : ℕ) (s : Bool) (same : Equality w ls (at + 1) t s) where
+    declared : (τ u : Ty) (lo hi : ℕ) → Written w (at + 1) τ → Means w ls lo hi t u → s ≡ sameType ml u τ
+    declared τ u lo hi x m = same τ u 0 0 lo hi (omega arith) (written-means w ls 0 0 (at + 1) τ (omega arith) x) m ∙ same-sym τ u
+
+    sm-told : (r : Answer sc) → ((end : ℕ) → (at < next) × (next ≤ end) → Advances at end r)
+        → ((lo hi n : ℕ) → n ≡ next → Answers sc w ls lo hi at n (cond s (some tt) none) r) → Crossed sc w ls at (whole t next) r
+    unfolding Answers
+    sm-told r g f = record { advances = g; is = by }
+      where
+        by : (τ : Ty) (o : Option Ty) (lo hi fault n : ℕ) → Written w (at + 1) τ → Answers ml w ls lo hi fault n o (whole t next)
+            → Answers sc w ls lo hi (found o fault (λ u. at)) n (found o none (λ u. crossing sc τ u)) r
+        by τ none lo hi fault n x a = let z : _≡_ {A = ℕ} 0 1 = cc in absurd (omega arith)
+        by τ (some u) lo hi fault n x a =
+            let c = a .1 in
+            let p : a .0 ≡ t = cc in
+            let q : n ≡ next = cc in
+            let m : Means w ls lo hi t u = subst (λ (i : ℕ). Means w ls lo hi i u) p (a .2) in
+            subst (λ (b : Bool). Answers sc w ls lo hi at n (cond b (some tt) none) r) (declared τ u lo hi x m) (f lo hi n q)
+
+    pub sm-same : s ≡ true → Crossed sc w ls at (whole t next) (whole tt next)
+    unfolding Answers
+    sm-same y = sm-told (whole tt next) (λ end h. h) (λ lo hi n q. rw y (tt, ap (whole tt) (sym q), tt))
+
+    pub sm-differ : s ≡ false → Crossed sc w ls at (whole t next) (bad at)
+    unfolding Answers
+    sm-differ y = sm-told (bad at) (λ end h. tt) (λ lo hi n q. rw y refl)
+
+-- ms: the type is written behind it.
+pub ms-crossed : (w ls : List ℕ) (at : ℕ) (one : Answer sc) → Crossed ml w ls at one (carried at one)
+unfolding Answers
+ms-crossed w ls at one = record { advances = advances one; is = by one }
+  where
+    advances : (one : Answer sc) (end : ℕ) → Advances at end one → Advances at end (carried at one)
+    advances (whole p n) end h = h
+    advances (bad f) end h = tt
+
+    by : (one : Answer sc) (τ : Ty) (o : Option Unit) (lo hi fault next : ℕ) → Written w (at + 1) τ → Answers sc w ls lo hi fault next o one
+        → Answers ml w ls lo hi (found o fault (λ u. at)) next (found o none (λ u. crossing ml τ u)) (carried at one)
+    by (whole p n) τ none lo hi fault next x a = let z : _≡_ {A = ℕ} 0 1 = cc in absurd (omega arith)
+    by (bad f) τ none lo hi fault next x a = cc
+    by (whole p n) τ (some u) lo hi fault next x a =
+        let c = a .1 in
+        let q : n ≡ next = cc in (at + 1, ap (whole (at + 1)) q, written-means w ls lo hi (at + 1) τ (omega arith) x)
+    by (bad f) τ (some u) lo hi fault next x a = let c = a .1 in let z : _≡_ {A = ℕ} 0 1 = cc in absurd (omega arith)
 
 -- The answer for a node by the reference to its type.
 pub answered : (w ls : List ℕ) (lo hi at t next : ℕ) (o : Option Ty) → Found w ls lo hi o t → Answers ml w ls lo hi at next o (conclusion at t next)
@@ -139,6 +182,6 @@ answered w ls lo hi at t next (some s) f = rw (ne-eqb t 0 (λ z. omega (arith, m
 pub passed : (at t next : ℕ) → Passes next (conclusion at t next)
 passed at t next = by (eqb t 0)
   where
-    by : (b : Bool) → Passes next (cond b (Bad at) (Typed t next))
+    by : (b : Bool) → Passes {l = ml} next (cond b (bad at) (whole t next))
     by true = tt
     by false = refl

@@ -13,9 +13,8 @@ use Rattle.calculus.specs.Inference.{entryType, typeAt}
 use Rattle.nodes.specs.declared.kinds.Row as code
 use Rattle.nodes.specs.Table.{sortNumber, rowOf}
 use Rattle.types.proofs.Meanings.{written-means}
-use Rattle.rules.specs.Answers.{WrittenStatic, Refers, Answers}
+use Rattle.rules.specs.Answers.{Reference, whole, bad, WrittenStatic, Refers, Answers}
 use Rattle.rules.specs.Variables.{Binds, Scope, Behind, Lambda, Variable}
-use Rattle.rules.specs.declared.Inferred.the-variants.{Typed, Bad}
 
 module _ (w ls : List ℕ) (sort scope between : ℕ) where
   -- The answer r is the lambda of the variable.
@@ -89,23 +88,26 @@ module _ (w ls : List ℕ) (sort scope between : ℕ) where
               (rest .is l Γ scope e (omega arith) (subst (λ (j : ℕ). Scope w ls scope j Γ) (sym k) (s .3)))
 
 -- A variable whose lambda is at p.
-module _ (w ls : List ℕ) (sort scope x at p : ℕ) (a : Lambda w ls sort scope (x / 256) p) where
-  pub unbound : p ≡ 0 → Variable w ls sort scope x at (Bad at)
-  unfolding Answers
-  unbound z = record { passes = tt; is = λ l Γ lo hi e few s. go l lo hi (typeAt l Γ (x / 256)) (a .is l Γ at e few s) }
-    where
-      go : (l : Lang) (lo hi : ℕ) (o : Option (Static l)) → Behind l w o p → Answers l w ls lo hi at (at + 1) o (Bad at)
-      go l lo hi none b = refl
-      go l lo hi (some t) b = absurd (omega (arith, b .0))
+module _ (l : Lang) (w ls : List ℕ) (scope x at p : ℕ) (a : Lambda w ls (sortNumber (term l)) scope (x / 256) p) (i : at < length w) where
+  told : (Γ : Lambdas) → Scope w ls at scope Γ → Behind l w (typeAt l Γ (x / 256)) p
+  told Γ s = a .is l Γ at refl (omega arith) s
 
-  pub bound : (p ≡ 0 → ⊥) → Variable w ls sort scope x at (Typed (p + 1) (at + 1))
+  pub unbound : p ≡ 0 → Variable l w ls scope x at (bad at)
   unfolding Answers
-  bound n = record { passes = refl; is = λ l Γ lo hi e few s. go l lo hi (typeAt l Γ (x / 256)) (a .is l Γ at e few s) }
+  unbound z = record { passes = tt; is = λ Γ lo hi s. go lo hi (typeAt l Γ (x / 256)) (told Γ s) }
     where
-      refers : (l : Lang) (lo hi : ℕ) (t : Static l) → WrittenStatic l w (p + 1) t → Refers l w ls lo hi (p + 1) t
-      refers ml lo hi t x = written-means w ls lo hi (p + 1) t (omega arith) x
-      refers sc lo hi t x = tt
+      go : (lo hi : ℕ) (o : Option (Static l)) → Behind l w o p → Answers l w ls lo hi at (at + 1) o (bad at)
+      go lo hi none b = refl
+      go lo hi (some t) b = absurd (omega (arith, b .0))
 
-      go : (l : Lang) (lo hi : ℕ) (o : Option (Static l)) → Behind l w o p → Answers l w ls lo hi at (at + 1) o (Typed (p + 1) (at + 1))
-      go l lo hi none b = absurd (n b)
-      go l lo hi (some t) b = (p + 1, refl, refers l lo hi t (b .1))
+  pub bound : (p ≡ 0 → ⊥) → (q : Reference l) → ((t : Static l) (lo hi : ℕ) → WrittenStatic l w (p + 1) t → Refers l w ls lo hi q t)
+      → Variable l w ls scope x at (whole q (at + 1))
+  unfolding Answers
+  bound n q f = record { passes = refl; is = λ Γ lo hi s. go lo hi (typeAt l Γ (x / 256)) (told Γ s) }
+    where
+      go : (lo hi : ℕ) (o : Option (Static l)) → Behind l w o p → Answers l w ls lo hi at (at + 1) o (whole q (at + 1))
+      go lo hi none b = absurd (n b)
+      go lo hi (some t) b = (q, refl, f t lo hi (b .1))
+
+pub written-behind : (w ls : List ℕ) (p : ℕ) (t : Static ml) (lo hi : ℕ) → WrittenStatic ml w (p + 1) t → Refers ml w ls lo hi (p + 1) t
+written-behind w ls p t lo hi x = written-means w ls lo hi (p + 1) t (omega arith) x

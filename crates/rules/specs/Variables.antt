@@ -9,8 +9,7 @@ use Rattle.calculus.specs.Kinds.{term}
 use Rattle.calculus.specs.Typing.{Entry, of, Lambdas}
 use Rattle.calculus.specs.Inference.{typeAt}
 use Rattle.nodes.specs.Table.{sortNumber, rowOf}
-use Rattle.rules.specs.Answers.{WrittenStatic, Passes, Answers}
-use Rattle.rules.specs.declared.Inferred.{Inferred}
+use Rattle.rules.specs.Answers.{Answer, WrittenStatic, Passes, Answers}
 
 -- The lambda at p is of the language, with the type written behind it.
 abbrev pub Binds : List ℕ → ℕ → Entry → Type 0
@@ -31,7 +30,6 @@ pub record Lambda (w ls : List ℕ) (sort scope between r : ℕ) : Type 0 where
   pub is : (l : Lang) (Γ : Lambdas) (hi : ℕ) → sort ≡ sortNumber (term l) → hi ≤ length w → Scope w ls hi scope Γ → Behind l w (typeAt l Γ between) r
 
 -- "a variable the type written at its lambda".
-pub record Variable (w ls : List ℕ) (sort scope x at : ℕ) (r : Inferred) : Type 0 where
+pub record Variable (l : Lang) (w ls : List ℕ) (scope x at : ℕ) (r : Answer l) : Type 0 where
   pub passes : Passes (at + 1) r
-  pub is : (l : Lang) (Γ : Lambdas) (lo hi : ℕ) → sort ≡ sortNumber (term l) → at ≤ length w → Scope w ls at scope Γ
-      → Answers l w ls lo hi at (at + 1) (typeAt l Γ (x / 256)) r
+  pub is : (Γ : Lambdas) (lo hi : ℕ) → Scope w ls at scope Γ → Answers l w ls lo hi at (at + 1) (typeAt l Γ (x / 256)) r

@@ -1,4 +1,4 @@
-// The rules of the typing, on references to types. Where there is no type, the reference that is answered is 0.
+// The rules of the typing: of ML on references to types, of Scheme on none. Where there is no type, the reference that is answered is 0.
 
 use nodes::kinds::row_at;
 use types::codomain;
@@ -9,14 +9,20 @@ ghost use mathlib.Core.Path.{_≡_};
 ghost use Prim.Native.Nat.{_+_, _<_};
 ghost use lib.ListN.{length};
 ghost use Rattle.nodes.specs.Table.{kinds};
-ghost use Rattle.rules.specs.Answers.{conclusion, Embedded};
+ghost use Rattle.calculus.specs.Trees.{ml, sc};
+ghost use Rattle.rules.specs.Answers.{inferred, formed, conclusion, carried, Crossed};
 ghost use Rattle.rules.specs.Operators.{ArgumentEnd, elementOf, Fixed, Applied, Paired, Result1, Result2, Result3};
 ghost use Rattle.rules.specs.Variables.{Lambda, Variable};
 
-// The type of a term, as a reference, and the place past the term; or the place of its fault. Of a Scheme term, which is well formed or not, the
-// reference says nothing.
+// The type of an ML term, as a reference, and the place past the term; or the place of its fault.
 pub enum Inferred {
     Typed(usize, usize),
+    Bad(usize),
+}
+
+// The place past a well-formed Scheme term; or the place of its fault.
+pub enum Formed {
+    Whole(usize),
     Bad(usize),
 }
 
@@ -33,7 +39,7 @@ const TL: u32 = 27;
 
 // The answer for the node at `at`, which ends before `next` and has the type t.
 pub fn concluded(at: usize, t: usize, next: usize) -> Inferred
-    ensures { λ r. ⌜ r ≡ conclusion at t next ⌝ }
+    ensures { λ r. ⌜ inferred r ≡ conclusion at t next ⌝ }
 {
     if t == 0 {
         return Inferred::Bad(at);
@@ -69,25 +75,43 @@ fn lambda(
     lambda(table, all, link, sort, out, between - 1)
 }
 
-// The variable at `at`, whose word is w, inside the lambda at `scope`.
+// The ML variable at `at`, whose word is w, inside the lambda at `scope`.
 pub fn variable(
     table: &[u64; 48],
     all: &[u32],
     link: &[u16],
-    sort: u64,
     scope: usize,
     w: u32,
     at: usize,
 ) -> Inferred
     requires { ⌜ (now table ≡ kinds) × (length (now link) ≡ length (now all)) × (at < length (now all)) ⌝ }
-    ensures { λ r. ⌜ Variable (now (all .entry)) (now (link .entry)) sort scope w at r ⌝ }
+    ensures { λ r. ⌜ Variable ml (now (all .entry)) (now (link .entry)) scope w at (inferred r) ⌝ }
 {
     let between = (w / 256) as usize;
-    let p = lambda(table, all, link, sort, scope, between);
+    let p = lambda(table, all, link, nodes::kinds::ML, scope, between);
     if p == 0 {
         return Inferred::Bad(at);
     }
     Inferred::Typed(p + 1, at + 1)
+}
+
+// The same of a Scheme variable.
+pub fn scheme_variable(
+    table: &[u64; 48],
+    all: &[u32],
+    link: &[u16],
+    scope: usize,
+    w: u32,
+    at: usize,
+) -> Formed
+    requires { ⌜ (now table ≡ kinds) × (length (now link) ≡ length (now all)) × (at < length (now all)) ⌝ }
+    ensures { λ r. ⌜ Variable sc (now (all .entry)) (now (link .entry)) scope w at (formed r) ⌝ }
+{
+    let between = (w / 256) as usize;
+    if lambda(table, all, link, nodes::kinds::SCHEME, scope, between) == 0 {
+        return Formed::Bad(at);
+    }
+    Formed::Whole(at + 1)
 }
 
 // The place past the argument type, where t means a function type; else 0.
@@ -215,20 +239,29 @@ pub fn result_3(table: &[u64; 48], all: &[u32], link: &[u16], t: usize, u: usize
     0
 }
 
-// sm, which stands at `at` with its type behind it, of an ML term of the type t that ends before `next`.
-pub fn embedded(
-    table: &[u64; 48],
-    all: &[u32],
-    link: &[u16],
-    at: usize,
-    t: usize,
-    next: usize,
-) -> Inferred
-    requires { ⌜ (now table ≡ kinds) × (length (now link) ≡ length (now all)) × (at < length (now all)) ⌝ }
-    ensures { λ r. ⌜ Embedded (now (all .entry)) (now (link .entry)) at t next r ⌝ }
+// ms, which stands at `at` with its type behind it, of a Scheme term.
+pub fn at_ms(at: usize, one: Formed) -> Inferred
+    requires { ⌜ at < 4096 ⌝ }
+    ensures { λ r. ⌜ inferred r ≡ carried at (formed one) ⌝ }
 {
-    if same(table, all, link, at + 1, t) {
-        return Inferred::Typed(0, next);
+    match one {
+        Formed::Whole(next) => Inferred::Typed(at + 1, next),
+        Formed::Bad(fault) => Inferred::Bad(fault),
     }
-    Inferred::Bad(at)
+}
+
+// sm, which stands at `at` with its type behind it, of an ML term.
+pub fn at_sm(table: &[u64; 48], all: &[u32], link: &[u16], at: usize, one: Inferred) -> Formed
+    requires { ⌜ (now table ≡ kinds) × (length (now link) ≡ length (now all)) × (at < length (now all)) ⌝ }
+    ensures { λ r. ⌜ Crossed sc (now (all .entry)) (now (link .entry)) at (inferred one) (formed r) ⌝ }
+{
+    match one {
+        Inferred::Bad(fault) => Formed::Bad(fault),
+        Inferred::Typed(t, next) => {
+            if same(table, all, link, at + 1, t) {
+                return Formed::Whole(next);
+            }
+            Formed::Bad(at)
+        }
+    }
 }

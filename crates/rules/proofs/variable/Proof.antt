@@ -1,6 +1,7 @@
 -- `rules::variable` meets its contract: each way out is one law of Scopes. Assumes nothing.
 use borrow.Author.Needs.{needs}
-use Rattle.rules.proofs.Scopes.{unbound, bound}
+use Rattle.calculus.specs.Trees.{ml}
+use Rattle.rules.proofs.Scopes.{unbound, bound, written-behind}
 use Rattle.rules.proofs.variable.Statement.{statement}
 use Rattle.rules.proofs.variable.Tie as tie
 
@@ -11,20 +12,17 @@ lambda-requires : tie.Need-lambda-requires
 lambda-requires c κs = search needs
 
 returns : tie.Need-returns
-returns c =
-    let at-lambda = c .before in
-    unbound _ _ _ _ _ _ _ (at-lambda .lambda .ensures) (c .if1 .taken)
+returns c = unbound ml _ _ _ _ _ _ (c .before .lambda .ensures) (c .before .before .before .before .pre .2) (c .if1 .taken)
+
+add-t11 : tie.Need-add-t11
+add-t11 c = search needs
 
 add-t12 : tie.Need-add-t12
 add-t12 c = search needs
 
-add-t13 : tie.Need-add-t13
-add-t13 c = search needs
-
 returns-2 : tie.Need-returns-2
 returns-2 c =
-    let at-lambda = c .before in
-    bound _ _ _ _ _ _ _ (at-lambda .lambda .ensures) (c .if1 .left)
+    bound ml _ _ _ _ _ _ (c .before .lambda .ensures) (c .before .before .before .before .pre .2) (c .if1 .left) _ (written-behind _ _ _)
 
 pub variable-spec : {M : Type 1} → statement M
-variable-spec = tie.close (tie.spec cast-between lambda-requires returns add-t12 add-t13 returns-2)
+variable-spec = tie.close (tie.spec cast-between lambda-requires returns add-t11 add-t12 returns-2)
