@@ -61,7 +61,7 @@ grown : (a s : ℕ) → 1 ≤ s → a ≤ a * s
 grown a s h = let i : a * 1 ≡ a = omega arith in rw i at (mul-le-mul-left a h)
 
 -- A shift keeps the size.
-size-shift : {l : Lang} (d k : ℕ) (e : Term l) → size (shift d k e) ≡ size e
+pub size-shift : {l : Lang} (d k : ℕ) (e : Term l) → size (shift d k e) ≡ size e
 unfolding shift size
 size-shift d k (var {l} i) = by (leb k i)
   where

@@ -36,4 +36,6 @@ pub mod Files
 pub mod Checks
 pub mod Refusing
 pub mod Demands
+pub mod Reaching
+pub mod Conversions
 pub mod Recipes

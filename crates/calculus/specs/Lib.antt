@@ -14,6 +14,7 @@ pub mod Rules
 pub mod Evaluation
 pub mod Run
 pub mod Endings
+pub mod Conversions
 pub mod File
 pub mod Accepted
 pub mod Demands
