@@ -1,4 +1,3 @@
-pub mod Clearing
 pub mod Moving
 pub mod Bridge
 pub mod Looping

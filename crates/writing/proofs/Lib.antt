@@ -1,4 +1,5 @@
 pub mod Stores
+pub mod Clearing
 pub mod Trees
 pub mod Digits
 pub mod Measures

@@ -5,7 +5,7 @@ use native.Mathlib.Omega.{arith}
 use lib.ListN.{length, length-set}
 use lib.Seq.{sets}
 use borrow.Author.Needs.{needs}
-use Rattle.engine.proofs.Clearing.{zeros, cleared-more, cleared-all}
+use Rattle.writing.proofs.Clearing.{zeros, cleared-more, cleared-all}
 use Rattle.engine.proofs.buffers.clear.Statement.{statement}
 use Rattle.engine.proofs.buffers.clear.Tie as tie
 

@@ -5,7 +5,7 @@ use native.Mathlib.Omega.{arith}
 use lib.ListN.{length, take}
 use lib.Seq.{length-take-le}
 use Rattle.calculus.specs.File.{padded}
-use Rattle.engine.proofs.Clearing.{front-copied}
+use Rattle.writing.proofs.Clearing.{front-copied}
 use borrow.Author.Needs.{needs}
 use Rattle.engine.proofs.buffers.settle.Statement.{statement}
 use Rattle.engine.proofs.buffers.settle.Tie as tie

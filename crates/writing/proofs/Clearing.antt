@@ -1,4 +1,4 @@
--- A buffer cleared from a place on, and the two buffers after a run. Assumes nothing.
+-- A buffer cleared from a place on, and the first words of a copy. Assumes nothing.
 use Prim.Native.Nat.{ℕ, _+_, _-_, _≤_, _<_}
 use mathlib.Core.List.{List, [], _∷_, _++_, append-nil}
 use mathlib.Core.Path.{_≡_, refl, sym, ap, _∙_}

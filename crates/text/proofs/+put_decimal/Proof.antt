@@ -1,0 +1,81 @@
+-- `text::put_decimal` meets its contract: the digits of the tenth, and the last digit. The measure is the number. Assumes nothing.
+use Prim.Native.Nat.{ℕ, _/_, _<_}
+use mathlib.Core.List.{[], _∷_, _++_}
+use mathlib.Core.Path.{sym, ap, _∙_}
+use native.Mathlib.Omega.{arith}
+use borrow.Author.Needs.{needs}
+use borrow.Fn.Kinds.{In}
+use borrow.Fn.PlainCycle.{Measures, is, falls, and}
+use Rattle.writing.proofs.Stores.{then, wrote-as, wrote-length}
+use Rattle.text.specs.Decimal.{decimal}
+use Rattle.text.proofs.Decimals.{decimal-small, decimal-more, decimal-length}
+use Rattle.text.proofs.put_decimal.Reads as put-decimal
+use Rattle.text.proofs.put_decimal.Kinds as put-decimal-kinds
+use Rattle.text.proofs.+put_decimal.Lts-put_decimal as lts
+use Rattle.text.proofs.last_digit.Reads as last-digit-reads
+use Rattle.text.proofs.put.Reads as put-reads
+use Rattle.text.proofs.+put_decimal.{statement}
+use Rattle.text.proofs.+put_decimal.Tie.{close}
+
+abbrev μ-put-decimal : Measures 1 put-decimal-kinds.ps ℕ
+μ-put-decimal κs a = a .1 .1 .0
+
+abbrev here : ℕ → In 1 put-decimal-kinds.ps
+here t =
+    and 1 put-decimal-kinds.ps (is 1 put-decimal-kinds.ps μ-put-decimal t) put-decimal.Pre
+
+abbrev below : ℕ → In 1 put-decimal-kinds.ps
+below t =
+    and 1 put-decimal-kinds.ps (falls 1 put-decimal-kinds.ps _<_ μ-put-decimal t) put-decimal.Pre
+
+abbrev calls : ℕ → lts.Claims
+calls t = (last-digit-reads.Asked, last-digit-reads.Learnt, put-reads.Asked, put-reads.Learnt, below t, put-decimal.Post)
+
+last-digit-requires : (t : ℕ) → lts.Need-last-digit-requires (calls t) (here t) put-decimal.Post
+last-digit-requires t c κs = search needs
+
+put-requires : (t : ℕ) → lts.Need-put-requires (calls t) (here t) put-decimal.Post
+put-requires t c κs = omega arith
+
+same-length : (t : ℕ) → lts.Need-same-length (calls t) (here t) put-decimal.Post
+same-length t c = wrote-length (c .before .before .put .ensures)
+
+returns : (t : ℕ) → lts.Need-returns (calls t) (here t) put-decimal.Post
+returns t c =
+    let a = c .before .before .before .before .before .before .before .args in
+    let d = c .before .before .before .before .before .last-digit .ensures in
+    wrote-as (ap (λ (x : ℕ). x ∷ []) d ∙ sym (decimal-small (a .number) (omega arith))) (c .before .before .put .ensures)
+
+put-decimal-requires : (t : ℕ) → lts.Need-put-decimal-requires (calls t) (here t) put-decimal.Post
+put-decimal-requires t c κs = (omega arith, omega arith)
+
+put-requires-2 : (t : ℕ) → lts.Need-put-requires-2 (calls t) (here t) put-decimal.Post
+put-requires-2 t c κs =
+    let a = c .before .before .before .before .before .before .before .before .args in
+    omega (arith, c .before .before .before .put-decimal .ensures .place, decimal-length 19 (a .number / 10) (omega arith))
+
+same-length-2 : (t : ℕ) → lts.Need-same-length-2 (calls t) (here t) put-decimal.Post
+same-length-2 t c =
+    wrote-length (then (c .before .before .before .before .before .before .put-decimal .ensures) (c .before .before .put2 .ensures))
+
+returns-2 : (t : ℕ) → lts.Need-returns-2 (calls t) (here t) put-decimal.Post
+returns-2 t c =
+    let s = c .before .before .before .before .before .before .before .before .before .before .before in
+    let d = c .before .before .before .before .before .before .before .before .before .last-digit .ensures in
+    let tenth = c .before .before .before .before .before .before .put-decimal .ensures in
+    wrote-as
+    (ap (λ (x : ℕ). decimal (s .args .number / 10) ++ x ∷ []) d ∙ sym (decimal-more (s .args .number) (omega arith)))
+    (then tenth (c .before .before .put2 .ensures))
+
+pub +put-decimal-spec : {M : Type 1} → statement M
++put-decimal-spec =
+    close μ-put-decimal λ t.
+    lts.spec (calls t) (here t) put-decimal.Post
+    (last-digit-requires t)
+    (put-requires t)
+    (same-length t)
+    (returns t)
+    (put-decimal-requires t)
+    (put-requires-2 t)
+    (same-length-2 t)
+    (returns-2 t)
