@@ -122,6 +122,10 @@ check-iff bytes τ e = (
       ),
 )
 
+-- A file holds one recipe.
+pub accepted-once : (bytes : List ℕ) (x y : Recipe) → Accepted bytes (x .0) (x .1) → Accepted bytes (y .0) (y .1) → x ≡ y
+accepted-once bytes x y a b = passed-injective x y (sym (check-iff bytes (x .0) (x .1) .1 a) ∙ check-iff bytes (y .0) (y .1) .1 b)
+
 -- A run is made of an accepted file whose term's words fit the capacity, and it is that term's.
 pub operate-iff : (bytes : List ℕ) (limit first second : ℕ) (r : Result) → (operate bytes limit first second ≡ passed r)
     ↔ ((τ : Ty) × (e : Term ml) × Accepted bytes τ e × (size e ≤ capacity first second) × (r ≡ run limit (capacity first second) uncounted e))

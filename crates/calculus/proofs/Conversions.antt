@@ -13,9 +13,11 @@ use Rattle.calculus.specs.Substitution.{shift, ordinary}
 use Rattle.calculus.specs.Rules.{Value, lamV, numV, nilV, consV, lumpV, Lambda, Number, Nil, Cons, app-lambda, ms-number, ms-no-number, ms-nil, ms-cons, ms-no-list, ms-lambda, ms-no-lambda, sm-number, sm-lump, sm-nil, sm-cons, sm-lambda, Steps, stay, then, Raises}
 use Rattle.calculus.specs.Run.{valued, ended}
 use Rattle.calculus.specs.Endings.{after, by-value}
-use Rattle.calculus.specs.Conversions.{Data, Fits, number, anything, empty, items, function, first, misfit, crossing, boundaries, Reaches, Survives, Crosses, Leaves, Seals, wrapper, Wraps, Functions}
+use Rattle.calculus.specs.Conversions.{Data, Fits, number, anything, empty, items, function, first, misfit, crossing, boundaries, Reaches, Survives, Crosses, Leaves, Seals, wrapper, Wraps, Functions, Conversions}
 use Rattle.calculus.proofs.Contraction.{mark}
 use Rattle.calculus.proofs.Bounds.{size-shift}
+use Rattle.calculus.proofs.Typing.{typed-scoped}
+use Rattle.calculus.proofs.Agreement.{value-no-step}
 use Rattle.calculus.proofs.Endings.{ends-iff}
 use Rattle.calculus.proofs.Reaching.{Within, still, on, within-steps, within-made, once, join, wider, inside, in-head, in-tail, into-ml, into-scheme, rule, onward, reached, after-rule, raises, raises-head, raises-tail, one-end, value-end, value-or-error, error-once, fails-run}
 
@@ -130,7 +132,7 @@ scheme-same d function = absurd d
 back-typed : (t : Ty) (v : Term ml) → Typed [] v t → Typed [] (ms t (sm t v)) t
 back-typed t v h = (h, refl)
 
-pub survives : (t : Ty) → Data t → Survives t
+survives : (t : Ty) → Data t → Survives t
 survives t d =
     record {
       ml-back = λ v h k. within-steps (ml-within (ml-same t d h k .3));
@@ -242,7 +244,7 @@ module _ (t : Ty) {v : Term sc} (h : Value sc v) (k : Typed [] v tt) where
   )
 
 -- Every well-formed Scheme value arrives exactly if it fits, and else raises the code of its first misfit.
-pub crosses : (t : Ty) {v : Term sc} (h : Value sc v) → Typed [] v tt → Crosses t h
+crosses : (t : Ty) {v : Term sc} (h : Value sc v) → Typed [] v tt → Crosses t h
 crosses t h k =
     let x = decided t h k (misfit t h) (conversion t h) in
     record {
@@ -276,12 +278,18 @@ departs t {v} (lumpV a) h = subst (Arrival v) (sym (h .1)) (reached _ (sm-lump a
 returned : (t : Ty) {v : Term ml} → Value ml v → Typed [] v t → Reaches (ms t (sm t v)) (Value ml)
 returned t h k = let x = departs t h k in onward (ms t) (into-ml t) {Q = Value ml} (x .2) (fits-arrives (x .3))
 
-pub leaves : (t : Ty) (v : Term ml) → Value ml v → Typed [] v t → Leaves t v
+leaves : (t : Ty) (v : Term ml) → Value ml v → Typed [] v t → Leaves t v
 leaves t v h k = record { leaves = departs t h k; returns = returned t h k }
 
 -- Seals.
-pub seals : (v : Term sc) → Value sc v → Seals v
-seals v h = record { sealed = lumpV h; unsealed = then (rule (sm-lump h)) stay }
+seals : (v : Term sc) → Value sc v → Typed [] v tt → Seals v
+seals v h k =
+    let w = lumpV h in
+    record {
+      sealed = w;
+      closed = λ r a. value-no-step (typed-scoped [] (ms L v) L (k, refl)) w a;
+      unsealed = then (rule (sm-lump h)) stay;
+    }
 
 -- A Scheme lambda becomes a value in one step, so that no error is ever reached.
 lambda-raises-nothing : (t u : Ty) (b : Term sc) → Typed [] (lam tt b) tt → (n c : ℕ) (r : Term ml)
@@ -289,7 +297,7 @@ lambda-raises-nothing : (t u : Ty) (b : Term sc) → Typed [] (lam tt b) tt → 
 lambda-raises-nothing t u b k n c r p a =
     value-or-error (t to u) {e = ms (t to u) (lam tt b)} (k, refl) (reached _ ms-lambda lamV) (n, r, p, a)
 
-pub wraps : (t u : Ty) (b : Term sc) → Typed [] (lam tt b) tt → Wraps t u b
+wraps : (t u : Ty) (b : Term sc) → Typed [] (lam tt b) tt → Wraps t u b
 wraps t u b k =
     record {
       wrapped = then (rule ms-lambda) stay;
@@ -370,10 +378,13 @@ back-data (t to u) h =
     no-lambda-back t u (wrong 1 u) k (x .0) (x .1)
 
 -- Functions are not data.
-pub functions : Functions
+functions : Functions
 functions =
     record {
       late = late-error;
       changed = no-lambda-back;
       exactly = λ t. (λ d v h k. (crossing t v, survives t d .ml-back v h k), back-data t);
     }
+
+pub conversions : Conversions
+conversions = record { survives = survives; crosses = crosses; leaves = leaves; seals = seals; wraps = wraps; functions = functions }

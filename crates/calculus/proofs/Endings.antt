@@ -10,7 +10,7 @@ use Rattle.calculus.specs.Typing.{Typed}
 use Rattle.calculus.specs.Reduction.{Outcome, value, raised, next, stuck, step}
 use Rattle.calculus.specs.Rules.{Value, _⟶_}
 use Rattle.calculus.specs.Run.{spent, error, Counts, uncounted, counted, Result, ended, atLimit, run}
-use Rattle.calculus.specs.Endings.{Made, none, more, after, Ends, by-value, by-limit, by-error, by-full}
+use Rattle.calculus.specs.Endings.{Made, none, more, after, Ends, by-value, by-limit, by-error, by-full, Ending}
 use Rattle.calculus.proofs.Typing.{typed-scoped}
 use Rattle.calculus.proofs.Agreement.{next-iff, raised-iff, value-step-iff}
 use Rattle.calculus.proofs.Soundness.{Kept, sound}
@@ -99,11 +99,11 @@ ends-iff limit cap e τ h x = (
   λ q. subst (Ends limit cap e) q (ran-ends τ limit cap e (run-ran limit cap uncounted e) (omega arith) h none),
 )
 
--- Exactly one.
-pub ends-once : (limit cap : ℕ) (e : Term ml) (τ : Ty) → Typed [] e τ
-    → (x : Result) × Ends limit cap e x × ((y : Result) → Ends limit cap e y → y ≡ x)
-ends-once limit cap e τ h = (
-  run limit cap uncounted e,
-  ends-iff limit cap e τ h (run limit cap uncounted e) .1 refl,
-  λ y p. sym (ends-run τ h p),
-)
+-- Exactly one exists.
+pub ending : (limit cap : ℕ) (e : Term ml) (τ : Ty) → Typed [] e τ → Ending limit cap e
+ending limit cap e τ h =
+    record {
+      result = run limit cap uncounted e;
+      ends = ends-iff limit cap e τ h (run limit cap uncounted e) .1 refl;
+      only = λ r p. sym (ends-run τ h p);
+    }

@@ -2,13 +2,11 @@
 -- of exactly one tree, in range. Assumes nothing.
 use Prim.Native.Nat.{ℕ, _/_}
 use mathlib.Core.List.{List, [], _∷_, _++_}
-use mathlib.Core.Logic.{_↔_}
 use mathlib.Core.Option.{Option, none, some, Option·some-injective, Option·none-ne-some}
 use mathlib.Core.Path.{_≡_, refl, sym, ap, _∙_, subst}
 use Rattle.calculus.specs.Verdicts.{found}
-use Rattle.calculus.specs.Trees.{Ty}
-use Rattle.calculus.specs.Words.{word, wordsTy}
-use Rattle.calculus.specs.Kinds.{Sort, type, Tree, Trees, putTree, putTrees, Row, rowFor}
+use Rattle.calculus.specs.Words.{word}
+use Rattle.calculus.specs.Kinds.{Sort, Tree, Trees, putTree, putTrees, Row, rowFor}
 use Rattle.calculus.specs.Reading.{front, back, read, readTree}
 use Rattle.calculus.proofs.Verdicts.{found-some}
 use Rattle.calculus.proofs.Rows.{TreeInRange, TreesInRange, word-due, due-word, due-made}
@@ -99,10 +97,6 @@ pub one-tree : (s : Sort) (t u : Tree s) (j k : List ℕ) → TreeInRange s t �
 one-tree s t u j k ht hu q =
     let e = Option·some-injective _ _ (sym (read-tree s t ht j) ∙ ap (λ (ws : List ℕ). read ws (s ∷ [])) q ∙ read-tree s u hu k) in
     (ap (λ (x : Trees (s ∷ []) × List ℕ). x .0 .0) e, ap (λ (x : Trees (s ∷ []) × List ℕ). x .1) e)
-
--- "Types are equal when their words are."
-pub types-equal : (t u : Ty) → (t ≡ u) ↔ (wordsTy t ≡ wordsTy u)
-types-equal t u = (λ e. ap wordsTy e, λ q. one-tree type t u [] [] tt tt q .0)
 
 -- What reads is the words of the trees read, which are in range.
 trees-split : (ss us : List Sort) (ts : Trees (ss ++ us)) (k : List ℕ)

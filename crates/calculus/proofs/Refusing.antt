@@ -4,8 +4,8 @@ use Prim.Native.Nat.{ℕ, _+_, _-_, _≤_}
 use mathlib.Core.Bool.{Bool, true, false, cond}
 use mathlib.Core.List.{List, [], _∷_, _++_}
 use mathlib.Core.Option.{Option, none, some}
-use mathlib.Core.Path.{_≡_, refl}
-use lib.Dec.{eqb}
+use mathlib.Core.Path.{_≡_, refl, sym}
+use lib.Dec.{eqb, leb}
 use lib.ListN.{length, drop, replicate, length-drop}
 use lib.Seq.{length-take-le}
 use native.Mathlib.Omega.{arith}
@@ -15,7 +15,10 @@ use Rattle.calculus.specs.Verdicts.{found, Verdict, refused, passed, and
 use Rattle.calculus.specs.Reading.{Act, opens, refuses, later, acted, walk, noneLeft, nestedDue, levels, levelled, inOrder, readTree}
 use Rattle.calculus.specs.Scope.{isFree, inside, partCount, scopeDue}
 use Rattle.calculus.specs.Inference.{sameType, infer}
-use Rattle.calculus.specs.File.{wordsOf, isSize, isHeader, typeCount, typeWords, termWords, ordered, scoped, Recipe, withTree, typed, checkWords, check}
+use Rattle.calculus.specs.File.{wordsOf, isSize, isHeader, typeCount, typeWords, termWords, ordered, scoped, Recipe, withTree, typed, checkWords, check, runIn, operate}
+use Rattle.calculus.specs.Words.{size}
+use Rattle.calculus.specs.Run.{Result, uncounted, run, capacity}
+use Rattle.calculus.proofs.Verdicts.{not-both}
 use Rattle.calculus.proofs.Walks.{reach, walk-reach}
 use Rattle.calculus.proofs.Files.{header-iff}
 
@@ -188,3 +191,16 @@ numbered-words ws =
 pub number-in-table : (bytes : List ℕ) → Numbered (check bytes)
 unfolding check
 number-in-table bytes = numbered-unless (isSize (length bytes)) 1 0 _ (omega arith, omega arith) (numbered-words (wordsOf bytes))
+
+-- And of every run that is refused: one of 1 to 8.
+pub operate-number : (bytes : List ℕ) (limit first second n p : ℕ) → operate bytes limit first second ≡ refused n p → (1 ≤ n) × (n ≤ 8)
+unfolding operate runIn
+operate-number bytes limit first second n p = by (check bytes) (number-in-table bytes)
+  where
+    fitting : (b : Bool) (r : Result) → unless b 8 0 (passed r) ≡ refused n p → (1 ≤ n) × (n ≤ 8)
+    fitting true r q = absurd (not-both n p r (sym q))
+    fitting false r q = let e : 8 ≡ n = cc in (omega (arith, e), omega (arith, e))
+
+    by : (v : Verdict Recipe) → Numbered v → andThen v (λ x. runIn limit (capacity first second) x) ≡ refused n p → (1 ≤ n) × (n ≤ 8)
+    by (refused m o) h q = let e : m ≡ n = cc in (omega (arith, h .0, e), omega (arith, h .1, e))
+    by (passed x) h q = fitting (leb (size (x .1)) (capacity first second)) (run limit (capacity first second) uncounted (x .1)) q

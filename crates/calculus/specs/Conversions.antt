@@ -9,7 +9,7 @@ use Rattle.calculus.specs.Trees.{Ty, N, L, list, _to_, Lang, ml, sc, Ter
 use Rattle.calculus.specs.Words.{words, size, sizeTy}
 use Rattle.calculus.specs.Typing.{Typed}
 use Rattle.calculus.specs.Substitution.{shift}
-use Rattle.calculus.specs.Rules.{Value, lamV, numV, nilV, consV, Steps, Raises}
+use Rattle.calculus.specs.Rules.{Value, lamV, numV, nilV, consV, _⟶_, Steps, Raises}
 use Rattle.calculus.specs.Run.{valued, error, uncounted, ended, run}
 use Rattle.calculus.specs.Endings.{after}
 
@@ -107,9 +107,10 @@ pub record Leaves (t : Ty) (v : Term ml) : Type 0 where
   pub leaves : Reaches (sm t v) (Fits t)
   pub returns : Reaches (ms t (sm t v)) (Value ml)
 
--- A Scheme value under a seal is an ML value as it stands, whatever it is, and one step in Scheme takes the seal off.
+-- A Scheme value under a seal is an ML value as it stands, whatever it is. No step of ML opens it; one step in Scheme takes the seal off.
 pub record Seals (v : Term sc) : Type 0 where
   pub sealed : Value ml (ms L v)
+  pub closed : (r : Term ml) → ¬ (ms L v ⟶ r)
   pub unsealed : Steps 1 (sm L (ms L v)) v
 
 -- The ML lambda that a Scheme lambda becomes.
@@ -127,3 +128,12 @@ pub record Functions : Type 0 where
   pub late : (n : ℕ) → Steps 5 (app (ms (N to N) (lam tt (nil tt))) (num n)) (wrong 1 N)
   pub changed : (t u : Ty) (b : Term ml) → Typed [] (lam t b) (t to u) → (n : ℕ) → ¬ Steps n (ms (t to u) (sm (t to u) (lam t b))) (lam t b)
   pub exactly : (t : Ty) → Data t ↔ ((v : Term ml) → Value ml v → Typed [] v t → (n : ℕ) × Steps n (ms t (sm t v)) v)
+
+-- All of it: of every type, and of every value that is well formed.
+pub record Conversions : Type 0 where
+  pub survives : (t : Ty) → Data t → Survives t
+  pub crosses : (t : Ty) {v : Term sc} (h : Value sc v) → Typed [] v tt → Crosses t h
+  pub leaves : (t : Ty) (v : Term ml) → Value ml v → Typed [] v t → Leaves t v
+  pub seals : (v : Term sc) → Value sc v → Typed [] v tt → Seals v
+  pub wraps : (t u : Ty) (b : Term sc) → Typed [] (lam tt b) tt → Wraps t u b
+  pub functions : Functions

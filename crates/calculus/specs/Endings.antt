@@ -1,7 +1,8 @@
--- Document 01, "A run and its ends", by the published reduction `⟶` alone: nothing here computes. proofs/Endings.antt says that every term that
--- has a type has exactly one ending, under every limit and capacity, and that `run` computes it.
+-- Document 01, "A run and its ends", by the published reduction `⟶` alone: nothing here computes. proofs/Endings.antt proves that every term
+-- that has a type has its one ending, under every limit and capacity, and that `run` computes it.
 use Prim.Native.Nat.{ℕ, suc, _≤_, _<_}
 use mathlib.Core.List.{[]}
+use mathlib.Core.Path.{_≡_}
 use Rattle.calculus.specs.Trees.{ml, Term}
 use Rattle.calculus.specs.Words.{words, size}
 use Rattle.calculus.specs.Rules.{Value, _⟶_, Raises}
@@ -28,3 +29,9 @@ pub data Ends (limit cap : ℕ) (e : Term ml) : Result → Type 0 where
   -- "a next term of more words than capacity, as full"
   by-full : {n : ℕ} {t r : Term ml} → Made cap n e t → n < limit → t ⟶ r → cap < size r
       → Ends limit cap e (ended full 0 (after n) (words t) (size r))
+
+-- "exactly those of the published reductions": exactly one ending exists.
+pub record Ending (limit cap : ℕ) (e : Term ml) : Type 0 where
+  pub result : Result
+  pub ends : Ends limit cap e result
+  pub only : (r : Result) → Ends limit cap e r → r ≡ result

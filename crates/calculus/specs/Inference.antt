@@ -2,8 +2,11 @@
 use Prim.Native.Nat.{ℕ, zero, suc}
 use mathlib.Core.Bool.{Bool, true, false, cond}
 use mathlib.Core.List.{[], _∷_}
+use mathlib.Core.Logic.{_↔_}
 use mathlib.Core.Option.{Option, none, some}
-use Rattle.calculus.specs.Trees.{N, L, list, _to_, Ty-discrete, Lang, ml, sc, Static, numbers, lists, functions, Op1, head, tail, fixpoint, empty, testing, Op2, apply, plus, minus, pair, Term, var, num, lam, op1, op2, if0, nil, wrong, ms, sm}
+use mathlib.Core.Path.{_≡_}
+use Rattle.calculus.specs.Trees.{Ty, N, L, list, _to_, Ty-discrete, Lang, ml, sc, Static, numbers, lists, functions, Op1, head, tail, fixpoint, empty, testing, Op2, apply, plus, minus, pair, Term, var, num, lam, op1, op2, if0, nil, wrong, ms, sm}
+use Rattle.calculus.specs.Words.{wordsTy}
 use Rattle.calculus.specs.Verdicts.{found}
 use Rattle.calculus.specs.Typing.{Entry, of, Lambdas}
 
@@ -15,6 +18,11 @@ decided (no p) = false
 abbrev pub sameType : (l : Lang) → Static l → Static l → Bool
 sameType ml t u = decided (Ty-discrete t u)
 sameType sc t u = true
+
+-- What that sentence says; proofs/Types.antt proves it.
+pub record EqualByWords : Type 0 where
+  pub equal : (t u : Ty) → (t ≡ u) ↔ (wordsTy t ≡ wordsTy u)
+  pub same : (t u : Ty) → (sameType ml t u ≡ true) ↔ (wordsTy t ≡ wordsTy u)
 
 abbrev pub entryType : (l : Lang) → Entry → Option (Static l)
 entryType ml (of ml t) = some t

@@ -9,7 +9,7 @@ use Rattle.calculus.specs.Verdicts.{Verdict, refused, passed}
 use Rattle.calculus.specs.File.{check}
 use Rattle.calculus.specs.File as calculus
 use Rattle.calculus.proofs.Verdicts.{not-both, then-passed}
-use Rattle.calculus.proofs.Checks.{check-iff}
+use Rattle.calculus.proofs.Checks.{check-iff, accepted-once}
 use Rattle.calculus.proofs.Refusing.{Numbered, number-in-table}
 use Rattle.calculus.proofs.Demands.{demand-3}
 use Rattle.nodes.specs.declared.refusals.Refusal.{Refusal}
@@ -67,6 +67,11 @@ module _ (bytes : List ℕ) where
   is-refused (Refused y) x h = ap Refused (refusal-injective y x h)
   is-refused Accepted x h = absurd (not-both (numberOf x) (placeOf x) tt (sym h))
 
+  one-recipe : (x y : Recipe bytes) → (x .0 ≡ y .0) × (x .1 ≡ y .1)
+  one-recipe x y =
+      let same = accepted-once bytes (x .0, x .1) (y .0, y .1) (x .2) (y .2) in
+      (ap (λ (z : calculus.Recipe). z .0) same, ap (λ (z : calculus.Recipe). z .1) same)
+
   module _ (c : Checked) (h : checked c ≡ accepting (check bytes)) where
     accepts-iff : (c ≡ Accepted) ↔ Recipe bytes
     accepts-iff = (
@@ -84,6 +89,7 @@ module _ (bytes : List ℕ) where
     checks =
         record {
           accepts = accepts-iff;
+          one = one-recipe;
           refuses = refuses-iff;
           seven = λ x q. subst Numbered (refuses-iff x .0 q) (number-in-table bytes);
         }

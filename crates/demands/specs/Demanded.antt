@@ -27,9 +27,10 @@ given x first second = record { answer = x; first = first; second = second }
 abbrev pub Recipe : List ℕ → Type 0
 Recipe bytes = (τ : Ty) × (e : Term ml) × calculus.Accepted bytes τ e
 
--- Demand 2 of the check, and its refusals: the number and place of the table, 1 to 7.
+-- Demand 2 of the check, and its refusals: the number and place of the table, 1 to 7. A file is of one recipe at most.
 pub record Checks (bytes : List ℕ) (r : Checked) : Type 0 where
   pub accepts : (r ≡ Accepted) ↔ Recipe bytes
+  pub one : (x y : Recipe bytes) → (x .0 ≡ y .0) × (x .1 ≡ y .1)
   pub refuses : (x : Refusal) → (r ≡ Refused x) ↔ (calculus-file.check bytes ≡ refusal x)
   pub seven : (x : Refusal) → r ≡ Refused x → (1 ≤ numberOf x) × (numberOf x ≤ 7)
 

@@ -11,16 +11,13 @@ use Rattle.calculus.specs.Trees.{Ty, ml, Term}
 use Rattle.calculus.specs.Words.{size}
 use Rattle.calculus.specs.Verdicts.{Verdict, refused, passed, andThen}
 use Rattle.calculus.specs.Run as spec
-use Rattle.calculus.specs.Endings.{Ends}
+use Rattle.calculus.specs.Endings.{Ending}
 use Rattle.calculus.specs.File.{Recipe, check, runIn, operate, padded, leftBy}
 use Rattle.calculus.specs.Accepted.{Accepted}
 use Rattle.calculus.proofs.Verdicts.{not-both, passed-injective}
 use Rattle.calculus.proofs.Checks.{check-iff, operate-iff}
-use Rattle.calculus.specs.Kinds.{term}
-use Rattle.calculus.proofs.Sizes.{tree-length}
-use Rattle.calculus.proofs.Runs.{lastTerm}
-use Rattle.calculus.proofs.Continuing.{leftAt, run-left, run-keeps}
-use Rattle.calculus.proofs.Endings.{ends-iff}
+use Rattle.calculus.proofs.Bounds.{operate-bounded}
+use Rattle.calculus.proofs.Endings.{ends-iff, ending}
 use Rattle.calculus.proofs.Refusing.{Numbered, number-in-table}
 use Rattle.calculus.proofs.Demands.{demand-3}
 use Rattle.nodes.specs.declared.refusals.Refusal.{Refusal}
@@ -64,13 +61,12 @@ ended-by : (a : Answer) (y : Line) → spoken a ≡ passed y → (x : Report) ×
 ended-by (Refused x) y q = absurd (not-both (numberOf x) (placeOf x) y q)
 ended-by (Ended x) y q = (x, refl, passed-injective (told x) y q)
 
-reduce : (l : Lent) (g : Given) (r : spec.Result) (e : Term ml) → operate (l .bytes) (l .limit) (length (l .first)) (length (l .second)) ≡ passed r
-    → Ends (l .limit) (room l) e r → Promised l g → Reduces l g e
-reduce l g r e o q h =
-    let b = ended-by (g .answer) (lineOf r) (h .answer-is ∙ ap (λ (v : Verdict spec.Result). andThen v (λ y. passed (lineOf y))) o) in
+reduce : (l : Lent) (g : Given) (e : Term ml) (x : Ending (l .limit) (room l) e)
+    → operate (l .bytes) (l .limit) (length (l .first)) (length (l .second)) ≡ passed (x .result) → Promised l g → Reduces l g e
+reduce l g e x o h =
+    let b = ended-by (g .answer) (lineOf (x .result)) (h .answer-is ∙ ap (λ (v : Verdict spec.Result). andThen v (λ y. passed (lineOf y))) o) in
     record {
-      result = r;
-      by-rules = q;
+      by-rules = x;
       report = b .0;
       ended = b .1;
       numbers = b .2;
@@ -90,24 +86,11 @@ final-of e.Spent f = absurd f
 final-of e.Error f = f
 final-of e.Full f = absurd f
 
--- The words that a run leaves fit the capacity that its term fits.
-left-fits : (k cap : ℕ) (e : Term ml) → size e ≤ cap → length (spec.run k cap spec.uncounted e .left) ≤ cap
-left-fits k cap e h =
-    rw (run-left k cap spec.uncounted e)
-    (by (spec.run k cap spec.uncounted e .end) (lastTerm k cap e) (run-keeps k cap e (λ t. size t ≤ cap) (λ t u q f g. f) h))
-  where
-    by : (x : spec.End) (t : Term ml) → size t ≤ cap → length (leftAt x t) ≤ cap
-    by spec.valued t f = omega (arith, tree-length (term ml) t [])
-    by spec.spent t f = omega (arith, tree-length (term ml) t [])
-    by spec.error t f = omega arith
-    by spec.full t f = omega (arith, tree-length (term ml) t [])
-
 -- A run's first words are those that it leaves.
 front : (l : Lent) (g : Given) (r : spec.Result) → operate (l .bytes) (l .limit) (length (l .first)) (length (l .second)) ≡ passed r → Promised l g
     → take (length (r .left)) (g .first) ≡ r .left
 front l g r o h =
-    let i = operate-iff (l .bytes) (l .limit) (length (l .first)) (length (l .second)) r .0 o in
-    let n : length (r .left) ≤ room l = rw (i .4) (left-fits (l .limit) (room l) (i .1) (i .3)) in
+    let n = operate-bounded (l .bytes) (l .limit) (length (l .first)) (length (l .second)) r o .0 in
     ap (take (length (r .left))) (h .first-is ∙ ap (λ (v : Verdict spec.Result). padded (length (l .first)) (leftBy v)) o)
     ∙ padded-take (length (l .first)) (length (r .left)) (r .left) (omega arith) refl
 
@@ -185,9 +168,9 @@ way l = by (check (l .bytes)) refl
 
 reduces-of : (l : Lent) (g : Given) → Promised l g → (τ : Ty) (e : Term ml) → Accepted (l .bytes) τ e → size e ≤ room l → Reduces l g e
 reduces-of l g h τ e a s =
-    let r = spec.run (l .limit) (room l) spec.uncounted e in
-    reduce l g r e (operate-iff (l .bytes) (l .limit) (length (l .first)) (length (l .second)) r .1 (τ, e, a, s, refl))
-    (ends-iff (l .limit) (room l) e τ (a .typed) r .1 refl) h
+    let x = ending (l .limit) (room l) e τ (a .typed) in
+    let q = ends-iff (l .limit) (room l) e τ (a .typed) (x .result) .0 (x .ends) in
+    reduce l g e x (operate-iff (l .bytes) (l .limit) (length (l .first)) (length (l .second)) (x .result) .1 (τ, e, a, s, sym q)) h
 
 exact-of : (l : Lent) (g : Given) → Promised l g → Exact l g
 exact-of l g h =

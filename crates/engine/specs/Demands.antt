@@ -8,8 +8,8 @@ use lib.ListN.{length, take, replicate}
 use Rattle.calculus.specs.Trees.{Ty, ml, Term}
 use Rattle.calculus.specs.Words.{size}
 use Rattle.calculus.specs.Verdicts.{refused, passed}
-use Rattle.calculus.specs.Run.{Result, capacity}
-use Rattle.calculus.specs.Endings.{Ends}
+use Rattle.calculus.specs.Run.{capacity}
+use Rattle.calculus.specs.Endings.{Ending}
 use Rattle.calculus.specs.File.{check, operate, padded}
 use Rattle.calculus.specs.Accepted.{Accepted}
 use Rattle.calculus.specs.Demands.{Safe}
@@ -54,12 +54,11 @@ pub data Finishes (l : Lent) (g : Given) : Type 0 where
 -- "The end of a run, its code, its count of steps and the words it leaves are exactly those of the published reductions, taken in their order
 -- of evaluation under the limits lent": those of the term's one ending by `⟶`.
 pub record Reduces (l : Lent) (g : Given) (e : Term ml) : Type 0 where
-  pub result : Result
-  pub by-rules : Ends (l .limit) (room l) e result
+  pub by-rules : Ending (l .limit) (room l) e
   pub report : Report
   pub ended : g .answer ≡ Ended report
-  pub numbers : told report ≡ lineOf result
-  pub first : g .first ≡ padded (length (l .first)) (result .left)
+  pub numbers : told report ≡ lineOf (by-rules .result)
+  pub first : g .first ≡ padded (length (l .first)) (by-rules .result .left)
   pub second : g .second ≡ padded (length (l .second)) []
 
 -- An accepted file whose term fits the capacity; and "8 | term words over capacity".
