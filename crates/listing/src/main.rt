@@ -3,5 +3,7 @@
 fn main() {
     let mut file = [0u8; 16385];
     let n = io::read_full(0, &mut file);
-    lister::list(&file[..n]);
+    let mut text = [0u8; 49152];
+    let end = lister::list(&file[..n], &mut text);
+    io::write_all(1, &text[..end]);
 }

@@ -40,7 +40,9 @@ decimal-small n h = let e : n % 10 ≡ n = omega arith in decimal-few n h ∙ rw
 pub decimal-more : (n : ℕ) → 10 ≤ n → decimal n ≡ decimal (n / 10) ++ digit (n % 10) ∷ []
 unfolding decimal
 decimal-more zero h = absurd (omega (arith, h))
-decimal-more (suc n) h = more n (suc n) h ∙ ap (λ (ds : List ℕ). ds ++ digit (suc n % 10) ∷ []) (enough n (suc n / 10) (suc n / 10) (omega arith) (omega arith))
+decimal-more (suc n) h =
+    let same = enough n (suc n / 10) (suc n / 10) (omega arith) (omega arith) in
+    more n (suc n) h ∙ ap (λ (ds : List ℕ). ds ++ digit (suc n % 10) ∷ []) same
 
 -- A number below a power of ten has no more digits than the power says.
 pub decimal-length : (k n : ℕ) → n < 10 ^ suc k → length (decimal n) ≤ suc k

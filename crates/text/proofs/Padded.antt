@@ -17,7 +17,8 @@ module _ (b b′ ws : List ℕ) (k : ℕ) (w : Wrote b 0 ws k b′) (m : ℕ) (e
   front : take m b′ ≡ take m ws
   front =
       let cut = sym (sets-cut b 0 m ws (omega arith)) in
-      front-copied ws b b′ m m (omega arith) (omega arith) (record { place = omega (arith, length-take-le m ws (omega arith)); stored = w .stored ∙ cut })
+      let put : Wrote b 0 (take m ws) m b′ = record { place = omega (arith, length-take-le m ws (omega arith)); stored = w .stored ∙ cut } in
+      front-copied ws b b′ m m (omega arith) (omega arith) put
 
   no-more : take k b′ ≡ take m b′
   no-more = by (decLe (length ws) (length b))

@@ -56,7 +56,7 @@ put-requires-2 t c κs =
 
 same-length-2 : (t : ℕ) → lts.Need-same-length-2 (calls t) (here t) put-decimal.Post
 same-length-2 t c =
-    wrote-length (then (c .before .before .before .before .before .before .put-decimal .ensures) (c .before .before .put2 .ensures))
+    wrote-length (c .before .before .put2 .ensures) ∙ wrote-length (c .before .before .before .before .before .before .put-decimal .ensures)
 
 returns-2 : (t : ℕ) → lts.Need-returns-2 (calls t) (here t) put-decimal.Post
 returns-2 t c =

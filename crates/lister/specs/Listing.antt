@@ -1,0 +1,57 @@
+-- Document 01, the listing: "prints end name, code, steps, words left, words wanted on one line, then the term's words on the next, or an empty
+-- line. A refusal prints `refused`, number, place on one line and no other line."
+use Prim.Native.Nat.{ℕ}
+use mathlib.Core.List.{List, [], _∷_, _++_}
+use mathlib.Core.Path.{_≡_}
+use lib.ListN.{length}
+use Rattle.calculus.specs.Verdicts.{Verdict, refused, passed}
+use Rattle.calculus.specs.Run.{End, valued, spent, error, full, Result}
+use Rattle.calculus.specs.File.{operate}
+use Rattle.calculus.specs.Recipes.{bytesOf, fileOf}
+use Rattle.text.specs.Decimal.{decimal}
+use Rattle.text.specs.Characters.{characters}
+
+-- A blank, and the end of a line.
+abbrev pub blank : ℕ
+blank = 32
+
+abbrev pub lineFeed : ℕ
+lineFeed = 10
+
+-- A number in decimal, a blank before it; and so each of some numbers.
+unfoldable pub field : ℕ → List ℕ
+field n = blank ∷ decimal n
+
+abbrev pub fields : List ℕ → List ℕ
+fields [] = []
+fields (n ∷ ns) = field n ++ fields ns
+
+-- Numbers in decimal, a blank between two.
+abbrev pub numbers : List ℕ → List ℕ
+numbers [] = []
+numbers (n ∷ ns) = decimal n ++ fields ns
+
+abbrev pub endName : End → List ℕ
+endName valued = characters "value"
+endName spent = characters "spent"
+endName error = characters "error"
+endName full = characters "full"
+
+-- The text of a refusal, and of a run's result.
+abbrev pub textOf : Verdict Result → List ℕ
+textOf (refused n p) = characters "refused" ++ fields (n ∷ p ∷ []) ++ lineFeed ∷ []
+textOf (passed r) =
+    endName (r .end) ++ fields (r .code ∷ r .made .steps ∷ length (r .left) ∷ r .wanted ∷ []) ++ lineFeed ∷ []
+    ++ numbers (r .left) ++ lineFeed ∷ []
+
+-- "The listing program reads a file .., lends 1,000,000 steps and 4,096 words": 4,096 for each buffer.
+unfoldable pub listing : List ℕ → List ℕ
+listing bytes = textOf (operate bytes 1000000 4096 4096)
+
+-- "For add 2 3, file 1 4 3 5 1 21 529 785, it prints `value 0 1 1 0` and `1297`"; hd (nil N), whose second line is empty; ms L (fn v0), four
+-- words; and the empty file. proofs/Examples.antt proves them.
+pub record Examples : Type 0 where
+  pub sum : listing (bytesOf (1 ∷ 4 ∷ 3 ∷ 5 ∷ 1 ∷ 21 ∷ 529 ∷ 785 ∷ [])) ≡ characters "value 0 1 1 0\n1297\n"
+  pub no-head : listing (bytesOf (fileOf (1 ∷ []) (26 ∷ 24 ∷ 1 ∷ []))) ≡ characters "error 4 2 0 0\n\n"
+  pub sealed : listing (bytesOf (fileOf (2 ∷ []) (30 ∷ 2 ∷ 34 ∷ 32 ∷ []))) ≡ characters "value 0 0 4 0\n30 2 34 32\n"
+  pub empty-file : listing [] ≡ characters "refused 1 0\n"

@@ -1,0 +1,21 @@
+-- The same text, by the numbers that a run is told in.
+use Prim.Native.Nat.{ℕ}
+use mathlib.Core.Bool.{cond}
+use mathlib.Core.List.{List, [], _∷_, _++_}
+use lib.Dec.{eqb}
+use Rattle.exports.specs.declared.runs.RecipeRun.{RecipeRun}
+use Rattle.text.specs.Characters.{characters}
+use Rattle.lister.specs.Listing.{lineFeed, fields, numbers}
+
+abbrev pub nameOf : ℕ → List ℕ
+nameOf n = cond (eqb n 0) (characters "value") (cond (eqb n 1) (characters "spent") (cond (eqb n 2) (characters "error") (characters "full")))
+
+abbrev pub refusedLine : RecipeRun → List ℕ
+refusedLine x = characters "refused" ++ fields (x .refusal ∷ x .place ∷ []) ++ lineFeed ∷ []
+
+abbrev pub endedLine : RecipeRun → List ℕ
+endedLine x = nameOf (x .end) ++ fields (x .code ∷ x .steps ∷ x .left ∷ x .wanted ∷ []) ++ lineFeed ∷ []
+
+-- Of a run's numbers, and the words that it left.
+abbrev pub textBy : RecipeRun → List ℕ → List ℕ
+textBy x ws = cond (eqb (x .refusal) 0) (endedLine x ++ numbers ws ++ lineFeed ∷ []) (refusedLine x)
