@@ -1,4 +1,5 @@
--- Demand 3, the statement alone. proofs/Demands.antt proves it of every file.
+-- Demand 3, the statement alone: of files and the definitions here. proofs/Demands.antt proves it of every file; of the code it is the contract of
+-- `run_twice` in crates/demands/src/lib.rt.
 use Prim.Native.Nat.{ℕ, _≤_}
 use mathlib.Core.List.{List, []}
 use mathlib.Core.Path.{_≡_}

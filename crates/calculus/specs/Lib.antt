@@ -1,3 +1,4 @@
+-- Document 01 as definitions, in its order. What is promised of the code by them are the contracts in crates/demands/src/lib.rt: start there.
 pub mod Verdicts
 pub mod Trees
 pub mod Words

@@ -1,5 +1,5 @@
--- The three demands, stated of the operations: of whatever `check` and `run` (src/runs.rt) promise. proofs/Demands.antt proves them from the
--- definitions that the contracts cite and from the calculus.
+-- The three demands, stated of whatever `check` and `run` (src/runs.rt) promise; proofs/Demands.antt proves them from the definitions that these
+-- contracts cite and from the calculus. The room `demands` ties them to the code: its functions call `check` and `run` and ensure what stands here.
 use Prim.Native.Nat.{ℕ, _≤_, _<_}
 use mathlib.Core.List.{List, []}
 use mathlib.Core.Logic.{_↔_}
