@@ -23,7 +23,11 @@ pub fn check_once(file: &[u8]) -> Checked
 
 // Demand 1, and demand 2 of a run: of this file, this limit and these buffers.
 pub fn run_once(file: &[u8], limit: u32, first: &mut [u32], second: &mut [u32]) -> Answer
-    ensures { λ x. ⌜ Once (lent (now (file .entry)) limit (now (first .entry)) (now (second .entry))) (given x (now (first .exit)) (now (second .exit))) ⌝ }
+    ensures { λ x. ⌜
+        Once
+        (lent (now (file .entry)) limit (now (first .entry)) (now (second .entry)))
+        (given x (now (first .exit)) (now (second .exit)))
+        ⌝ }
 {
     run(file, limit, first, second)
 }
@@ -38,7 +42,13 @@ pub fn run_twice(
     first_2: &mut [u32],
     second_2: &mut [u32],
 ) -> Answers
-    ensures { λ r. ⌜ Twice (r .checked) (lent (now (file .entry)) limit (now (first .entry)) (now (second .entry))) (given (r .earlier) (now (first .exit)) (now (second .exit))) (lent (now (file .entry)) limit_2 (now (first_2 .entry)) (now (second_2 .entry))) (given (r .later) (now (first_2 .exit)) (now (second_2 .exit))) ⌝ }
+    ensures { λ r. ⌜
+        Twice (r .checked)
+        (lent (now (file .entry)) limit (now (first .entry)) (now (second .entry)))
+        (given (r .earlier) (now (first .exit)) (now (second .exit)))
+        (lent (now (file .entry)) limit_2 (now (first_2 .entry)) (now (second_2 .entry)))
+        (given (r .later) (now (first_2 .exit)) (now (second_2 .exit)))
+        ⌝ }
 {
     let checked = check(file);
     let earlier = run(file, limit, first, second);
