@@ -42,16 +42,16 @@ fn at_lump(words: &[u32], scheme: bool, form: u64, value: usize, end: usize) -> 
     ensures placed { λ r. ⌜ Placed (length (now (words .entry))) r ⌝ }
     ensures told { λ r. ⌜ AtType (now (words .entry)) scheme r L ⌝ }
 {
-    if !scheme {
-        return Rule::Stuck;
+    if scheme {
+        if form != crate::forms::LUMP {
+            return Rule::Stuck;
+        }
+        if end < value + 2 {
+            return Rule::Stuck;
+        }
+        return Rule::Part(value + 2, end);
     }
-    if form != crate::forms::LUMP {
-        return Rule::Stuck;
-    }
-    if end < value + 2 {
-        return Rule::Stuck;
-    }
-    Rule::Part(value + 2, end)
+    Rule::Stuck
 }
 
 // At a type {t}.

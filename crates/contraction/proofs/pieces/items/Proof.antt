@@ -18,7 +18,7 @@ lead-requires c κs =
     let s = c .before .before .before .before .before .before .before in
     let w = c .before .before .before .put .ensures .place in
     let p = s .pre .1 in
-    (s .pre .0 .0, p .0, omega (arith, p .1, p .2, p .3), omega (arith, w, s .pre .0 .1))
+    (s .pre .0 .0, omega (arith, p .0), omega (arith, p .1, p .2, p .3), omega (arith, w, s .pre .0 .1))
 
 mul-copy : tie.Need-mul-copy
 mul-copy c = search needs
