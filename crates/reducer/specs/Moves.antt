@@ -33,12 +33,12 @@ endOf (rule.IntoML s v e) = end.Writes
 endOf (rule.IntoScheme s v e) = end.Writes
 endOf (rule.Substituted x b a e) = end.Writes
 
--- A rule that fits the node at a place of the source: its places are within the words, and it tells what the node becomes.
+-- A rule that fits the node at a place of the source: it tells what the node becomes, and its places are within the words.
 pub record Fits (source : List ℕ) (place end : ℕ) (r : Rule) : Type 0 where
   pub inside : place ≤ length source
   pub ends : end ≡ place + span (drop place source) 1
-  pub within : Placed (length source - place) r
   pub told : OfNode (drop place source) r
+  pub within : Placed (length source - place) r
 
 -- Where the node n stands in the source behind the words P, and it becomes u: how many words stood and stand there, and the words that are
 -- written.

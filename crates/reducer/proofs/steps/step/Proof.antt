@@ -120,7 +120,7 @@ splice-requires c κs =
     let f = after-found in
     let l = part-length (s .args .source .now) (f .found .given .0 .0) in
     let w = subst (λ (n : ℕ). Placed n (after-chosen .chosen .result)) l (after-chosen .chosen .ensures .0) in
-    (s .pre .0, s .pre .1, record { inside = place-in f; ends = end-is f; within = w; told = told after-chosen })
+    (s .pre .0, s .pre .1, record { inside = place-in f; ends = end-is f; told = told after-chosen; within = w })
 
 returns-2 : tie.Need-returns-2
 returns-2 c =
