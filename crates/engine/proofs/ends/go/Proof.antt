@@ -2,6 +2,7 @@
 use borrow.Author.Needs.{needs}
 use borrow.Author.Tests.{eq-eqb, ne-eqb, le-leb, lt-leb}
 use mathlib.Core.Path.{sym, ap}
+use native.Mathlib.Omega.{arith}
 use Rattle.engine.specs.declared.ends.Choice.the-variants.{Go}
 use Rattle.engine.proofs.ends.go.Statement.{statement}
 use Rattle.engine.proofs.ends.go.Tie as tie
@@ -18,7 +19,7 @@ counted-requires c κs = search needs
 returns-2 : tie.Need-returns-2
 returns-2 c =
     let a = c .before .before .before .before .args in
-    rw (ne-eqb (a .made .steps) (a .limit) (λ e. c .before .before .if1 .left (sym e)), le-leb (a .size) (a .cap) (c .before .if2 .taken))
+    rw (ne-eqb (a .made .steps) (a .limit) (λ e. c .before .before .if1 .left (sym e)), le-leb (a .size) (a .cap) (omega (arith, c .before .if2 .taken)))
     (ap (Go (a .size)) (c .counted .ensures))
 
 stop-requires-2 : tie.Need-stop-requires-2
