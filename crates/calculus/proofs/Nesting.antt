@@ -131,6 +131,10 @@ word-stands s n w ws ds r q t =
       fit = (m .ranged (f .0), omega (arith, m .nested, f .1), f .2);
     }
 
+-- "3 before 4 at a word".
+pub kind-first : (d : Sort × ℕ) (w : ℕ) → rowFor (d .0) w ≡ none → nestedDue d w ≡ refuses 3
+kind-first d w q = rw q
+
 pub walk-stands : (ws : List ℕ) (ds : List (Sort × ℕ)) (n : ℕ) → walk nestedDue ws ds ≡ passed n → Stands ws ds
 unfolding walk
 walk-stands [] [] n q = record { trees = tt; rest = []; spelt = refl; fit = tt }
