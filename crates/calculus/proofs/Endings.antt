@@ -13,7 +13,7 @@ use Rattle.calculus.specs.Run.{spent, error, Counts, uncounted, counted,
 use Rattle.calculus.specs.Endings.{Made, none, more, after, Ends, by-value, by-limit, by-error, by-full, Ending}
 use Rattle.calculus.proofs.Typing.{typed-scoped}
 use Rattle.calculus.proofs.Agreement.{next-iff, raised-iff, value-step-iff}
-use Rattle.calculus.proofs.Soundness.{Kept, sound}
+use Rattle.calculus.proofs.Soundness.{sound}
 use Rattle.calculus.proofs.Runs.{Ran, at-value, at-limit, at-error, at-full, at-stuck, by-step, run-ran, run-value, run-next, run-full}
 
 -- One step more at the end.

@@ -1,5 +1,5 @@
 -- What the operations promise meets the demands. Assumes nothing.
-use Prim.Native.Nat.{ℕ, _≤_}
+use Prim.Native.Nat.{ℕ}
 use mathlib.Core.Bool.{cond}
 use mathlib.Core.List.{List}
 use mathlib.Core.Logic.{_↔_}
@@ -8,19 +8,18 @@ use lib.Dec.{eqb}
 use Rattle.calculus.specs.Verdicts.{Verdict, refused, passed}
 use Rattle.calculus.specs.File.{check}
 use Rattle.calculus.specs.File as calculus
-use Rattle.calculus.proofs.Verdicts.{not-both, then-passed}
+use Rattle.calculus.proofs.Verdicts.{not-both}
 use Rattle.calculus.proofs.Checks.{check-iff, accepted-once}
 use Rattle.calculus.proofs.Refusing.{Numbered, number-in-table}
-use Rattle.calculus.proofs.Demands.{demand-3}
+use Rattle.calculus.proofs.Demands.{typed-safe}
 use Rattle.nodes.specs.declared.refusals.Refusal.{Refusal}
 use Rattle.nodes.specs.declared.refusals.Refusal.the-variants as r
 use Rattle.nodes.specs.Refusals.{numberOf, placeOf, refusal}
 use Rattle.checker.specs.declared.Checked.{Checked}
 use Rattle.checker.specs.declared.Checked.the-variants.{Refused, Accepted}
 use Rattle.checker.specs.Checks.{checked, accepting}
-use Rattle.engine.specs.Demands.{Lent, Given, Promised}
-use Rattle.engine.proofs.Demands.{demands}
-use Rattle.demands.specs.Demanded.{Recipe, Checks, Once, Twice}
+use Rattle.demands.specs.Demanded.{Lent, Given, Recipe, Checks, Twice}
+use Rattle.demands.proofs.Running.{Promised, grow}
 
 -- A refusal is its number and place.
 abbrev numbered : ℕ → ℕ → Refusal
@@ -94,14 +93,11 @@ module _ (bytes : List ℕ) where
           seven = λ x q. subst Numbered (refuses-iff x .0 q) (number-in-table bytes);
         }
 
-pub once : (l : Lent) (g : Given) → Promised l g → Once l g
-once l g h = record { finishes = demands .finishes l g h; exact = demands .exact l g h }
-
 pub twice : (c : Checked) (l m : Lent) (g h : Given) → l .bytes ≡ m .bytes → checked c ≡ accepting (check (l .bytes)) → Promised l g → Promised m h
     → Twice c l g m h
 twice c l m g h b k p q =
     record {
       accepts = accepts-iff (l .bytes) c k;
-      safe = λ τ e a. demands .safe (l .bytes) τ e (check-iff (l .bytes) τ e .1 a);
-      grows = λ x i j a f. demands .grows l m g h x b i j p q a f;
+      safe = λ τ e a. typed-safe e τ (a .typed);
+      grows = λ x i j a f. grow l m g h x b i j p q a f;
     }

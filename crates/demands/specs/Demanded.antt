@@ -1,48 +1,115 @@
--- The three demands, each of one call, or of one pair of calls, of the public operations.
-use Prim.Native.Nat.{ℕ, _≤_}
-use mathlib.Core.List.{List}
+-- The three demands, each of one call, or of one pair of calls, of the public operations: what the contracts in src/lib.rt say.
+use Prim.Native.Nat.{ℕ, _≤_, _<_}
+use mathlib.Core.List.{List, []}
 use mathlib.Core.Logic.{_↔_}
 use mathlib.Core.Path.{_≡_}
+use lib.ListN.{length, take, replicate}
 use Rattle.calculus.specs.Trees.{Ty, ml, Term}
-use Rattle.calculus.specs.Accepted as calculus
-use Rattle.calculus.specs.File as calculus-file
+use Rattle.calculus.specs.Words.{size}
+use Rattle.calculus.specs.Verdicts.{refused}
+use Rattle.calculus.specs.Run.{Final, capacity}
+use Rattle.calculus.specs.Endings.{Ending}
+use Rattle.calculus.specs.File.{check, padded}
+use Rattle.calculus.specs.Accepted.{Accepted}
 use Rattle.calculus.specs.Demands.{Safe}
 use Rattle.nodes.specs.declared.refusals.Refusal.{Refusal}
-use Rattle.nodes.specs.Refusals.{numberOf, refusal}
+use Rattle.nodes.specs.declared.refusals.Refusal.the-variants.{Capacity}
+use Rattle.nodes.specs.Refusals.{numberOf, placeOf, refusal}
 use Rattle.checker.specs.declared.Checked.{Checked}
-use Rattle.checker.specs.declared.Checked.the-variants.{Refused, Accepted}
+use Rattle.checker.specs.declared.Checked.the-variants as checked
 use Rattle.engine.specs.declared.ends.Report.{Report}
 use Rattle.engine.specs.declared.runs.Answer.{Answer}
-use Rattle.engine.specs.declared.runs.Answer.the-variants.{Ended}
-use Rattle.engine.specs.Demands.{Lent, Given, room, Finishes, Exact, Final, Same}
+use Rattle.engine.specs.declared.runs.Answer.the-variants.{Refused, Ended}
+use Rattle.engine.specs.Ran.{lineOf, endOf, told}
 
--- "Lent: the file, a step limit, two word buffers"; and what is given back.
+-- "Lent: the file, a step limit, two word buffers": the bytes, the limit, and what both buffers hold.
+pub record Lent : Type 0 where
+  pub bytes : List ℕ
+  pub limit : ℕ
+  pub first : List ℕ
+  pub second : List ℕ
+
 abbrev pub lent : List ℕ → ℕ → List ℕ → List ℕ → Lent
 lent bytes limit first second = record { bytes = bytes; limit = limit; first = first; second = second }
+
+-- What a run gives back: its answer, and what both buffers hold then.
+pub record Given : Type 0 where
+  pub answer : Answer
+  pub first : List ℕ
+  pub second : List ℕ
 
 abbrev pub given : Answer → List ℕ → List ℕ → Given
 given x first second = record { answer = x; first = first; second = second }
 
+abbrev pub room : Lent → ℕ
+room l = capacity (length (l .first)) (length (l .second))
+
+-- Demand 1: "finishes: with one of the eight refusals in document 01, both buffers then all zero, or with one of its four ends".
+pub data Finishes (l : Lent) (g : Given) : Type 0 where
+  refuses : (r : Refusal) → g .answer ≡ Refused r → 1 ≤ numberOf r → numberOf r ≤ 8 → g .first ≡ replicate (length (l .first)) 0
+      → g .second ≡ replicate (length (l .second)) 0 → Finishes l g
+  ends : (x : Report) → g .answer ≡ Ended x → Finishes l g
+
 -- A file of some recipe: "the check accepts exactly those to which the published typing .. gives the declared type".
 abbrev pub Recipe : List ℕ → Type 0
-Recipe bytes = (τ : Ty) × (e : Term ml) × calculus.Accepted bytes τ e
+Recipe bytes = (τ : Ty) × (e : Term ml) × Accepted bytes τ e
 
 -- Demand 2 of the check, and its refusals: the number and place of the table, 1 to 7. A file is of one recipe at most.
 pub record Checks (bytes : List ℕ) (r : Checked) : Type 0 where
-  pub accepts : (r ≡ Accepted) ↔ Recipe bytes
+  pub accepts : (r ≡ checked.Accepted) ↔ Recipe bytes
   pub one : (x y : Recipe bytes) → (x .0 ≡ y .0) × (x .1 ≡ y .1)
-  pub refuses : (x : Refusal) → (r ≡ Refused x) ↔ (calculus-file.check bytes ≡ refusal x)
-  pub seven : (x : Refusal) → r ≡ Refused x → (1 ≤ numberOf x) × (numberOf x ≤ 7)
+  pub refuses : (x : Refusal) → (r ≡ checked.Refused x) ↔ (check bytes ≡ refusal x)
+  pub seven : (x : Refusal) → r ≡ checked.Refused x → (1 ≤ numberOf x) × (numberOf x ≤ 7)
 
--- Demand 1, "finishes: with one of the eight refusals .. or with one of its four ends", and demand 2 of a run, both ways.
+-- "The end of a run, its code, its count of steps and the words it leaves are exactly those of the published reductions, taken in their order
+-- of evaluation under the limits lent": those of the term's one ending by `⟶`.
+pub record Reduces (l : Lent) (g : Given) (e : Term ml) : Type 0 where
+  pub by-rules : Ending (l .limit) (room l) e
+  pub report : Report
+  pub ended : g .answer ≡ Ended report
+  pub numbers : told report ≡ lineOf (by-rules .result)
+  pub first : g .first ≡ padded (length (l .first)) (by-rules .result .left)
+  pub second : g .second ≡ padded (length (l .second)) []
+
+-- An accepted file whose term fits the capacity; and "8 | term words over capacity".
+abbrev pub Fitting : Lent → Type 0
+Fitting l = (τ : Ty) × (e : Term ml) × Accepted (l .bytes) τ e × (size e ≤ room l)
+
+abbrev pub Over : Lent → Type 0
+Over l = (τ : Ty) × (e : Term ml) × Accepted (l .bytes) τ e × (room l < size e)
+
+-- "A refusal carries its number and a place": the answer is the refusal of that number and place, one of the check's seven.
+pub record RefusedBy (g : Given) (n p : ℕ) : Type 0 where
+  pub refusal : Refusal
+  pub refused : g .answer ≡ Refused refusal
+  pub number : numberOf refusal ≡ n
+  pub place : placeOf refusal ≡ p
+  pub least : 1 ≤ n
+  pub most : n ≤ 7
+
+-- Demand 2 of a run, both ways: it ends exactly if the file is accepted and its term fits, and then as that term reduces; it is refused by 8
+-- exactly if the file is accepted and its term does not fit; and by any other number and place exactly if the check gives these.
+pub record Exact (l : Lent) (g : Given) : Type 0 where
+  pub ends : ((x : Report) × (g .answer ≡ Ended x)) ↔ Fitting l
+  pub reduces : (τ : Ty) (e : Term ml) → Accepted (l .bytes) τ e → size e ≤ room l → Reduces l g e
+  pub over : (g .answer ≡ Refused Capacity) ↔ Over l
+  pub refuses : (n p : ℕ) → RefusedBy g n p ↔ (check (l .bytes) ≡ refused n p)
+
+-- Demands 1 and 2 of one run.
 pub record Once (l : Lent) (g : Given) : Type 0 where
   pub finishes : Finishes l g
   pub exact : Exact l g
 
+-- "the second gives the same end, the same code, the same count of steps and the same words": as the first, which reports x.
+pub record Same (x : Report) (g h : Given) : Type 0 where
+  pub report : Report
+  pub ended : h .answer ≡ Ended report
+  pub numbers : told report ≡ told x
+  pub words : take (x .left) (h .first) ≡ take (x .left) (g .first)
+
 -- Demand 3. "Whatever recipe the check accepts", all that its reduction reaches is sound; "And whatever file is run twice, .. let the second run be
--- lent at least as many steps and at least the capacity of the first. If the first ends as a value or an error, the second gives the same end, the
--- same code, the same count of steps and the same words."
+-- lent at least as many steps and at least the capacity of the first. If the first ends as a value or an error, the second gives the same" as it.
 pub record Twice (c : Checked) (l : Lent) (g : Given) (m : Lent) (h : Given) : Type 0 where
-  pub accepts : (c ≡ Accepted) ↔ Recipe (l .bytes)
-  pub safe : (τ : Ty) (e : Term ml) → calculus.Accepted (l .bytes) τ e → Safe τ e
-  pub grows : (x : Report) → l .limit ≤ m .limit → room l ≤ room m → g .answer ≡ Ended x → Final (x .end) → Same x g h
+  pub accepts : (c ≡ checked.Accepted) ↔ Recipe (l .bytes)
+  pub safe : (τ : Ty) (e : Term ml) → Accepted (l .bytes) τ e → Safe τ e
+  pub grows : (x : Report) → l .limit ≤ m .limit → room l ≤ room m → g .answer ≡ Ended x → Final (endOf (x .end)) → Same x g h

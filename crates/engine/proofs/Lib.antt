@@ -2,4 +2,3 @@ pub mod Moving
 pub mod Bridge
 pub mod Looping
 pub mod Answering
-pub mod Demands

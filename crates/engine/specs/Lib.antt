@@ -2,4 +2,3 @@ pub mod Buffered
 pub mod Decided
 pub mod Ran
 pub mod Answered
-pub mod Demands

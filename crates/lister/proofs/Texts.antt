@@ -1,7 +1,7 @@
 -- The text by a run's numbers is the listing's. Assumes nothing.
 use Prim.Native.Nat.{ℕ, _≤_}
 use mathlib.Core.List.{List, [], _∷_, _++_}
-use mathlib.Core.Path.{_≡_, refl, sym, ap, _∙_}
+use mathlib.Core.Path.{_≡_, refl, sym, ap}
 use native.Mathlib.Omega.{arith}
 use lib.ListN.{length, take}
 use borrow.Author.Tests.{ne-eqb}
@@ -15,7 +15,7 @@ use Rattle.engine.specs.Ran.{lineOf}
 use Rattle.exports.specs.Numbers.{numberOfEnd, runNumbers}
 use Rattle.exports.specs.declared.runs.RecipeRun.{RecipeRun}
 use Rattle.text.specs.Characters.{characters}
-use Rattle.lister.specs.Listing.{lineFeed, fields, numbers, endName, textOf, listing}
+use Rattle.lister.specs.Listing.{lineFeed, numbers, endName, textOf, listing}
 use Rattle.lister.specs.Told.{nameOf, refusedLine, endedLine, textBy}
 
 -- The name of an end, by its number.

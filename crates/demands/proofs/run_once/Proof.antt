@@ -1,6 +1,6 @@
 -- `demands::run_once` meets its contract, by what `run` promises. Assumes nothing.
 use borrow.Author.Needs.{needs}
-use Rattle.demands.proofs.Demanding.{once}
+use Rattle.demands.proofs.Running.{once}
 use Rattle.demands.proofs.run_once.Statement.{statement}
 use Rattle.demands.proofs.run_once.Tie as tie
 

@@ -1,4 +1,4 @@
--- The three demands of the operations. Assumes nothing.
+-- What `run` promises meets demands 1 and 2, and demand 3 of two runs. Assumes nothing.
 use Prim.Native.Nat.{ℕ, _≤_}
 use mathlib.Core.Bool.{Bool, true, false}
 use mathlib.Core.List.{List, []}
@@ -24,14 +24,17 @@ use Rattle.nodes.specs.declared.refusals.Refusal.{Refusal}
 use Rattle.nodes.specs.declared.refusals.Refusal.the-variants as r
 use Rattle.nodes.specs.Refusals.{numberOf, placeOf, refusal}
 use Rattle.file.proofs.Padding.{padded-none, padded-take}
-use Rattle.engine.specs.declared.ends.End.{End}
-use Rattle.engine.specs.declared.ends.End.the-variants as e
 use Rattle.engine.specs.declared.ends.Report.{Report}
 use Rattle.engine.specs.declared.runs.Answer.{Answer}
 use Rattle.engine.specs.declared.runs.Answer.the-variants.{Refused, Ended}
 use Rattle.engine.specs.Ran.{Line, lineOf, endOf, told}
-use Rattle.engine.specs.Answered.{spoken}
-use Rattle.engine.specs.Demands.{Lent, Given, room, Promised, Finishes, refuses, ends, Reduces, Fitting, Over, RefusedBy, Exact, Final, Same, Demands}
+use Rattle.engine.specs.Answered.{spoken, Answered}
+use Rattle.demands.specs.Demanded.{Lent, Given, room, Finishes, refuses, ends, Reduces, Fitting, Over, RefusedBy, Exact, Once, Same}
+
+-- What `run` promises of what it is lent and gives back.
+abbrev pub Promised : Lent → Given → Type 0
+Promised l g =
+    Answered (operate (l .bytes) (l .limit) (length (l .first)) (length (l .second))) (g .answer) (l .first) (l .second) (g .first) (g .second)
 
 numbered : (x : Refusal) → (1 ≤ numberOf x) × (numberOf x ≤ 8)
 numbered r.Bytes = (omega arith, omega arith)
@@ -80,12 +83,6 @@ passed-by : (v : Verdict spec.Result) (x : Report) → passed (told x) ≡ andTh
 passed-by (refused n p) x q = absurd (not-both n p (told x) (sym q))
 passed-by (passed r) x q = (r, refl, passed-injective (told x) (lineOf r) q)
 
-final-of : (x : End) → Final x → spec.Final (endOf x)
-final-of e.Value f = f
-final-of e.Spent f = absurd f
-final-of e.Error f = f
-final-of e.Full f = absurd f
-
 -- A run's first words are those that it leaves.
 front : (l : Lent) (g : Given) (r : spec.Result) → operate (l .bytes) (l .limit) (length (l .first)) (length (l .second)) ≡ passed r → Promised l g
     → take (length (r .left)) (g .first) ≡ r .left
@@ -94,9 +91,9 @@ front l g r o h =
     ap (take (length (r .left))) (h .first-is ∙ ap (λ (v : Verdict spec.Result). padded (length (l .first)) (leftBy v)) o)
     ∙ padded-take (length (l .first)) (length (r .left)) (r .left) (omega arith) refl
 
-grow : (l m : Lent) (g h : Given) (x : Report) → l .bytes ≡ m .bytes → l .limit ≤ m .limit → room l ≤ room m → Promised l g → Promised m h
+pub grow : (l m : Lent) (g h : Given) (x : Report) → l .bytes ≡ m .bytes → l .limit ≤ m .limit → room l ≤ room m → Promised l g → Promised m h
     → g .answer ≡ Ended x
-    → Final (x .end) → Same x g h
+    → spec.Final (endOf (x .end)) → Same x g h
 grow l m g h x b i c p q a f =
     let v = operate (l .bytes) (l .limit) (length (l .first)) (length (l .second)) in
     let r = passed-by v x (ap spoken (sym a) ∙ p .answer-is) in
@@ -104,7 +101,7 @@ grow l m g h x b i c p q a f =
     let o = subst (λ (bs : List ℕ). operate bs (m .limit) (length (m .first)) (length (m .second)) ≡ passed (r .0)) b
     (demand-3 (l .bytes) .runs (l .limit) (length (l .first)) (length (l .second)) (m .limit) (length (m .first)) (length (m .second)) (r .0) i c
     (r .1)
-    (subst spec.Final t (final-of (x .end) f))) in
+    (subst spec.Final t f)) in
     let d = ended-by (h .answer) (lineOf (r .0)) (q .answer-is ∙ ap (λ (v : Verdict spec.Result). andThen v (λ y. passed (lineOf y))) o) in
     let n : x .left ≡ length (r .0 .left) = ap (λ (y : Line). y .left) (r .2) in
     record {
@@ -221,12 +218,5 @@ exact-of l g h =
     fails-by n p b (fails m q c) =
         let i = numbers-are (b .refusal) m q (b .refused) (refuses-as l m q c) in c ∙ rw (← (i .0), ← (i .1), b .number, b .place)
 
-pub demands : Demands
-demands =
-    record {
-      finishes = λ l g h. finish l g (g .answer) refl h;
-      accepts = check-iff;
-      exact = exact-of;
-      safe = λ bytes. demand-3 bytes .accepted;
-      grows = grow;
-    }
+pub once : (l : Lent) (g : Given) → Promised l g → Once l g
+once l g h = record { finishes = finish l g (g .answer) refl h; exact = exact-of l g h }
