@@ -1,7 +1,8 @@
 //! Planted errors are found, shrunk to a small recipe and shown; the model itself shows no difference.
 
 use model::{on_large_stack, run, End};
-use tools::compare::{compare_check, compare_run, compare_stack, missing, Plan};
+use std::path::Path;
+use tools::compare::{compare_check, compare_list, compare_run, compare_stack, missing, Plan};
 use tools::engine::{Check, RecipeRun, Run};
 use tools::stand_in::{check as right_check, run as right_run};
 
@@ -86,4 +87,11 @@ fn deep_ends_are_known_beforehand() {
         _ => RecipeRun::default(),
     };
     assert!(compare_stack(engine, 64 << 20).is_err());
+}
+
+#[test]
+fn a_listing_that_prints_the_file() {
+    let plan = Plan { files: 1, seed: 1, start: 0 };
+    let shown = on_large_stack(|| compare_list(Path::new("cat"), plan)).err().expect("a difference");
+    assert!(shown.contains("model:\n") && shown.contains("listing:\n"), "{shown}");
 }

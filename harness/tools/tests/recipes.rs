@@ -1,9 +1,10 @@
 //! The recipes of document 01 in recipes/: each text makes its file, and the model lists it as written by hand.
 
 use model::file::file;
+use model::on_large_stack;
 use model::text::parse_recipe;
-use model::{on_large_stack, run};
 use std::path::{Path, PathBuf};
+use tools::compare::listed;
 
 fn folder() -> PathBuf {
     Path::new(env!("CARGO_MANIFEST_DIR")).join("../../recipes")
@@ -19,18 +20,6 @@ fn recipes() -> Vec<PathBuf> {
 fn read(path: &Path, ending: &str) -> Vec<u8> {
     let path = path.with_extension(ending);
     std::fs::read(&path).unwrap_or_else(|fault| panic!("{}: {fault}", path.display()))
-}
-
-/// What the listing prints of a file: 1,000,000 steps, 4,096 words.
-fn listed(bytes: &[u8]) -> String {
-    let run = run(bytes, 1_000_000, 4_096, 4_096);
-    match run.result {
-        Err(refusal) => format!("refused {} {}\n", refusal.number, refusal.place),
-        Ok(e) => {
-            let words: Vec<String> = run.first[..e.left as usize].iter().map(u32::to_string).collect();
-            format!("{} {} {} {} {}\n{}\n", e.end.name(), e.code, e.steps, e.left, e.wanted, words.join(" "))
-        }
-    }
 }
 
 #[test]

@@ -1,10 +1,11 @@
-//! Compares the engine with the model: `compare check`, `compare run`, `compare stack`.
+//! Compares the engine with the model: `compare check`, `compare run`, `compare list`, `compare stack`.
 #![forbid(unsafe_code)]
 
 use model::on_large_stack;
+use std::path::Path;
 use std::process::ExitCode;
 use tools::args::Args;
-use tools::compare::{compare_check, compare_run, compare_stack, missing, table, Counts, Plan};
+use tools::compare::{compare_check, compare_list, compare_run, compare_stack, missing, table, Counts, Plan};
 use tools::engine::{linked_check, linked_run};
 use tools::output::say;
 
@@ -13,11 +14,14 @@ Compares the engine with a checker and a reducer built apart from it.
 
 usage: compare check [--files N] [--seed S] [--start I] [--all-reached]
        compare run   [--files N] [--seed S] [--start I] [--all-reached]
+       compare list  [--files N] [--seed S] [--start I] [--all-reached]
        compare stack [--kib K]
 
 check        every term of up to 3 words, files at the edges, and N random files (200000): number and place
 run          every small recipe, edges of files and of what is lent, and N random files (100000): result and every word
              of both buffers
+list         files at the edges, two long recipes, and those of N random files (3000) that end soon: every byte that the
+             listing program, target/bin/listing, prints of each
 stack        the deepest runs of 16,384 words, and the deepest files, on a stack of K KiB (2048)
 --seed S     random files depend on the seed (1) and their index alone
 --start I    begin with random file I; the files that are the same every time are left out unless I is 0
@@ -25,6 +29,9 @@ stack        the deepest runs of 16,384 words, and the deepest files, on a stack
 
 Status 0: no difference; 1: a difference, shrunk and shown; 2: not understood, or built without the engine.
 ";
+
+/// The listing program as `rt check listing` builds it.
+const LISTING: &str = concat!(env!("CARGO_MANIFEST_DIR"), "/../../target/bin/listing");
 
 fn main() -> ExitCode {
     let mut args = Args::new(std::env::args().skip(1));
@@ -35,8 +42,9 @@ fn main() -> ExitCode {
     let outcome = match args.word().as_deref() {
         Some("check") => check(args),
         Some("run") => run(args),
+        Some("list") => list(args),
         Some("stack") => stack(args),
-        _ => Err(Fault::Usage("check, run or stack is due; see --help".into())),
+        _ => Err(Fault::Usage("check, run, list or stack is due; see --help".into())),
     };
     match outcome {
         Ok(()) => ExitCode::SUCCESS,
@@ -71,6 +79,17 @@ fn run(args: Args) -> Result<(), Fault> {
     let Counts { files, runs, laws, .. } = counts;
     say(format!("{files} files, {runs} runs, no difference; demand 3 tried on {laws} terms"));
     finish(counts.of_runs(), all_reached)
+}
+
+fn list(args: Args) -> Result<(), Fault> {
+    let (plan, all_reached) = plan(args, 3_000)?;
+    let program = Path::new(LISTING);
+    if !program.exists() {
+        return Err(Fault::Usage("target/bin/listing is not built; rt check listing builds it".into()));
+    }
+    let counts = on_large_stack(|| compare_list(program, plan)).map_err(difference)?;
+    say(format!("{} files, no difference", counts.files));
+    finish(counts.of_listings(), all_reached)
 }
 
 fn stack(mut args: Args) -> Result<(), Fault> {

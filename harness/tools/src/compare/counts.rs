@@ -35,11 +35,19 @@ impl Counts {
         rows
     }
 
+    /// The table of a comparison of listings: 4 ends, and the refusals that a listing can show.
+    pub fn of_listings(&self) -> Vec<(String, u64)> {
+        self.end_rows().chain(self.refusal_rows(7)).collect()
+    }
+
     /// The table of a comparison of runs: 48 outcomes of rules, 4 ends, 8 refusals.
     pub fn of_runs(&self) -> Vec<(String, u64)> {
         let rules = Rule::ALL.iter().map(|rule| (rule.name().to_string(), self.rules.of(*rule)));
-        let ends = End::ALL.iter().map(|end| (format!("end: {}", end.name()), self.ends[*end as usize]));
-        rules.chain(ends).chain(self.refusal_rows(8)).collect()
+        rules.chain(self.end_rows()).chain(self.refusal_rows(8)).collect()
+    }
+
+    fn end_rows(&self) -> impl Iterator<Item = (String, u64)> + '_ {
+        End::ALL.iter().map(|end| (format!("end: {}", end.name()), self.ends[*end as usize]))
     }
 
     fn refusal_rows(&self, last: usize) -> Vec<(String, u64)> {

@@ -1,10 +1,11 @@
-//! The comparison of the engine with the model: the check, the run, and what is printed of them.
+//! The comparison of the engine with the model: the check, the run, the listing, and what is printed of them.
 
 mod case;
 mod check;
 mod counts;
 mod deepest;
 pub mod lent;
+mod list;
 mod plan;
 mod report;
 mod run;
@@ -13,6 +14,7 @@ mod stack;
 pub use case::Case;
 pub use check::compare_check;
 pub use counts::{missing, table, Counts};
+pub use list::{compare_list, listed};
 pub use report::show_file;
 pub use run::compare_run;
 pub use stack::compare_stack;

@@ -1,0 +1,93 @@
+//! The listing compared: what the built program prints of a file, byte by byte, with what the model says.
+
+use super::plan::follow;
+use super::report::show_file;
+use super::{Counts, Plan};
+use crate::make::*;
+use crate::progress::Progress;
+use crate::random::Random;
+use model::file::file;
+use model::text::parse_recipe;
+use model::{run, Run};
+use std::io::Write;
+use std::path::Path;
+use std::process::{Command, Stdio};
+
+/// "lends 1,000,000 steps and 4,096 words".
+const STEPS: u32 = 1_000_000;
+const WORDS: usize = 4_096;
+
+/// Recipes whose runs are long: one that is spent, and one whose terms grow until they are full.
+const LONG: [&str; 2] = ["N (fix (fn N v0))", "{N} (fix (fn {N} (cons 1 v0)))"];
+
+/// One file at the edges of so many is listed: most are wrong headers, which the check's comparison takes all.
+const EDGES_EVERY: usize = 20;
+
+/// Compares on files at the edges, the long recipes and random files.
+pub fn compare_list(program: &Path, plan: Plan) -> Result<Counts, String> {
+    let mut counts = Counts::default();
+    if plan.start == 0 {
+        let edges = edges().into_iter().step_by(EDGES_EVERY).filter(|file| follow(file).ends);
+        for file in edges.chain(LONG.map(recipe)) {
+            compare(program, &file, &mut counts)?;
+        }
+    }
+    let mut progress = Progress::new("files", plan.files);
+    for index in plan.start..plan.start + plan.files {
+        let mut random = Random::new(plan.seed, index);
+        let file = if random.chance(75) { well_typed_file(&mut random) } else { damaged_file(&mut random) };
+        if follow(&file).ends {
+            compare(program, &file, &mut counts)
+                .map_err(|shown| format!("random file {index} of seed {}\n{shown}", plan.seed))?;
+        }
+        progress.done(index - plan.start);
+    }
+    Ok(counts)
+}
+
+/// What the listing prints of a file, by the model.
+pub fn listed(bytes: &[u8]) -> String {
+    text(&run(bytes, STEPS, WORDS, WORDS))
+}
+
+fn text(run: &Run) -> String {
+    match &run.result {
+        Err(refusal) => format!("refused {} {}\n", refusal.number, refusal.place),
+        Ok(e) => {
+            let words: Vec<String> = run.first[..e.left as usize].iter().map(u32::to_string).collect();
+            format!("{} {} {} {} {}\n{}\n", e.end.name(), e.code, e.steps, e.left, e.wanted, words.join(" "))
+        }
+    }
+}
+
+fn recipe(text: &str) -> Vec<u8> {
+    let recipe = parse_recipe(text).expect("a recipe");
+    file(&recipe.declared, &recipe.term)
+}
+
+fn compare(program: &Path, file: &[u8], counts: &mut Counts) -> Result<(), String> {
+    let model = run(file, STEPS, WORDS, WORDS);
+    counts.files += 1;
+    match &model.result {
+        Ok(ended) => counts.ended(ended),
+        Err(refusal) => counts.refused(refusal),
+    }
+    let (due, printed) = (text(&model), printed(program, file)?);
+    match printed == due.as_bytes() {
+        true => Ok(()),
+        false => {
+            let printed = String::from_utf8_lossy(&printed).into_owned();
+            Err(format!("{}model:\n{due}listing:\n{printed}", show_file(file)))
+        }
+    }
+}
+
+/// What the program prints. It may end before it has read all of a file that is too long.
+fn printed(program: &Path, file: &[u8]) -> Result<Vec<u8>, String> {
+    let fault = |fault: std::io::Error| format!("{}: {fault}\n", program.display());
+    let mut child = Command::new(program).stdin(Stdio::piped()).stdout(Stdio::piped()).spawn().map_err(fault)?;
+    if let Some(mut input) = child.stdin.take() {
+        let _ = input.write_all(file);
+    }
+    Ok(child.wait_with_output().map_err(fault)?.stdout)
+}
