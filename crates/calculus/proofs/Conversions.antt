@@ -6,19 +6,17 @@ use mathlib.Core.Option.{Option, none, some}
 use mathlib.Core.Path.{_≡_, refl, sym, ap, subst, _∙_}
 use native.Mathlib.Omega.{arith}
 use Rattle.calculus.specs.Trees.{Ty, N, L, list, _to_, ml, sc, head, apply, pair, Term, var, num, lam, nil, wrong, ms, sm, app, cons}
-use Rattle.calculus.specs.Words.{words, size, sizeTy}
+use Rattle.calculus.specs.Words.{size, sizeTy}
 use Rattle.calculus.specs.Typing.{Typed}
 use Rattle.calculus.specs.Reduction.{form, becomes, onList, contract1}
 use Rattle.calculus.specs.Substitution.{shift, ordinary}
 use Rattle.calculus.specs.Rules.{Value, lamV, numV, nilV, consV, lumpV, Lambda, Number, Nil, Cons, app-lambda, ms-number, ms-no-number, ms-nil, ms-cons, ms-no-list, ms-lambda, ms-no-lambda, sm-number, sm-lump, sm-nil, sm-cons, sm-lambda, Steps, stay, then, Raises}
-use Rattle.calculus.specs.Run.{valued, ended}
-use Rattle.calculus.specs.Endings.{after, by-value}
+use Rattle.calculus.specs.Endings.{by-value}
 use Rattle.calculus.specs.Conversions.{Data, Fits, number, anything, empty, items, function, first, misfit, crossing, boundaries, Reaches, Survives, Crosses, Leaves, Seals, wrapper, Wraps, Functions, Conversions}
 use Rattle.calculus.proofs.Contraction.{mark}
 use Rattle.calculus.proofs.Bounds.{size-shift}
 use Rattle.calculus.proofs.Typing.{typed-scoped}
 use Rattle.calculus.proofs.Agreement.{value-no-step}
-use Rattle.calculus.proofs.Endings.{ends-iff}
 use Rattle.calculus.proofs.Reaching.{Within, still, on, within-steps, within-made, once, join, wider, inside, in-head, in-tail, into-ml, into-scheme, rule, onward, reached, after-rule, raises, raises-head, raises-tail, one-end, value-end, value-or-error, error-once, fails-run}
 
 -- An ML value and a Scheme value are the same datum of a type; the steps of its way into ML, and out of it.
@@ -129,16 +127,11 @@ scheme-same d (items a b) = let x = scheme-same d a in let y = scheme-same d b i
 scheme-same d function = absurd d
 
 -- Data survives.
-back-typed : (t : Ty) (v : Term ml) → Typed [] v t → Typed [] (ms t (sm t v)) t
-back-typed t v h = (h, refl)
-
 survives : (t : Ty) → Data t → Survives t
 survives t d =
     record {
       ml-back = λ v h k. within-steps (ml-within (ml-same t d h k .3));
-      ml-run = λ v h k limit cap n c.
-          ends-iff limit cap (ms t (sm t v)) t (back-typed t v k) (ended valued 0 (after (crossing t v)) (words v) 0) .0
-          (by-value (within-made (wider c (ml-within (ml-same t d h k .3)))) n h);
+      ml-run = λ v h k limit cap n c. by-value (within-made (wider c (ml-within (ml-same t d h k .3)))) n h;
       scheme-back = λ v k. within-steps (scheme-within (scheme-same d k .3));
     }
 
@@ -250,7 +243,7 @@ crosses t h k =
     record {
       arrives = x .1;
       fails = x .2;
-      error-run = λ c q. fails-run t _ c (k, refl) (x .2 c .0 q);
+      error-run = λ c q. fails-run _ c (x .2 c .0 q);
       fits = x .0;
       codes = data-codes t h;
     }

@@ -7,14 +7,13 @@ use Rattle.calculus.specs.Trees.{Ty, Lang, ml, sc, Static, Op2, Term, op
 use Rattle.calculus.specs.Words.{size}
 use Rattle.calculus.specs.Typing.{Typed}
 use Rattle.calculus.specs.Rules.{Value, _⊢_⇒_, hole, in-first, in-second, in-ms, in-sm, around, _⟶_, by-rule, Steps, stay, then, Raises, by-wrong}
-use Rattle.calculus.specs.Run.{error, uncounted, ended, run}
-use Rattle.calculus.specs.Endings.{Made, none, more, after, by-error}
+use Rattle.calculus.specs.Run.{error, ended}
+use Rattle.calculus.specs.Endings.{Made, none, more, after, Ends, by-error}
 use Rattle.calculus.specs.Demands.{Reducible}
 use Rattle.calculus.specs.Conversions.{Reaches}
 use Rattle.calculus.proofs.Typing.{typed-scoped}
 use Rattle.calculus.proofs.Agreement.{deterministic, one-code, value-no-step, value-no-error, error-no-step}
 use Rattle.calculus.proofs.Demands.{typed-safe}
-use Rattle.calculus.proofs.Endings.{ends-iff}
 
 -- Steps within a capacity, of either language.
 pub data Within {l : Lang} (cap : ℕ) : ℕ → Term l → Term l → Type 0 where
@@ -129,8 +128,6 @@ roomy : {n : ℕ} {e r : Term ml} → Steps n e r → (room : ℕ) × ((cap : �
 roomy stay = (0, λ cap c. none)
 roomy (then {f = f} a p) = let x = roomy p in (size f + x .0, λ cap c. more a (omega (arith, c)) (x .1 cap (omega (arith, c))))
 
-pub fails-run : (τ : Ty) (e : Term ml) (c : ℕ) → Typed [] e τ → Reaches e (Raises c)
-    → (n : ℕ) × (room : ℕ) × ((limit cap : ℕ) → n < limit → room ≤ cap → run limit cap uncounted e ≡ ended error c (after (suc n)) [] 0)
-fails-run τ e c h x =
-    let y = roomy (x .2) in
-    (x .0, y .0, λ limit cap n m. ends-iff limit cap e τ h (ended error c (after (suc (x .0))) [] 0) .0 (by-error (y .1 cap m) n (x .3)))
+pub fails-run : (e : Term ml) (c : ℕ) → Reaches e (Raises c)
+    → (n : ℕ) × (room : ℕ) × ((limit cap : ℕ) → n < limit → room ≤ cap → Ends limit cap e (ended error c (after (suc n)) [] 0))
+fails-run e c x = let y = roomy (x .2) in (x .0, y .0, λ limit cap n m. by-error (y .1 cap m) n (x .3))

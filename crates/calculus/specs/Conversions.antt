@@ -10,8 +10,8 @@ use Rattle.calculus.specs.Words.{words, size, sizeTy}
 use Rattle.calculus.specs.Typing.{Typed}
 use Rattle.calculus.specs.Substitution.{shift}
 use Rattle.calculus.specs.Rules.{Value, lamV, numV, nilV, consV, _⟶_, Steps, Raises}
-use Rattle.calculus.specs.Run.{valued, error, uncounted, ended, run}
-use Rattle.calculus.specs.Endings.{after}
+use Rattle.calculus.specs.Run.{valued, error, ended}
+use Rattle.calculus.specs.Endings.{after, Ends}
 
 -- A type of data has no function type in it; what a lump seals may be any Scheme value.
 abbrev pub Data : Ty → Type 0
@@ -83,7 +83,7 @@ pub record Survives (t : Ty) : Type 0 where
   -- and so does every run that is lent the steps and the words
   pub ml-run : (v : Term ml) → Value ml v → Typed [] v t → (limit cap : ℕ) → crossing t v ≤ limit
       → suc (sizeTy t) + boundaries t + size v ≤ cap
-      → run limit cap uncounted (ms t (sm t v)) ≡ ended valued 0 (after (crossing t v)) (words v) 0
+      → Ends limit cap (ms t (sm t v)) (ended valued 0 (after (crossing t v)) (words v) 0)
   -- a Scheme value that fits goes to ML and comes back
   pub scheme-back : (v : Term sc) → Fits t v → Steps (crossing t v) (sm t (ms t v)) v
 
@@ -96,7 +96,7 @@ pub record Crosses (t : Ty) {v : Term sc} (h : Value sc v) : Type 0 where
   -- and every run that is lent enough steps and words ends so
   pub error-run : (c : ℕ) → misfit t h ≡ some c
       → (n : ℕ) × (room : ℕ)
-      × ((limit cap : ℕ) → n < limit → room ≤ cap → run limit cap uncounted (ms t v) ≡ ended error c (after (suc n)) [] 0)
+      × ((limit cap : ℕ) → n < limit → room ≤ cap → Ends limit cap (ms t v) (ended error c (after (suc n)) [] 0))
   -- there is no third way
   pub fits : Fits t v ↔ (misfit t h ≡ none)
   -- the codes at a type of data
