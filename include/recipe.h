@@ -71,7 +71,7 @@ typedef struct {
     uint32_t code;    /* of an error; else 0 */
     uint32_t steps;   /* steps made; the one in which an error ends the run is counted */
     uint32_t left;    /* words of the term that stands first in the first buffer; 0 after an error */
-    uint32_t wanted;  /* words of the next term, where it was too large: RECIPE_FULL; else 0 */
+    uint32_t wanted;  /* words of the next term, where it was too large: RECIPE_FULL, at most 268,435,456; else 0 */
 } RecipeRun;
 
 /* Checks a file and runs it for at most `limit` steps.
