@@ -20,7 +20,8 @@ spelt (suc k) n = elim (ltb n 10) [ true ↦ digit n ∷ [] | false ↦ spelt k 
 unfoldable pub decimal : ℕ → List ℕ
 decimal n = spelt n n
 
--- What a reader must know of it, which proofs/Decimals.antt proves of every number. Each is one of the ten digits:
+-- The same said without computing: `decimal n` is the one text that is n `InDecimal` (decimal-iff, proofs/Decimals.antt). Each is one of the ten
+-- digits:
 abbrev pub Digits : List ℕ → Type 0
 Digits [] = Unit {0}
 Digits (d ∷ ds) = (48 ≤ d) × (d ≤ 57) × Digits ds
