@@ -41,6 +41,7 @@ pub record Given : Type 0 where
 abbrev pub given : Answer → List ℕ → List ℕ → Given
 given x first second = record { answer = x; first = first; second = second }
 
+-- "Capacity is the shorter length, at most 16,384": of what is lent.
 abbrev pub room : Lent → ℕ
 room l = capacity (length (l .first)) (length (l .second))
 

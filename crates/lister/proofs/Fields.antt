@@ -9,7 +9,7 @@ use Rattle.writing.specs.Wrote.{Wrote}
 use Rattle.writing.proofs.Stores.{then, wrote-as}
 use Rattle.text.specs.Decimal.{decimal}
 use Rattle.text.proofs.Decimals.{decimal-length}
-use Rattle.lister.specs.Listing.{blank, field, fields, numbers}
+use Rattle.lister.specs.Listing.{blank, field, fields, wordsLine}
 
 -- A number of 32 bits has at most ten digits.
 pub digits-few : (n : ℕ) → n < 4294967296 → length (decimal n) ≤ 10
@@ -35,10 +35,10 @@ module _ {b b₁ : List ℕ} {start k : ℕ} where
       wrote-as (append-assoc xs (fields ns) (field n) ∙ ap (λ (l : List ℕ). xs ++ l) (fields-more ns n)) (then p q)
 
 -- Numbers with a blank between two: none, or the first and the others.
-pub no-numbers : (ns : List ℕ) → length ns ≡ 0 → [] ≡ numbers ns
-no-numbers [] q = refl
-no-numbers (n ∷ ns) q = absurd (omega (arith, q))
+pub no-words : (ns : List ℕ) → length ns ≡ 0 → [] ≡ wordsLine ns
+no-words [] q = refl
+no-words (n ∷ ns) q = absurd (omega (arith, q))
 
-pub numbers-more : (ns : List ℕ) → (length ns ≡ 0 → ⊥) → decimal (getD ns 0 0) ++ fields (take (length ns - 1) (drop 1 ns)) ≡ numbers ns
-numbers-more [] h = absurd (h refl)
-numbers-more (n ∷ ns) h = ap (λ (l : List ℕ). decimal n ++ fields l) (take-all (length (n ∷ ns) - 1) ns (omega arith))
+pub words-more : (ns : List ℕ) → (length ns ≡ 0 → ⊥) → decimal (getD ns 0 0) ++ fields (take (length ns - 1) (drop 1 ns)) ≡ wordsLine ns
+words-more [] h = absurd (h refl)
+words-more (n ∷ ns) h = ap (λ (l : List ℕ). decimal n ++ fields l) (take-all (length (n ∷ ns) - 1) ns (omega arith))

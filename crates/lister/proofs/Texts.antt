@@ -15,7 +15,7 @@ use Rattle.engine.specs.Ran.{lineOf}
 use Rattle.exports.specs.Numbers.{numberOfEnd, runNumbers}
 use Rattle.exports.specs.declared.runs.RecipeRun.{RecipeRun}
 use Rattle.text.specs.Characters.{characters}
-use Rattle.lister.specs.Listing.{lineFeed, numbers, endName, textOf, listing}
+use Rattle.lister.specs.Listing.{lineFeed, wordsLine, endName, textOf, listing}
 use Rattle.lister.specs.Told.{nameOf, refusedLine, endedLine, textBy}
 
 -- The name of an end, by its number.
@@ -41,7 +41,7 @@ name-is full = refl
 pub text-refused : (x : RecipeRun) (ws : List ℕ) → (x .refusal ≡ 0 → ⊥) → refusedLine x ≡ textBy x ws
 text-refused x ws h = rw (ne-eqb (x .refusal) 0 h)
 
-pub text-ended : (x : RecipeRun) (ws : List ℕ) → x .refusal ≡ 0 → endedLine x ++ numbers ws ++ lineFeed ∷ [] ≡ textBy x ws
+pub text-ended : (x : RecipeRun) (ws : List ℕ) → x .refusal ≡ 0 → endedLine x ++ wordsLine ws ++ lineFeed ∷ [] ≡ textBy x ws
 text-ended x ws q = rw q
 
 -- Of the run of a file in two buffers of 4,096 words: the words left, and the text.

@@ -26,11 +26,12 @@ abbrev pub fields : List ℕ → List ℕ
 fields [] = []
 fields (n ∷ ns) = field n ++ fields ns
 
--- Numbers in decimal, a blank between two.
-abbrev pub numbers : List ℕ → List ℕ
-numbers [] = []
-numbers (n ∷ ns) = decimal n ++ fields ns
+-- "the term's words on the next, or an empty line": in decimal, a blank between two.
+abbrev pub wordsLine : List ℕ → List ℕ
+wordsLine [] = []
+wordsLine (n ∷ ns) = decimal n ++ fields ns
 
+-- "end name".
 abbrev pub endName : End → List ℕ
 endName valued = characters "value"
 endName spent = characters "spent"
@@ -42,7 +43,7 @@ abbrev pub textOf : Verdict Result → List ℕ
 textOf (refused n p) = characters "refused" ++ fields (n ∷ p ∷ []) ++ lineFeed ∷ []
 textOf (passed r) =
     endName (r .end) ++ fields (r .code ∷ r .made .steps ∷ length (r .left) ∷ r .wanted ∷ []) ++ lineFeed ∷ []
-    ++ numbers (r .left) ++ lineFeed ∷ []
+    ++ wordsLine (r .left) ++ lineFeed ∷ []
 
 -- "The listing program reads a file .., lends 1,000,000 steps and 4,096 words": 4,096 for each buffer.
 unfoldable pub listing : List ℕ → List ℕ

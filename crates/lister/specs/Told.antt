@@ -5,11 +5,13 @@ use mathlib.Core.List.{List, [], _∷_, _++_}
 use lib.Dec.{eqb}
 use Rattle.exports.specs.declared.runs.RecipeRun.{RecipeRun}
 use Rattle.text.specs.Characters.{characters}
-use Rattle.lister.specs.Listing.{lineFeed, fields, numbers}
+use Rattle.lister.specs.Listing.{lineFeed, fields, wordsLine}
 
+-- The name of an end, by its number.
 abbrev pub nameOf : ℕ → List ℕ
 nameOf n = cond (eqb n 0) (characters "value") (cond (eqb n 1) (characters "spent") (cond (eqb n 2) (characters "error") (characters "full")))
 
+-- The line of a refusal, and the first line of a result.
 abbrev pub refusedLine : RecipeRun → List ℕ
 refusedLine x = characters "refused" ++ fields (x .refusal ∷ x .place ∷ []) ++ lineFeed ∷ []
 
@@ -18,4 +20,4 @@ endedLine x = nameOf (x .end) ++ fields (x .code ∷ x .steps ∷ x .left ∷ x 
 
 -- Of a run's numbers, and the words that it left.
 abbrev pub textBy : RecipeRun → List ℕ → List ℕ
-textBy x ws = cond (eqb (x .refusal) 0) (endedLine x ++ numbers ws ++ lineFeed ∷ []) (refusedLine x)
+textBy x ws = cond (eqb (x .refusal) 0) (endedLine x ++ wordsLine ws ++ lineFeed ∷ []) (refusedLine x)

@@ -10,7 +10,7 @@ ghost use Prim.Native.Nat.{_+_, _*_, _≤_};
 ghost use lib.ListN.{length};
 ghost use Rattle.calculus.specs.File.{padded};
 ghost use Rattle.writing.specs.Wrote.{Wrote};
-ghost use Rattle.lister.specs.Listing.{field, fields, numbers, listing};
+ghost use Rattle.lister.specs.Listing.{field, fields, wordsLine, listing};
 ghost use Rattle.lister.specs.Told.{nameOf, refusedLine, endedLine, textBy};
 
 // A blank and a number, from the place n on. Returns the place after it, as each function here does.
@@ -82,7 +82,7 @@ fn more_words(words: &[u32], text: &mut [u8], n: usize) -> usize
 // "the term's words on the next, or an empty line": a blank between two.
 fn all_words(words: &[u32], text: &mut [u8], n: usize) -> usize
     requires { ⌜ (length (now words) ≤ 4096) × (n ≤ 64) ⌝ }
-    ensures { λ r. ⌜ Wrote (now (text .entry)) n (numbers (now (words .entry))) r (now (text .exit)) ⌝ }
+    ensures { λ r. ⌜ Wrote (now (text .entry)) n (wordsLine (now (words .entry))) r (now (text .exit)) ⌝ }
     ensures bound { λ r. ⌜ r ≤ n + 11 * length (now (words .entry)) ⌝ }
 {
     if words.len() == 0 {

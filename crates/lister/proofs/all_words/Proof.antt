@@ -5,14 +5,14 @@ use Prim.Native.Nat.{_-_}
 use mathlib.Core.Path.{_≡_}
 use lib.ListN.{length, take, drop, getD, length-take, length-drop}
 use Rattle.writing.proofs.Stores.{then, wrote-as, wrote-none}
-use Rattle.lister.proofs.Fields.{digits-few, no-numbers, numbers-more}
+use Rattle.lister.proofs.Fields.{digits-few, no-words, words-more}
 use Rattle.lister.proofs.all_words.Statement.{statement}
 use Rattle.lister.proofs.all_words.Tie as tie
 
 returns : tie.Need-returns
 returns c =
     let a = c .before .before .before .args in
-    (wrote-as (no-numbers (a .words .now) (c .if1 .taken)) (wrote-none (a .text .now) (a .n)), omega arith)
+    (wrote-as (no-words (a .words .now) (c .if1 .taken)) (wrote-none (a .text .now) (a .n)), omega arith)
 
 shared-slice-read-put-decimal : tie.Need-shared-slice-read-put-decimal
 shared-slice-read-put-decimal c = search needs
@@ -51,7 +51,7 @@ returns-2 c =
     let others = c .before .before .more-words .ensures in
     let count : length (take (length words - 1) (drop 1 words)) ≡ length words - 1 = simp (length-take, length-drop) (omega arith) in
     let ten = digits-few (getD words 0 0) (omega (arith, first .before .shared-slice-known2 .given 0)) in (
-      wrote-as (numbers-more words (c .before .before .before .before .before .before .before .before .before .before .if1 .left))
+      wrote-as (words-more words (c .before .before .before .before .before .before .before .before .before .before .if1 .left))
           (then (first .put-decimal .ensures) (others .0)),
       omega (arith, others .1, first .put-decimal .ensures .place, count, ten),
     )
