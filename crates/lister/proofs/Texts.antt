@@ -44,31 +44,35 @@ text-refused x ws h = rw (ne-eqb (x .refusal) 0 h)
 pub text-ended : (x : RecipeRun) (ws : List ℕ) → x .refusal ≡ 0 → endedLine x ++ wordsLine ws ++ lineFeed ∷ [] ≡ textBy x ws
 text-ended x ws q = rw q
 
--- Of the run of a file in two buffers of 4,096 words: the words left, and the text.
+-- What a run is told in.
+abbrev toldOf : Verdict Result → RecipeRun
+toldOf v = runNumbers (andThen v (λ r. passed (lineOf r)))
+
+-- Of a run in two buffers of 4,096 words, under any limit: the words left stand in the first.
+module _ (bytes : List ℕ) (limit : ℕ) where
+  left-of : (v : Verdict Result) → operate bytes limit 4096 4096 ≡ v → toldOf v .left ≤ 4096
+  left-of (refused n p) q = omega arith
+  left-of (passed r) q = operate-bounded bytes limit 4096 4096 r q .0
+
+  module _ (x : RecipeRun) (told : x ≡ toldOf (operate bytes limit 4096 4096)) where
+    pub left-within : x .left ≤ 4096
+    left-within = omega (arith, ap (λ (y : RecipeRun). y .left) told, left-of (operate bytes limit 4096 4096) refl)
+
+    pub left-held : (first : List ℕ) → first ≡ firstAfter 4096 (operate bytes limit 4096 4096) → x .left ≤ length first
+    left-held first held = omega (arith, left-within, ap length held, padded-length 4096 (leftBy (operate bytes limit 4096 4096)))
+
+-- Of the run that the listing makes: the text.
 module _ (bytes : List ℕ) where
   abbrev ran : Verdict Result
   ran = operate bytes 1000000 4096 4096
-
-  abbrev toldOf : Verdict Result → RecipeRun
-  toldOf v = runNumbers (andThen v (λ r. passed (lineOf r)))
-
-  left-of : (v : Verdict Result) → ran ≡ v → toldOf v .left ≤ 4096
-  left-of (refused n p) q = omega arith
-  left-of (passed r) q = operate-bounded bytes 1000000 4096 4096 r q .0
 
   text-of : (v : Verdict Result) → ran ≡ v → textBy (toldOf v) (take (toldOf v .left) (firstAfter 4096 v)) ≡ textOf v
   text-of (refused n p) q =
       let h = operate-number bytes 1000000 4096 4096 n p q in
       sym (text-refused (toldOf (refused n p)) (take 0 (firstAfter 4096 (refused n p))) (λ z. omega (arith, z, h .0)))
-  text-of (passed r) q = rw (padded-take 4096 (length (r .left)) (r .left) (left-of (passed r) q) refl, name-is (r .end))
+  text-of (passed r) q =
+      rw (padded-take 4096 (length (r .left)) (r .left) (left-of bytes 1000000 (passed r) q) refl, name-is (r .end))
 
-  module _ (x : RecipeRun) (first : List ℕ) (told : x ≡ toldOf ran) (held : first ≡ firstAfter 4096 ran) where
-    pub left-within : x .left ≤ 4096
-    left-within = omega (arith, ap (λ (y : RecipeRun). y .left) told, left-of ran refl)
-
-    pub left-held : x .left ≤ length first
-    left-held = omega (arith, left-within, ap length held, padded-length 4096 (leftBy ran))
-
-    pub text-is : textBy x (take (x .left) first) ≡ listing bytes
-    unfolding listing
-    text-is = rw (told, held) (text-of ran refl)
+  pub text-is : (x : RecipeRun) (first : List ℕ) → x ≡ toldOf ran → first ≡ firstAfter 4096 ran → textBy x (take (x .left) first) ≡ listing bytes
+  unfolding listing
+  text-is x first told held = rw (told, held) (text-of ran refl)

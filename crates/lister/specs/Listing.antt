@@ -38,12 +38,15 @@ endName spent = characters "spent"
 endName error = characters "error"
 endName full = characters "full"
 
+-- A line: a name, and numbers after it.
+abbrev pub line : List ℕ → List ℕ → List ℕ
+line name ns = name ++ fields ns ++ lineFeed ∷ []
+
 -- The text of a refusal, and of a run's result.
 abbrev pub textOf : Verdict Result → List ℕ
-textOf (refused n p) = characters "refused" ++ fields (n ∷ p ∷ []) ++ lineFeed ∷ []
+textOf (refused n p) = line (characters "refused") (n ∷ p ∷ [])
 textOf (passed r) =
-    endName (r .end) ++ fields (r .code ∷ r .made .steps ∷ length (r .left) ∷ r .wanted ∷ []) ++ lineFeed ∷ []
-    ++ wordsLine (r .left) ++ lineFeed ∷ []
+    line (endName (r .end)) (r .code ∷ r .made .steps ∷ length (r .left) ∷ r .wanted ∷ []) ++ wordsLine (r .left) ++ lineFeed ∷ []
 
 -- "The listing program reads a file .., lends 1,000,000 steps and 4,096 words": 4,096 for each buffer.
 unfoldable pub listing : List ℕ → List ℕ

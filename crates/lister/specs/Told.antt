@@ -5,7 +5,7 @@ use mathlib.Core.List.{List, [], _∷_, _++_}
 use lib.Dec.{eqb}
 use Rattle.exports.specs.declared.runs.RecipeRun.{RecipeRun}
 use Rattle.text.specs.Characters.{characters}
-use Rattle.lister.specs.Listing.{lineFeed, fields, wordsLine}
+use Rattle.lister.specs.Listing.{lineFeed, line, wordsLine}
 
 -- The name of an end, by its number.
 abbrev pub nameOf : ℕ → List ℕ
@@ -13,10 +13,10 @@ nameOf n = cond (eqb n 0) (characters "value") (cond (eqb n 1) (characters "spen
 
 -- The line of a refusal, and the first line of a result.
 abbrev pub refusedLine : RecipeRun → List ℕ
-refusedLine x = characters "refused" ++ fields (x .refusal ∷ x .place ∷ []) ++ lineFeed ∷ []
+refusedLine x = line (characters "refused") (x .refusal ∷ x .place ∷ [])
 
 abbrev pub endedLine : RecipeRun → List ℕ
-endedLine x = nameOf (x .end) ++ fields (x .code ∷ x .steps ∷ x .left ∷ x .wanted ∷ []) ++ lineFeed ∷ []
+endedLine x = line (nameOf (x .end)) (x .code ∷ x .steps ∷ x .left ∷ x .wanted ∷ [])
 
 -- Of a run's numbers, and the words that it left.
 abbrev pub textBy : RecipeRun → List ℕ → List ℕ

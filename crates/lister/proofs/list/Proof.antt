@@ -25,17 +25,17 @@ cast-left c = search needs
 array-share-prefix-first : tie.Need-array-share-prefix-first
 array-share-prefix-first c =
     let ran = c .before .before .before .recipe-run in
-    left-held _ (ran .result) (ran .last .1 .1 .0) (ran .ensures .0) (ran .ensures .1 .0)
+    left-held _ _ (ran .result) (ran .ensures .0) (ran .last .1 .1 .0) (ran .ensures .1 .0)
 
 slice-aggregate-lines : tie.Need-slice-aggregate-lines
 slice-aggregate-lines c =
     let ran = c .before .before .before .before .recipe-run in
-    sym (length-take-le _ _ (left-held _ (ran .result) (ran .last .1 .1 .0) (ran .ensures .0) (ran .ensures .1 .0)))
+    sym (length-take-le _ _ (left-held _ _ (ran .result) (ran .ensures .0) (ran .last .1 .1 .0) (ran .ensures .1 .0)))
 
 lines-requires : tie.Need-lines-requires
 lines-requires c κs =
     let ran = c .before .before .before .before .before .recipe-run in
-    let l = left-within _ (ran .result) (ran .last .1 .1 .0) (ran .ensures .0) (ran .ensures .1 .0) in
+    let l = left-within _ _ (ran .result) (ran .ensures .0) in
     simp length-take (omega (arith, l))
 
 clear-requires : tie.Need-clear-requires
