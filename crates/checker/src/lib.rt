@@ -3,6 +3,7 @@
 use file::Opened;
 use file::open;
 use inference::infer;
+use nodes::kinds::Kinds;
 use nodes::refusals::Refusal;
 use nodes::scopes::scoped;
 use nodes::walks::Walked;
@@ -25,7 +26,7 @@ pub enum Checked {
 
 // Refusals 6 and 7 of a file's words, whose declared type stands at 4 and whose term starts at `start`, with a link for each word. Their places
 // are 0.
-fn typed_by(table: &[u64; 48], words: &[u32], start: usize, link: &mut [u16]) -> Checked
+fn typed_by(table: &Kinds, words: &[u32], start: usize, link: &mut [u16]) -> Checked
     requires { ⌜ (now table ≡ kinds) × (0 < start) × (start ≤ length (now words)) × (length (now words) ≤ 4096) × (length (now link) ≡ length (now words)) ⌝ }
     ensures { λ r. ⌜ Decides (now (words .entry)) start r ⌝ }
 {

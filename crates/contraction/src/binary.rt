@@ -5,6 +5,7 @@ use crate::numbers::number_at;
 use crate::rules::Rule;
 use crate::rules::amiss;
 use crate::rules::numbered;
+use nodes::kinds::Kinds;
 use writing::spans::skip;
 ghost use mathlib.Core.Path.{_≡_};
 ghost use Prim.Native.Nat.{_≤_, _-_};
@@ -71,7 +72,7 @@ fn difference(a: u32, b: u32) -> u32
 
 // Application: the first part's form is told, its words end at `middle`, and the argument's at `end`.
 fn of_apply(
-    table: &[u64; 48],
+    table: &Kinds,
     words: &[u32],
     scheme: bool,
     form: u64,
@@ -93,7 +94,7 @@ fn of_apply(
 }
 
 // The operators of two parts. The node's words end at `end`.
-pub fn of_two(table: &[u64; 48], words: &[u32], end: usize) -> Rule
+pub fn of_two(table: &Kinds, words: &[u32], end: usize) -> Rule
     requires { ⌜ (now table ≡ kinds) × (length (now words) ≤ 1048576) × (1 ≤ length (now words)) × Ends 2 (now words) end ⌝ }
     ensures placed { λ r. ⌜ Placed (length (now (words .entry))) r ⌝ }
     ensures told { λ r. ⌜ OfTwo (now (words .entry)) r ⌝ }
@@ -127,7 +128,7 @@ pub fn of_two(table: &[u64; 48], words: &[u32], end: usize) -> Rule
 }
 
 // if0. The node's words end at `end`.
-pub fn of_if(table: &[u64; 48], words: &[u32], end: usize) -> Rule
+pub fn of_if(table: &Kinds, words: &[u32], end: usize) -> Rule
     requires { ⌜ (now table ≡ kinds) × (length (now words) ≤ 1048576) × (1 ≤ length (now words)) × Ends 3 (now words) end ⌝ }
     ensures placed { λ r. ⌜ Placed (length (now (words .entry))) r ⌝ }
     ensures told { λ r. ⌜ OfIf (now (words .entry)) r ⌝ }

@@ -5,6 +5,7 @@ use crate::binary::of_two;
 use crate::conversions::of_boundary;
 use crate::rules::Rule;
 use crate::unary::of_one;
+use nodes::kinds::Kinds;
 use nodes::kinds::row_at;
 ghost use mathlib.Core.Path.{_≡_};
 ghost use Prim.Native.Nat.{_≤_};
@@ -15,7 +16,7 @@ ghost use Rattle.contraction.specs.Told.{Placed};
 ghost use Rattle.contraction.specs.Chosen.{OfNode};
 
 // What the node that the words start with becomes, whose words end at `end`. The words may be 2^20.
-pub fn chosen(table: &[u64; 48], words: &[u32], end: usize) -> Rule
+pub fn chosen(table: &Kinds, words: &[u32], end: usize) -> Rule
     requires { ⌜ (now table ≡ kinds) × (length (now words) ≤ 1048576) × (end ≡ span (now words) 1) ⌝ }
     ensures placed { λ r. ⌜ Placed (length (now (words .entry))) r ⌝ }
     ensures told { λ r. ⌜ OfNode (now (words .entry)) r ⌝ }

@@ -4,6 +4,7 @@ use crate::forms::form_at;
 use crate::numbers::number_at;
 use crate::rules::Rule;
 use crate::rules::numbered;
+use nodes::kinds::Kinds;
 use writing::spans::skip;
 ghost use mathlib.Core.Path.{_≡_};
 ghost use Prim.Native.Nat.{_≤_};
@@ -55,14 +56,7 @@ fn at_lump(words: &[u32], scheme: bool, form: u64, value: usize, end: usize) -> 
 }
 
 // At a type {t}.
-fn at_list(
-    table: &[u64; 48],
-    words: &[u32],
-    scheme: bool,
-    form: u64,
-    value: usize,
-    end: usize,
-) -> Rule
+fn at_list(table: &Kinds, words: &[u32], scheme: bool, form: u64, value: usize, end: usize) -> Rule
     requires { ⌜ (now table ≡ kinds) × (length (now words) ≤ 1048576) × Value (now words) form value end ⌝ }
     ensures placed { λ r. ⌜ Placed (length (now (words .entry))) r ⌝ }
     ensures told { λ r. ⌜ AtList (now (words .entry)) scheme r ⌝ }
@@ -88,7 +82,7 @@ fn at_list(
 
 // At a type t to u.
 fn at_function(
-    table: &[u64; 48],
+    table: &Kinds,
     words: &[u32],
     scheme: bool,
     form: u64,
@@ -113,7 +107,7 @@ fn at_function(
 }
 
 // ms or sm of a value. The node's words end at `end`.
-pub fn of_boundary(table: &[u64; 48], words: &[u32], end: usize) -> Rule
+pub fn of_boundary(table: &Kinds, words: &[u32], end: usize) -> Rule
     requires { ⌜ (now table ≡ kinds) × (length (now words) ≤ 1048576) × (1 ≤ length (now words)) × Ends 2 (now words) end ⌝ }
     ensures placed { λ r. ⌜ Placed (length (now (words .entry))) r ⌝ }
     ensures told { λ r. ⌜ OfBoundary (now (words .entry)) r ⌝ }

@@ -1,5 +1,6 @@
 // The form of a value, which the rules look at.
 
+use nodes::kinds::Kinds;
 use nodes::kinds::row_at;
 ghost use mathlib.Core.Path.{_≡_};
 ghost use Rattle.nodes.specs.Table.{kinds};
@@ -18,7 +19,7 @@ pub const PAIR: u64 = 4;
 pub const LUMP: u64 = 5;
 
 // The form of the node that the words start with: `LUMP` is ms L of a term.
-pub fn form_at(table: &[u64; 48], words: &[u32]) -> u64
+pub fn form_at(table: &Kinds, words: &[u32]) -> u64
     requires { ⌜ now table ≡ kinds ⌝ }
     ensures { λ r. ⌜ r ≡ formAt (now (words .entry)) ⌝ }
 {

@@ -2,6 +2,7 @@
 
 use crate::numbers::put_number;
 use crate::rules::Rule;
+use nodes::kinds::Kinds;
 use writing::copy;
 use writing::put;
 use writing::substitution::substitute;
@@ -111,7 +112,7 @@ fn lead_two(
 
 // A body with a value for its variable.
 fn replaced(
-    table: &[u64; 48],
+    table: &Kinds,
     words: &[u32],
     x: u32,
     body: usize,
@@ -130,7 +131,7 @@ fn replaced(
 }
 
 // What the node that the words start with becomes by the rule. Returns the place after it. The words may be 2^20.
-pub fn contract(table: &[u64; 48], words: &[u32], rule: Rule, target: &mut [u32], n: usize) -> usize
+pub fn contract(table: &Kinds, words: &[u32], rule: Rule, target: &mut [u32], n: usize) -> usize
     requires { ⌜ (now table ≡ kinds) × (length (now words) ≤ 1048576) × (n ≤ 2 ^ 45) ⌝ }
     requires { ⌜ Placed (length (now words)) rule ⌝ }
     ensures { λ r. ⌜ Writes (now (words .entry)) rule (now (target .entry)) n r (now (target .exit)) ⌝ }

@@ -3,6 +3,7 @@
 use crate::forms::form_at;
 use crate::rules::Rule;
 use crate::rules::amiss;
+use nodes::kinds::Kinds;
 use writing::spans::skip;
 ghost use mathlib.Core.Path.{_≡_};
 ghost use Prim.Native.Nat.{_≤_};
@@ -88,7 +89,7 @@ fn of_null(form: u64) -> Rule
 }
 
 // fix of a value, whose form is told and whose words end at `end`.
-fn of_fix(table: &[u64; 48], words: &[u32], form: u64, end: usize) -> Rule
+fn of_fix(table: &Kinds, words: &[u32], form: u64, end: usize) -> Rule
     requires { ⌜ (now table ≡ kinds) × (length (now words) ≤ 1048576) × FirstPart (now words) form end ⌝ }
     ensures placed { λ r. ⌜ Placed (length (now (words .entry))) r ⌝ }
     ensures told { λ r. ⌜ OfFix (now (words .entry)) r ⌝ }
@@ -101,14 +102,7 @@ fn of_fix(table: &[u64; 48], words: &[u32], form: u64, end: usize) -> Rule
 }
 
 // hd, or tl.
-fn of_list(
-    table: &[u64; 48],
-    words: &[u32],
-    first: bool,
-    scheme: bool,
-    form: u64,
-    end: usize,
-) -> Rule
+fn of_list(table: &Kinds, words: &[u32], first: bool, scheme: bool, form: u64, end: usize) -> Rule
     requires { ⌜ (now table ≡ kinds) × (length (now words) ≤ 1048576) × FirstPart (now words) form end ⌝ }
     ensures placed { λ r. ⌜ Placed (length (now (words .entry))) r ⌝ }
     ensures told { λ r. ⌜ OfList (now (words .entry)) first scheme r ⌝ }
@@ -136,7 +130,7 @@ fn of_list(
 }
 
 // The operators of one part. The node's words end at `end`.
-pub fn of_one(table: &[u64; 48], words: &[u32], end: usize) -> Rule
+pub fn of_one(table: &Kinds, words: &[u32], end: usize) -> Rule
     requires { ⌜ (now table ≡ kinds) × (length (now words) ≤ 1048576) × (1 ≤ length (now words)) × Ends 1 (now words) end ⌝ }
     ensures placed { λ r. ⌜ Placed (length (now (words .entry))) r ⌝ }
     ensures told { λ r. ⌜ OfOne (now (words .entry)) r ⌝ }

@@ -4,6 +4,7 @@ use crate::ends::Choice;
 use crate::ends::Counts;
 use crate::ends::Report;
 use crate::ends::decide;
+use nodes::kinds::Kinds;
 use reducer::steps::Move;
 use reducer::steps::step;
 use reducer::turns::From;
@@ -22,7 +23,7 @@ pub struct Halt {
 
 // One step, from the buffer that holds the term into the other.
 fn advance(
-    table: &[u64; 48],
+    table: &Kinds,
     front: bool,
     first: &mut [u32],
     second: &mut [u32],
@@ -52,7 +53,7 @@ fn resume(moved: Move) -> From
 
 // Steps until the run ends.
 fn turns(
-    table: &[u64; 48],
+    table: &Kinds,
     first: &mut [u32],
     second: &mut [u32],
     count: usize,

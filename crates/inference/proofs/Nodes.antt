@@ -13,21 +13,12 @@ use Rattle.calculus.specs.Trees.{Lang, sc, Static, Op1, Op2, Term, var, num, la
 use Rattle.calculus.specs.Words.{put}
 use Rattle.calculus.specs.Kinds.{term}
 use Rattle.nodes.specs.declared.kinds.Row as code
-use Rattle.nodes.specs.Table.{sortNumber, shapeNumber, noEntry, rowOf, listed}
-use Rattle.nodes.proofs.Table.{same-list, past}
+use Rattle.nodes.specs.Table.{sortNumber, shapeNumber, rowOf}
+use Rattle.nodes.proofs.Table.{by-rows}
 use Rattle.nodes.proofs.Shapes.{sort-first, shape-first}
 use Rattle.nodes.proofs.Terms as node
 use Rattle.nodes.proofs.Terms.{Shaped, by-shape}
 use Rattle.inference.specs.Parts.{Read}
-
--- What holds of every row of the table, and of that of a kind that is none.
-by-table : {X : Type 0} (f g : code.Row → X) → listed (λ k. f (rowOf k)) 0 48 ≡ listed (λ k. g (rowOf k)) 0 48 → f noEntry ≡ g noEntry
-    → (k : ℕ) → f (rowOf k) ≡ g (rowOf k)
-by-table f g e z k = by (ltb k 48) refl
-  where
-    by : (b : Bool) → ltb k 48 ≡ b → f (rowOf k) ≡ g (rowOf k)
-    by true h = same-list (λ j. f (rowOf j)) (λ j. g (rowOf j)) 48 e k (ltb-true k 48 h)
-    by false h = rw (past k (ltb-false k 48 h)) z
 
 -- By a row's shape, whether no part is a term; by its sort and shape, whether the first part is a type, and the parts' sorts in Scheme.
 abbrev isLeaf : ℕ → Bool
@@ -43,15 +34,15 @@ schemeParts h = cond (eqb h 3) 3 (cond (eqb h 4) 3 (cond (eqb h 5) 15 (cond (eqb
 
 leaf-at : (k : ℕ) → ltb (rowOf k .parts) 2 ≡ isLeaf (rowOf k .shape)
 unfolding rowOf
-leaf-at = by-table (λ r. ltb (r .parts) 2) (λ r. isLeaf (r .shape)) refl refl
+leaf-at = by-rows (λ r. ltb (r .parts) 2) (λ r. isLeaf (r .shape)) refl refl
 
 lead-at : (k : ℕ) → eqb (rowOf k .parts % 4) 1 ≡ leads (rowOf k .sort) (rowOf k .shape)
 unfolding rowOf
-lead-at = by-table (λ r. eqb (r .parts % 4) 1) (λ r. leads (r .sort) (r .shape)) refl refl
+lead-at = by-rows (λ r. eqb (r .parts % 4) 1) (λ r. leads (r .sort) (r .shape)) refl refl
 
 scheme-at : (k : ℕ) → cond (eqb (rowOf k .sort) 3) (rowOf k .parts) 0 ≡ cond (eqb (rowOf k .sort) 3) (schemeParts (rowOf k .shape)) 0
 unfolding rowOf
-scheme-at = by-table (λ r. cond (eqb (r .sort) 3) (r .parts) 0) (λ r. cond (eqb (r .sort) 3) (schemeParts (r .shape)) 0) refl refl
+scheme-at = by-rows (λ r. cond (eqb (r .sort) 3) (r .parts) 0) (λ r. cond (eqb (r .sort) 3) (schemeParts (r .shape)) 0) refl refl
 
 -- A term with no part that is a term, and one with such parts that is no boundary; of the latter, one with several.
 pub data Bare : (l : Lang) → Term l → Type 0 where

@@ -4,6 +4,7 @@
 
 pub mod parts;
 
+use nodes::kinds::Kinds;
 use nodes::kinds::row_at;
 use parts::function;
 use parts::leaf;
@@ -33,7 +34,7 @@ const THREE_PARTS: u64 = 16;
 
 // The type of the ML term that starts at the place `at`, inside the lambda at `scope`.
 pub fn infer(
-    table: &[u64; 48],
+    table: &Kinds,
     words: &[u32],
     term: &[u32],
     at: usize,
@@ -83,7 +84,7 @@ pub fn infer(
 
 // Whether the Scheme term that starts at the place `at`, inside the lambda at `scope`, is well formed.
 fn well_formed(
-    table: &[u64; 48],
+    table: &Kinds,
     words: &[u32],
     term: &[u32],
     at: usize,

@@ -1,5 +1,6 @@
 // What the typing does at a node, apart from going into its parts.
 
+use nodes::kinds::Kinds;
 use nodes::kinds::Row;
 use rules::Formed;
 use rules::Inferred;
@@ -16,7 +17,7 @@ ghost use Rattle.inference.specs.Parts.{Read, PartsStart, Leaf, Linked, 
 ghost use Rattle.inference.specs.Infers.{Infers};
 
 // The place of the first term among the parts of the node at `at`: past the type that the node begins with, if it does.
-pub fn parts_start(table: &[u64; 48], all: &[u32], row: Row, at: usize) -> usize
+pub fn parts_start(table: &Kinds, all: &[u32], row: Row, at: usize) -> usize
     requires { ⌜ (now table ≡ kinds) × Read (now all) at row ⌝ }
     ensures { λ r. ⌜ PartsStart (now (all .entry)) at r ⌝ }
 {
@@ -29,7 +30,7 @@ pub fn parts_start(table: &[u64; 48], all: &[u32], row: Row, at: usize) -> usize
 
 // The ML term at `at`, which has no part that is a term and ends before `next`.
 pub fn leaf(
-    table: &[u64; 48],
+    table: &Kinds,
     all: &[u32],
     link: &[u16],
     row: Row,
@@ -51,7 +52,7 @@ pub fn leaf(
 
 // The same of a Scheme term.
 pub fn scheme_leaf(
-    table: &[u64; 48],
+    table: &Kinds,
     all: &[u32],
     link: &[u16],
     row: Row,

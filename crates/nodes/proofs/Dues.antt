@@ -6,7 +6,7 @@ use mathlib.Core.List.{List, [], _∷_}
 use mathlib.Core.Option.{Option, none, some}
 use mathlib.Core.Path.{_≡_, refl, sym, ap, _∙_}
 use lib.Dec.{eqb, leb, ltb}
-use borrow.Author.Tests.{ltb-true, ltb-false}
+use borrow.Author.Tests.{ltb-true}
 use native.Mathlib.Omega.{arith}
 use Rattle.calculus.specs.Verdicts.{found}
 use Rattle.calculus.specs.Trees.{ml, sc}
@@ -14,7 +14,7 @@ use Rattle.calculus.specs.Kinds.{Sort, type, term, Row, table, rowIn, rowFor}
 use Rattle.nodes.specs.declared.kinds.Row as code
 use Rattle.nodes.specs.Table.{sortNumber, rowOf}
 use Rattle.nodes.specs.Walks.{sortThen, sortsOf, isDue}
-use Rattle.nodes.proofs.Table.{same-list, not-in, past}
+use Rattle.nodes.proofs.Table.{not-in, past, by-table, by-rows}
 
 -- What a walk needs of a row: its parts and its operand's range.
 abbrev Use : Type 0
@@ -27,23 +27,13 @@ abbrev use-in : Sort → code.Row → Use
 use-in s r = cond (eqb (r .sort) (sortNumber s)) (some (sortsOf (r .parts), r .low, r .high)) none
 
 -- The code's row tells it of every sort: one computed test for each.
-use-at : (s : Sort) (k : ℕ) → k < 48 → use-of (rowIn (table s) k) ≡ use-in s (rowOf k)
-unfolding rowOf sortsOf
-use-at type k h = same-list (λ j. use-of (rowIn (table type) j)) (λ j. use-in type (rowOf j)) 48 refl k h
-use-at (term ml) k h = same-list (λ j. use-of (rowIn (table (term ml)) j)) (λ j. use-in (term ml) (rowOf j)) 48 refl k h
-use-at (term sc) k h = same-list (λ j. use-of (rowIn (table (term sc)) j)) (λ j. use-in (term sc) (rowOf j)) 48 refl k h
-
-use-past : (s : Sort) (k : ℕ) → 48 ≤ k → use-of (rowIn (table s) k) ≡ use-in s (rowOf k)
-use-past type k h = rw (past k h, not-in (table type) tt k h)
-use-past (term ml) k h = rw (past k h, not-in (table (term ml)) tt k h)
-use-past (term sc) k h = rw (past k h, not-in (table (term sc)) tt k h)
-
 use-is : (s : Sort) (k : ℕ) → use-of (rowIn (table s) k) ≡ use-in s (rowOf k)
-use-is s k = by (ltb k 48) refl
-  where
-    by : (b : Bool) → ltb k 48 ≡ b → use-of (rowIn (table s) k) ≡ use-in s (rowOf k)
-    by true e = use-at s k (ltb-true k 48 e)
-    by false e = use-past s k (ltb-false k 48 e)
+unfolding rowOf sortsOf
+use-is type = by-table (λ k. use-of (rowIn (table type) k)) (λ k. use-in type (rowOf k)) refl (λ k h. rw (past k h, not-in (table type) tt k h))
+use-is (term ml) =
+    by-table (λ k. use-of (rowIn (table (term ml)) k)) (λ k. use-in (term ml) (rowOf k)) refl (λ k h. rw (past k h, not-in (table (term ml)) tt k h))
+use-is (term sc) =
+    by-table (λ k. use-of (rowIn (table (term sc)) k)) (λ k. use-in (term sc) (rowOf k)) refl (λ k h. rw (past k h, not-in (table (term sc)) tt k h))
 
 -- A due word, by the code's row.
 module _ {B : Type 0} (x : B) (f : List Sort → B) (o : ℕ) where
@@ -99,14 +89,10 @@ first-due d h g = by (d % 4) refl
     by (suc (suc (suc zero))) e = record { sort = term sc; number = sym e; sorts = rw e (ap (λ (l : List Sort). term sc ∷ l) rest) }
     by (suc (suc (suc (suc n)))) e = absurd (omega (arith, e))
 
-small : (k : ℕ) → k < 48 → ltb (rowOf k .parts) 64 ≡ true
+small : (k : ℕ) → ltb (rowOf k .parts) 64 ≡ true
 unfolding rowOf
-small k h = same-list (λ j. ltb (rowOf j .parts) 64) (λ j. true) 48 refl k h
+small = by-rows (λ r. ltb (r .parts) 64) (λ r. true) refl refl
 
 -- A kind's parts are at most three.
 pub parts-small : (k : ℕ) → rowOf k .parts < 64
-parts-small k = by (ltb k 48) refl
-  where
-    by : (b : Bool) → ltb k 48 ≡ b → rowOf k .parts < 64
-    by true e = ltb-true (rowOf k .parts) 64 (small k (ltb-true k 48 e))
-    by false e = rw (past k (ltb-false k 48 e)) (omega arith)
+parts-small k = ltb-true (rowOf k .parts) 64 (small k)

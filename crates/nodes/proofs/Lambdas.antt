@@ -4,10 +4,10 @@ use Prim.Native.Nat.{ℕ, zero, suc, _+_, _-_, _/_, _%_, _≤_, _<_}
 use mathlib.Core.Bool.{Bool, true, false, cond, not}
 use mathlib.Core.List.{List, _∷_}
 use mathlib.Core.Path.{_≡_, refl, sym, ap, _∙_}
-use lib.Dec.{eqb, ltb}
+use lib.Dec.{eqb}
 use lib.ListN.{length, getD, set}
 use lib.Seq.{getD-set-same, getD-set-other}
-use borrow.Author.Tests.{eq-eqb, ne-eqb, eqb-true, eqb-false, ltb-true, ltb-false}
+use borrow.Author.Tests.{eq-eqb, ne-eqb, eqb-true, eqb-false}
 use native.Mathlib.Numerals.{add-one}
 use native.Mathlib.Omega.{arith}
 use Rattle.calculus.specs.Verdicts.{found}
@@ -15,10 +15,10 @@ use Rattle.calculus.specs.Trees.{Lang, ml, sc}
 use Rattle.calculus.specs.Kinds.{type, term, Row, table, rowIn, sortOfKind}
 use Rattle.calculus.specs.Scope.{sameLang, lambdaAt, isFree, inside, partCount}
 use Rattle.nodes.specs.declared.kinds.Row as code
-use Rattle.nodes.specs.Table.{rowOf, listed}
+use Rattle.nodes.specs.Table.{rowOf, rows, listed}
 use Rattle.nodes.specs.Walks.{sortsOf}
 use Rattle.nodes.specs.Around.{langOf, around, Entered}
-use Rattle.nodes.proofs.Table.{same-list, not-in, past}
+use Rattle.nodes.proofs.Table.{not-in, past, by-table}
 
 -- What hangs on two kinds, ML's and Scheme's, hangs on the shape that they share and the sort.
 module _ {X : Type 0} (a b c : X) where
@@ -28,16 +28,12 @@ module _ {X : Type 0} (a b c : X) where
   by-shape : ℕ → code.Row → X
   by-shape h r = cond (eqb (r .shape) h) (cond (eqb (r .sort) 2) a b) c
 
-  agree : (m s h : ℕ) → m < 48 → s < 48 → (h ≡ 0 → ⊥) → listed (by-kinds m s) 0 48 ≡ listed (λ k. by-shape h (rowOf k)) 0 48
+  agree : (m s h : ℕ) → m < rows → s < rows → (h ≡ 0 → ⊥) → listed (by-kinds m s) 0 rows ≡ listed (λ k. by-shape h (rowOf k)) 0 rows
       → (k : ℕ) → by-kinds m s k ≡ by-shape h (rowOf k)
   unfolding by-kinds by-shape
-  agree m s h hm hs hh e k = by (ltb k 48) refl
-    where
-      by : (t : Bool) → ltb k 48 ≡ t → by-kinds m s k ≡ by-shape h (rowOf k)
-      by true g = same-list (by-kinds m s) (λ j. by-shape h (rowOf j)) 48 e k (ltb-true k 48 g)
-      by false g =
-          let far = ltb-false k 48 g in
-          rw (past k far, ne-eqb k m (λ p. omega (arith, p)), ne-eqb k s (λ p. omega (arith, p)), ne-eqb 0 h (λ p. hh (sym p)))
+  agree m s h hm hs hh e =
+      by-table (by-kinds m s) (λ k. by-shape h (rowOf k)) e
+      (λ k far. rw (past k far, ne-eqb k m (λ p. omega (arith, p)), ne-eqb k s (λ p. omega (arith, p)), ne-eqb 0 h (λ p. hh (sym p))))
 
   pub by-variable : (k : ℕ) → cond (eqb k 16) a (cond (eqb k 32) b c) ≡ cond (eqb (rowOf k .shape) 1) (cond (eqb (rowOf k .sort) 2) a b) c
   unfolding by-kinds by-shape rowOf
@@ -48,20 +44,11 @@ module _ {X : Type 0} (a b c : X) where
   by-lambda k = agree 18 34 3 (omega arith) (omega arith) (λ p. omega (arith, p)) refl k
 
 -- How many parts a kind has.
-parts-below : (k : ℕ) → k < 48 → found (rowIn (table (sortOfKind k)) k) 0 (λ r. length (r .parts)) ≡ length (sortsOf (rowOf k .parts))
-unfolding rowOf sortsOf
-parts-below k h = same-list (λ j. found (rowIn (table (sortOfKind j)) j) 0 (λ r. length (r .parts))) (λ j. length (sortsOf (rowOf j .parts))) 48 refl k h
-
-parts-past : (k : ℕ) → 48 ≤ k → found (rowIn (table (sortOfKind k)) k) 0 (λ r. length (r .parts)) ≡ length (sortsOf (rowOf k .parts))
-unfolding sortsOf
-parts-past k h = rw (past k h, not-in (table type) tt k h, not-in (table (term ml)) tt k h, not-in (table (term sc)) tt k h)
-
 pub part-count : (w : ℕ) → partCount w ≡ length (sortsOf (rowOf (w % 256) .parts))
-part-count w = by (ltb (w % 256) 48) refl
-  where
-    by : (t : Bool) → ltb (w % 256) 48 ≡ t → partCount w ≡ length (sortsOf (rowOf (w % 256) .parts))
-    by true g = parts-below (w % 256) (ltb-true (w % 256) 48 g)
-    by false g = parts-past (w % 256) (ltb-false (w % 256) 48 g)
+unfolding rowOf sortsOf
+part-count w =
+    by-table (λ k. found (rowIn (table (sortOfKind k)) k) 0 (λ r. length (r .parts))) (λ k. length (sortsOf (rowOf k .parts))) refl
+    (λ k h. rw (past k h, not-in (table type) tt k h, not-in (table (term ml)) tt k h, not-in (table (term sc)) tt k h)) (w % 256)
 
 -- The lambda with n others between, in the buffer.
 lambda-there : (d : ℕ) (b : List ℕ) (n : ℕ) (l : Lang) → n < d → lambdaAt (around d b) n l ≡ sameLang (langOf (getD b (d - 1 - n) 0)) l

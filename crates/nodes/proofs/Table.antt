@@ -6,13 +6,13 @@ use mathlib.Core.Option.{none}
 use mathlib.Core.Path.{_≡_, refl, sym, _∙_, ap}
 use lib.Dec.{ltb, when}
 use lib.ListN.{getD}
-use borrow.Author.Tests.{ne-eqb, ltb-true}
+use borrow.Author.Tests.{ne-eqb, ltb-true, ltb-false}
 use native.Mathlib.Nat.{add-zero, zero-add, add-suc, suc-add, le-of-suc-le-suc, not-suc-le-zero}
 use native.Mathlib.Omega.{arith}
 use Rattle.calculus.specs.Kinds.{Sort, type, term, Row, table, rowIn}
 use Rattle.calculus.specs.Trees.{ml, sc}
 use Rattle.nodes.specs.declared.kinds.Row as code
-use Rattle.nodes.specs.Table.{noEntry, rowOf, packed, listed, kinds}
+use Rattle.nodes.specs.Table.{noEntry, rowOf, rows, packed, listed, kinds}
 
 module _ {A : Type 0} (f : ℕ → A) (d : A) where
   from-at : (n i k : ℕ) → k < n → getD (listed f i n) k d ≡ f (i + k)
@@ -31,23 +31,36 @@ same-list f g n e k h = sym (listed-at f (f 0) n k h) ∙ ap (λ (l : List _). g
 abbrev pub unpacked : ℕ → code.Row
 unpacked r = record { sort = r % 4; parts = r / 4 % 64; shape = r / 256 % 16; low = r / 4096 % 2; high = r / 8192 }
 
-pub unpacked-at : (k : ℕ) → k < 48 → unpacked (getD kinds k 0) ≡ rowOf k
+pub unpacked-at : (k : ℕ) → k < rows → unpacked (getD kinds k 0) ≡ rowOf k
 unfolding kinds rowOf
-unpacked-at k h = ap unpacked (listed-at (λ j. packed (rowOf j)) 0 48 k h) ∙ same-list (λ j. unpacked (packed (rowOf j))) rowOf 48 refl k h
+unpacked-at k h = ap unpacked (listed-at (λ j. packed (rowOf j)) 0 rows k h) ∙ same-list (λ j. unpacked (packed (rowOf j))) rowOf rows refl k h
 
--- No kind from 48 on is in a table.
+-- No kind past the last row is in a table.
 abbrev pub Below : {s : Sort} → List (Row s) → Type 0
 Below [] = Unit {0}
-Below (r ∷ rs) = when (ltb (r .kind) 48) (Below rs)
+Below (r ∷ rs) = when (ltb (r .kind) rows) (Below rs)
 
-pub not-in : {s : Sort} (rs : List (Row s)) → Below rs → (k : ℕ) → 48 ≤ k → rowIn rs k ≡ none
+pub not-in : {s : Sort} (rs : List (Row s)) → Below rs → (k : ℕ) → rows ≤ k → rowIn rs k ≡ none
 not-in [] b k h = refl
-not-in (r ∷ rs) b k h = by (ltb (r .kind) 48) refl b (λ t. not-in rs t k h)
+not-in (r ∷ rs) b k h = by (ltb (r .kind) rows) refl b (λ t. not-in rs t k h)
   where
-    by : (t : Bool) → ltb (r .kind) 48 ≡ t → when t (Below rs) → (Below rs → rowIn rs k ≡ none) → rowIn (r ∷ rs) k ≡ none
-    by true e u more = rw (ne-eqb k (r .kind) (λ p. omega (arith, ltb-true (r .kind) 48 e))) (more u)
+    by : (t : Bool) → ltb (r .kind) rows ≡ t → when t (Below rs) → (Below rs → rowIn rs k ≡ none) → rowIn (r ∷ rs) k ≡ none
+    by true e u more = rw (ne-eqb k (r .kind) (λ p. omega (arith, ltb-true (r .kind) rows e))) (more u)
     by false e u more = absurd u
 
-pub past : (k : ℕ) → 48 ≤ k → rowOf k ≡ noEntry
+pub past : (k : ℕ) → rows ≤ k → rowOf k ≡ noEntry
 unfolding rowOf
 past k h = rw (not-in (table type) tt k h, not-in (table (term ml)) tt k h, not-in (table (term sc)) tt k h)
+
+-- The one law of the table: what is computed alike at each row, and alike past the last, is alike at every kind.
+pub by-table : {X : Type 0} (f g : ℕ → X) → listed f 0 rows ≡ listed g 0 rows → ((k : ℕ) → rows ≤ k → f k ≡ g k) → (k : ℕ) → f k ≡ g k
+by-table f g e far k = by (ltb k rows) refl
+  where
+    by : (t : Bool) → ltb k rows ≡ t → f k ≡ g k
+    by true h = same-list f g rows e k (ltb-true k rows h)
+    by false h = far k (ltb-false k rows h)
+
+-- What hangs on a kind's row alone.
+pub by-rows : {X : Type 0} (f g : code.Row → X) → listed (λ k. f (rowOf k)) 0 rows ≡ listed (λ k. g (rowOf k)) 0 rows → f noEntry ≡ g noEntry
+    → (k : ℕ) → f (rowOf k) ≡ g (rowOf k)
+by-rows f g e z = by-table (λ k. f (rowOf k)) (λ k. g (rowOf k)) e (λ k h. rw (past k h) z)

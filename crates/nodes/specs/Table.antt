@@ -59,7 +59,11 @@ noEntry = record { sort = 0; parts = 0; shape = 0; low = 0; high = 0 }
 unfoldable pub rowOf : ℕ → code.Row
 rowOf k = found (rowIn (table (sortOfKind k)) k) noEntry (λ r. entry r)
 
--- A row in one number, and the whole table: its first 48 kinds.
+-- How many kinds the table in code has a row for.
+abbrev pub rows : ℕ
+rows = 64
+
+-- A row in one number, and the whole table.
 abbrev pub packed : code.Row → ℕ
 packed r = r .sort + 4 * r .parts + 256 * r .shape + 4096 * r .low + 8192 * r .high
 
@@ -68,4 +72,4 @@ listed f k zero = []
 listed f k (suc n) = f k ∷ listed f (suc k) n
 
 unfoldable pub kinds : List ℕ
-kinds = listed (λ k. packed (rowOf k)) 0 48
+kinds = listed (λ k. packed (rowOf k)) 0 rows

@@ -56,7 +56,12 @@ const LARGEST: u64 = 16777215;
 const LAST_CODE: u64 = 65535;
 
 // A row of the table is one number, because a const array is copied to the stack where it is used. A kind that is none has the row 0.
-pub const KINDS: [u64; 48] = [
+// How many kinds have a row, and the table.
+pub const ROWS: usize = 64;
+
+pub type Kinds = [u64; ROWS];
+
+pub const KINDS: Kinds = [
     0,
     TYPE + SHAPE * NUMBERS, // 1 N
     TYPE + SHAPE * LUMP, // 2 L
@@ -105,6 +110,22 @@ pub const KINDS: [u64; 48] = [
     SCHEME + FIRST * TYPE + SECOND * ML + SHAPE * BOUNDARY, // 45 sm
     0,
     0,
+    0,
+    0,
+    0,
+    0,
+    0,
+    0,
+    0,
+    0,
+    0,
+    0,
+    0,
+    0,
+    0,
+    0,
+    0,
+    0,
 ];
 
 // What the table says of a kind: its sort, its parts' sorts (the first in the lowest digit, in base 4; 0 ends them), its shape, and the least
@@ -118,12 +139,12 @@ pub struct Row {
 }
 
 // The row of a word's kind.
-pub fn row_at(table: &[u64; 48], w: u32) -> Row
+pub fn row_at(table: &Kinds, w: u32) -> Row
     requires { ⌜ now table ≡ kinds ⌝ }
     ensures { λ r. ⌜ r ≡ rowOf (w % 256) ⌝ }
 {
     let k = (w % 256) as usize;
-    if 48 <= k {
+    if ROWS <= k {
         return Row {
             sort: 0,
             parts: 0,

@@ -1,5 +1,6 @@
 // Refusal 5: each variable has a lambda of its language, as many lambdas out as it says.
 
+use crate::kinds::Kinds;
 use crate::kinds::Row;
 use crate::kinds::row_at;
 use crate::refusals::Refusal;
@@ -51,7 +52,7 @@ fn enter(row: Row, w: u32, scope: &mut [u8], depth: usize) -> usize
 
 // Walks over the variables of the nodes due, all of them within the first `depth` lambdas of the scope. `at` words are gone by.
 fn variables(
-    table: &[u64; 48],
+    table: &Kinds,
     words: &[u32],
     at: usize,
     due: u64,

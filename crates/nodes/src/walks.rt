@@ -1,5 +1,6 @@
 // The walk over the words of nodes in prefix order: refusals 3 and 4, and the reader of nodes.
 
+use crate::kinds::Kinds;
 use crate::kinds::Row;
 use crate::kinds::row_at;
 use crate::refusals::Refusal;
@@ -32,7 +33,7 @@ fn is_due(row: Row, sort: u64, w: u32) -> bool
 }
 
 // Walks over the nodes of the sorts due, one after the other, with so many levels of nesting left for each. `at` words are gone by.
-pub fn walk(table: &[u64; 48], words: &[u32], at: usize, due: u64, room: usize) -> Walked
+pub fn walk(table: &Kinds, words: &[u32], at: usize, due: u64, room: usize) -> Walked
     requires { ⌜ (now table ≡ kinds) × (due < 64) × (at + length (now words) < 2 ^ 63) ⌝ }
     ensures { λ r. ⌜ walked r ≡ later at (walk nestedDue (now (words .entry)) (levelled room (sortsOf due))) ⌝ }
 {
@@ -60,7 +61,7 @@ pub fn walk(table: &[u64; 48], words: &[u32], at: usize, due: u64, room: usize) 
 }
 
 // Whether the words, which stand at a place of the file, are one node of a sort, nested no deeper than 256: refusals 3 and 4.
-fn in_order(table: &[u64; 48], words: &[u32], at: usize, sort: u64) -> Walked
+fn in_order(table: &Kinds, words: &[u32], at: usize, sort: u64) -> Walked
     requires { ⌜ (now table ≡ kinds) × (sort < 4) × (at + length (now words) < 2 ^ 63) ⌝ }
     ensures { λ r. ⌜ ((s : Sort) → sort ≡ sortNumber s → walked r ≡ later at (inOrder s (now (words .entry)))) ⌝ }
 {

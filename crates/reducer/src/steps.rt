@@ -6,6 +6,7 @@ use crate::turns::turn;
 use contraction::choices::chosen;
 use contraction::pieces::contract;
 use contraction::rules::Rule;
+use nodes::kinds::Kinds;
 use writer::write_next;
 ghost use mathlib.Core.Path.{_≡_};
 ghost use Prim.Native.Nat.{_+_, _*_, _≤_};
@@ -57,7 +58,7 @@ fn end_of(rule: Rule) -> End
 
 // The next term: the words before the node, what it becomes by the rule, and the words after it.
 fn splice(
-    table: &[u64; 48],
+    table: &Kinds,
     source: &[u32],
     place: usize,
     end: usize,
@@ -80,7 +81,7 @@ fn splice(
 }
 
 // The walk to the turn, from a place on; and from the start, if all is a value from there on.
-fn whose(table: &[u64; 48], source: &[u32], from: From) -> Found
+fn whose(table: &Kinds, source: &[u32], from: From) -> Found
     requires { ⌜ (now table ≡ kinds) × (length (now source) ≤ 1048576) × (from .due ≤ 1 + 3 * from .place) ⌝ }
     ensures spanned { λ r. ⌜ Spanned (now (source .entry)) r ⌝ }
     ensures is { λ r. ⌜ Turns (now (source .entry)) from beginning r ⌝ }
@@ -93,7 +94,7 @@ fn whose(table: &[u64; 48], source: &[u32], from: From) -> Found
 }
 
 // The step of the term in the source, which may have 2^20 words; the walk to the turn begins at a place.
-pub fn step(table: &[u64; 48], source: &[u32], target: &mut [u32], from: From) -> Move
+pub fn step(table: &Kinds, source: &[u32], target: &mut [u32], from: From) -> Move
     requires { ⌜ (now table ≡ kinds) × (length (now source) ≤ 1048576) × (from .due ≤ 1 + 3 * from .place) ⌝ }
     ensures few { λ r. ⌜ Few r ⌝ }
     ensures is { λ r. ⌜ Steps (now (source .entry)) from (now (target .entry)) r (now (target .exit)) ⌝ }

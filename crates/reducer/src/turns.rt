@@ -3,6 +3,7 @@
 // they were, so the next pass may begin at the node that waits for it.
 
 use contraction::forms::form_at;
+use nodes::kinds::Kinds;
 use nodes::kinds::row_at;
 use writing::spans::skip;
 ghost use mathlib.Core.Bool.{true, cond};
@@ -47,7 +48,7 @@ fn taking(start: usize, takes: usize, rest: usize, own: bool) -> Look
 }
 
 // A look at the node that the words start with.
-fn look_at(table: &[u64; 48], words: &[u32]) -> Look
+fn look_at(table: &Kinds, words: &[u32]) -> Look
     requires { ⌜ (now table ≡ kinds) × (length (now words) ≤ 1048576) × (1 ≤ length (now words)) ⌝ }
     ensures { λ r. ⌜ Looked (now (words .entry)) r ⌝ }
 {
@@ -73,7 +74,7 @@ fn look_at(table: &[u64; 48], words: &[u32]) -> Look
 
 // The words from the place i on are the rest of the node that waited, if one did.
 fn finish(
-    table: &[u64; 48],
+    table: &Kinds,
     words: &[u32],
     i: usize,
     rest: usize,
@@ -101,7 +102,7 @@ fn around(waits: bool, node: From, here: From) -> From
 }
 
 // A walk from a place of a term whose words these are, which may be 2^20. `due` parts that evaluation takes stand from the place i on.
-pub fn turn(table: &[u64; 48], words: &[u32], from: From) -> Found
+pub fn turn(table: &Kinds, words: &[u32], from: From) -> Found
     requires { ⌜ (now table ≡ kinds) × (length (now words) ≤ 1048576) × (from .due ≤ 1 + 3 * from .place) ⌝ }
     ensures spanned { λ r. ⌜ Spanned (now (words .entry)) r ⌝ }
     ensures is { λ r. ⌜ Turns (now (words .entry)) from from r ⌝ }

@@ -1,5 +1,6 @@
 // The rules of the typing: of ML on references to types, of Scheme on none. Where there is no type, the reference that is answered is 0.
 
+use nodes::kinds::Kinds;
 use nodes::kinds::row_at;
 use types::codomain;
 use types::former_at;
@@ -49,7 +50,7 @@ pub fn concluded(at: usize, t: usize, next: usize) -> Inferred
 
 // From the lambda at `scope` outwards, the one with so many others between, if it is of the sort; else 0.
 fn lambda(
-    table: &[u64; 48],
+    table: &Kinds,
     all: &[u32],
     link: &[u16],
     sort: u64,
@@ -77,7 +78,7 @@ fn lambda(
 
 // The ML variable at `at`, whose word is w, inside the lambda at `scope`.
 pub fn variable(
-    table: &[u64; 48],
+    table: &Kinds,
     all: &[u32],
     link: &[u16],
     scope: usize,
@@ -97,7 +98,7 @@ pub fn variable(
 
 // The same of a Scheme variable.
 pub fn scheme_variable(
-    table: &[u64; 48],
+    table: &Kinds,
     all: &[u32],
     link: &[u16],
     scope: usize,
@@ -115,7 +116,7 @@ pub fn scheme_variable(
 }
 
 // The place past the argument type, where t means a function type; else 0.
-fn argument_end(table: &[u64; 48], all: &[u32], t: usize) -> usize
+fn argument_end(table: &Kinds, all: &[u32], t: usize) -> usize
     requires { ⌜ now table ≡ kinds ⌝ }
     ensures { λ r. ⌜ ArgumentEnd (now (all .entry)) t r ⌝ }
 {
@@ -126,7 +127,7 @@ fn argument_end(table: &[u64; 48], all: &[u32], t: usize) -> usize
 }
 
 // The element type, where t means a list type.
-fn element(table: &[u64; 48], all: &[u32], t: usize) -> usize
+fn element(table: &Kinds, all: &[u32], t: usize) -> usize
     requires { ⌜ now table ≡ kinds ⌝ }
     ensures { λ r. ⌜ r ≡ elementOf (now (all .entry)) t ⌝ }
 {
@@ -137,7 +138,7 @@ fn element(table: &[u64; 48], all: &[u32], t: usize) -> usize
 }
 
 // fix of a t.
-fn fixed(table: &[u64; 48], all: &[u32], link: &[u16], t: usize) -> usize
+fn fixed(table: &Kinds, all: &[u32], link: &[u16], t: usize) -> usize
     requires { ⌜ (now table ≡ kinds) × (length (now link) ≡ length (now all)) ⌝ }
     ensures { λ r. ⌜ Fixed (now (all .entry)) (now (link .entry)) t r ⌝ }
 {
@@ -154,7 +155,7 @@ fn fixed(table: &[u64; 48], all: &[u32], link: &[u16], t: usize) -> usize
 }
 
 // A t applied to a u.
-fn applied(table: &[u64; 48], all: &[u32], link: &[u16], t: usize, u: usize) -> usize
+fn applied(table: &Kinds, all: &[u32], link: &[u16], t: usize, u: usize) -> usize
     requires { ⌜ (now table ≡ kinds) × (length (now link) ≡ length (now all)) ⌝ }
     ensures { λ r. ⌜ Applied (now (all .entry)) (now (link .entry)) t u r ⌝ }
 {
@@ -170,7 +171,7 @@ fn applied(table: &[u64; 48], all: &[u32], link: &[u16], t: usize, u: usize) -> 
 }
 
 // cons of a t and a u.
-fn paired(table: &[u64; 48], all: &[u32], link: &[u16], t: usize, u: usize) -> usize
+fn paired(table: &Kinds, all: &[u32], link: &[u16], t: usize, u: usize) -> usize
     requires { ⌜ (now table ≡ kinds) × (length (now link) ≡ length (now all)) ⌝ }
     ensures { λ r. ⌜ Paired (now (all .entry)) (now (link .entry)) t u r ⌝ }
 {
@@ -185,7 +186,7 @@ fn paired(table: &[u64; 48], all: &[u32], link: &[u16], t: usize, u: usize) -> u
 }
 
 // The operator of one part at `at`, whose word is w, of a t.
-pub fn result_1(table: &[u64; 48], all: &[u32], link: &[u16], w: u32, at: usize, t: usize) -> usize
+pub fn result_1(table: &Kinds, all: &[u32], link: &[u16], w: u32, at: usize, t: usize) -> usize
     requires { ⌜ (now table ≡ kinds) × (length (now link) ≡ length (now all)) ⌝ }
     ensures { λ r. ⌜ Result1 (now (all .entry)) (now (link .entry)) w at t r ⌝ }
 {
@@ -206,7 +207,7 @@ pub fn result_1(table: &[u64; 48], all: &[u32], link: &[u16], w: u32, at: usize,
 }
 
 // The operator of two parts whose word is w, of a t and a u.
-pub fn result_2(table: &[u64; 48], all: &[u32], link: &[u16], w: u32, t: usize, u: usize) -> usize
+pub fn result_2(table: &Kinds, all: &[u32], link: &[u16], w: u32, t: usize, u: usize) -> usize
     requires { ⌜ (now table ≡ kinds) × (length (now link) ≡ length (now all)) ⌝ }
     ensures { λ r. ⌜ Result2 (now (all .entry)) (now (link .entry)) w t u r ⌝ }
 {
@@ -226,7 +227,7 @@ pub fn result_2(table: &[u64; 48], all: &[u32], link: &[u16], w: u32, t: usize, 
 }
 
 // if0 of a t, a u and a v.
-pub fn result_3(table: &[u64; 48], all: &[u32], link: &[u16], t: usize, u: usize, v: usize) -> usize
+pub fn result_3(table: &Kinds, all: &[u32], link: &[u16], t: usize, u: usize, v: usize) -> usize
     requires { ⌜ (now table ≡ kinds) × (length (now link) ≡ length (now all)) ⌝ }
     ensures { λ r. ⌜ Result3 (now (all .entry)) (now (link .entry)) t u v r ⌝ }
 {
@@ -251,7 +252,7 @@ pub fn at_ms(at: usize, one: Formed) -> Inferred
 }
 
 // sm, which stands at `at` with its type behind it, of an ML term.
-pub fn at_sm(table: &[u64; 48], all: &[u32], link: &[u16], at: usize, one: Inferred) -> Formed
+pub fn at_sm(table: &Kinds, all: &[u32], link: &[u16], at: usize, one: Inferred) -> Formed
     requires { ⌜ (now table ≡ kinds) × (length (now link) ≡ length (now all)) × (at < length (now all)) ⌝ }
     ensures { λ r. ⌜ Crossed sc (now (all .entry)) (now (link .entry)) at (inferred one) (formed r) ⌝ }
 {

@@ -3,6 +3,7 @@
 // the list of the type written after it; a lambda means the function from the type written after it to the type that its link refers to.
 // There is a link for each word of the file. 0, where the header stands, is no reference.
 
+use nodes::kinds::Kinds;
 use nodes::kinds::row_at;
 ghost use mathlib.Core.Path.{_≡_};
 ghost use Prim.Native.Nat.{_+_, _≤_, _<_, _^_};
@@ -24,7 +25,7 @@ pub enum Comparison {
 }
 
 // Compares the types that x, which stands at a place, and y begin with.
-fn compare_words(table: &[u64; 48], x: &[u32], y: &[u32], at: usize) -> Match
+fn compare_words(table: &Kinds, x: &[u32], y: &[u32], at: usize) -> Match
     requires { ⌜ (now table ≡ kinds) × (at + length (now x) < 2 ^ 63) ⌝ }
     ensures { λ r. ⌜ Matched (now (x .entry)) (now (y .entry)) at r ⌝ }
 {
@@ -54,7 +55,7 @@ fn compare_words(table: &[u64; 48], x: &[u32], y: &[u32], at: usize) -> Match
 }
 
 // The place past the type that is written at a place.
-pub fn type_end(table: &[u64; 48], all: &[u32], at: usize) -> usize
+pub fn type_end(table: &Kinds, all: &[u32], at: usize) -> usize
     requires { ⌜ (now table ≡ kinds) × (at ≤ length (now all)) ⌝ }
     ensures { λ r. ⌜ Ends (now (all .entry)) at r ⌝ }
 {
@@ -65,7 +66,7 @@ pub fn type_end(table: &[u64; 48], all: &[u32], at: usize) -> usize
 }
 
 // The shape of the word at a place; 0 where there is none.
-pub fn shape_at(table: &[u64; 48], all: &[u32], p: usize) -> u64
+pub fn shape_at(table: &Kinds, all: &[u32], p: usize) -> u64
     requires { ⌜ now table ≡ kinds ⌝ }
     ensures { λ r. ⌜ r ≡ shapeAt (now (all .entry)) p ⌝ }
 {
@@ -79,7 +80,7 @@ pub fn shape_at(table: &[u64; 48], all: &[u32], p: usize) -> u64
 }
 
 // The shape of the type that a reference means.
-pub fn former_at(table: &[u64; 48], all: &[u32], p: usize) -> u64
+pub fn former_at(table: &Kinds, all: &[u32], p: usize) -> u64
     requires { ⌜ now table ≡ kinds ⌝ }
     ensures { λ r. ⌜ r ≡ formerAt (now (all .entry)) p ⌝ }
 {
@@ -107,7 +108,7 @@ fn place(x: u16) -> usize
 }
 
 // The result type of the function type at p, whose argument type ends before `end`.
-pub fn codomain(table: &[u64; 48], all: &[u32], link: &[u16], p: usize, end: usize) -> usize
+pub fn codomain(table: &Kinds, all: &[u32], link: &[u16], p: usize, end: usize) -> usize
     requires { ⌜ (now table ≡ kinds) × (length (now link) ≡ length (now all)) ⌝ }
     ensures { λ r. ⌜ r ≡ codomainOf (now (all .entry)) (now (link .entry)) p end ⌝ }
 {
@@ -119,7 +120,7 @@ pub fn codomain(table: &[u64; 48], all: &[u32], link: &[u16], p: usize, end: usi
 
 // The same for references that have fewer arrows in a row than `room`.
 fn compare_within(
-    table: &[u64; 48],
+    table: &Kinds,
     all: &[u32],
     link: &[u16],
     p: usize,
@@ -156,7 +157,7 @@ fn compare_within(
 }
 
 // Compares the types of two references. No type of a file has as many arrows in a row as twice its words.
-pub fn compare(table: &[u64; 48], all: &[u32], link: &[u16], p: usize, q: usize) -> Comparison
+pub fn compare(table: &Kinds, all: &[u32], link: &[u16], p: usize, q: usize) -> Comparison
     requires { ⌜ (now table ≡ kinds) × (length (now link) ≡ length (now all)) ⌝ }
     ensures { λ r. ⌜ Compared (now (all .entry)) (now (link .entry)) p q r ⌝ }
 {
@@ -164,7 +165,7 @@ pub fn compare(table: &[u64; 48], all: &[u32], link: &[u16], p: usize, q: usize)
 }
 
 // Whether two references mean one type.
-pub fn same(table: &[u64; 48], all: &[u32], link: &[u16], p: usize, q: usize) -> bool
+pub fn same(table: &Kinds, all: &[u32], link: &[u16], p: usize, q: usize) -> bool
     requires { ⌜ (now table ≡ kinds) × (length (now link) ≡ length (now all)) ⌝ }
     ensures { λ r. ⌜ Equality (now (all .entry)) (now (link .entry)) p q r ⌝ }
 {

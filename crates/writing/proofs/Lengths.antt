@@ -11,7 +11,7 @@ use native.Mathlib.Omega.{arith}
 use Rattle.calculus.specs.Scope.{partCount}
 use Rattle.nodes.specs.Table.{rowOf}
 use Rattle.nodes.specs.Walks.{sortsOf}
-use Rattle.nodes.proofs.Table.{same-list, past}
+use Rattle.nodes.proofs.Table.{by-rows}
 use Rattle.nodes.proofs.Lambdas.{part-count}
 use Rattle.writing.specs.Spans.{span}
 
@@ -56,13 +56,7 @@ partsBy shape n = cond (eqb shape 2) 0 (cond (eqb shape 4) 1 (cond (eqb shape 5)
 
 parts-by : (k : ℕ) → length (sortsOf (rowOf k .parts)) ≡ partsBy (rowOf k .shape) (length (sortsOf (rowOf k .parts)))
 unfolding rowOf sortsOf
-parts-by k = by (ltb k 48) refl
-  where
-    by : (t : Bool) → ltb k 48 ≡ t → length (sortsOf (rowOf k .parts)) ≡ partsBy (rowOf k .shape) (length (sortsOf (rowOf k .parts)))
-    by true g =
-        same-list (λ j. length (sortsOf (rowOf j .parts))) (λ j. partsBy (rowOf j .shape) (length (sortsOf (rowOf j .parts)))) 48 refl k
-        (ltb-true k 48 g)
-    by false g = rw (past k (ltb-false k 48 g))
+parts-by = by-rows (λ r. length (sortsOf (r .parts))) (λ r. partsBy (r .shape) (length (sortsOf (r .parts)))) refl refl
 
 pub shape-parts : (w shape : ℕ) → rowOf (w % 256) .shape ≡ shape → (n : ℕ) → partsBy shape (partCount w) ≡ n → partCount w ≡ n
 shape-parts w shape e n h =

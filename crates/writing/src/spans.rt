@@ -1,5 +1,6 @@
 // How many words nodes have.
 
+use nodes::kinds::Kinds;
 use nodes::kinds::row_at;
 ghost use mathlib.Core.Path.{_≡_};
 ghost use Prim.Native.Nat.{_+_, _*_, _<_, _≤_, _^_};
@@ -27,7 +28,7 @@ pub fn count(parts: u64) -> usize
 }
 
 // How many words the first nodes have, so many as are due.
-pub fn skip(table: &[u64; 48], words: &[u32], due: usize) -> usize
+pub fn skip(table: &Kinds, words: &[u32], due: usize) -> usize
     requires { ⌜ (now table ≡ kinds) × (due + 3 * length (now words) < 2 ^ 62) ⌝ }
     ensures within { λ r. ⌜ r ≤ length (now (words .entry)) ⌝ }
     ensures is { λ r. ⌜ r ≡ span (now (words .entry)) due ⌝ }

@@ -3,6 +3,7 @@
 use crate::copy;
 use crate::put;
 use crate::spans::count;
+use nodes::kinds::Kinds;
 use nodes::kinds::row_at;
 ghost use mathlib.Core.Path.{_≡_};
 ghost use Prim.Native.Nat.{_+_, _*_, _<_, _≤_, _^_};
@@ -21,7 +22,7 @@ pub struct Reached {
 // after the lambda, the loop goes on with its parts; only at other lambdas the function calls itself. Where there are fewer words than nodes
 // due, it stops.
 pub fn substitute(
-    table: &[u64; 48],
+    table: &Kinds,
     words: &[u32],
     at: usize,
     due: usize,
