@@ -65,16 +65,16 @@ lead-written sc (nil u) w k at t d q = absurd (Option·none-ne-some t q)
 lead-written sc (wrong c u) w k at t d q = absurd (Option·none-ne-some t q)
 
 module _ {w : List ℕ} {at : ℕ} {row : code.Row} (R : Read w at row) where
-  told : (b : Bool) → eqb (row .parts % 4) 1 ≡ b → (l : Lang) (e : Term l) (k : List ℕ) → drop at w ≡ put e k → has (lead e) ≡ b
+  told : (b : Bool) → eqb (row .parts % 5) 1 ≡ b → (l : Lang) (e : Term l) (k : List ℕ) → drop at w ≡ put e k → has (lead e) ≡ b
   told b q l e k d = lead-told l e ∙ sym (lead-row R e k d) ∙ q
 
   -- The ways out: past the type, or right behind the word.
-  pub past-type : {r : ℕ} → row .parts % 4 ≡ 1 → Ends w (at + 1) r → PartsStart w at r
+  pub past-type : {r : ℕ} → row .parts % 5 ≡ 1 → Ends w (at + 1) r → PartsStart w at r
   past-type {r} q n =
       record {
         least = omega (arith, n .least);
         most = n .most;
-        is = λ l e k d. by l e k d (lead e) refl (told true (eq-eqb (row .parts % 4) 1 q) l e k d);
+        is = λ l e k d. by l e k d (lead e) refl (told true (eq-eqb (row .parts % 5) 1 q) l e k d);
       }
     where
       by : (l : Lang) (e : Term l) (k : List ℕ) → drop at w ≡ put e k → (o : Option Ty) → lead e ≡ o → has o ≡ true
@@ -82,12 +82,12 @@ module _ {w : List ℕ} {at : ℕ} {row : code.Row} (R : Read w at row) where
       by l e k d none p h = absurd (clash (sym h))
       by l e k d (some t) p h = n .is t (lead-written l e w k at t d p)
 
-  pub right-behind : (row .parts % 4 ≡ 1 → ⊥) → PartsStart w at (at + 1)
+  pub right-behind : (row .parts % 5 ≡ 1 → ⊥) → PartsStart w at (at + 1)
   right-behind q =
       record {
         least = omega arith;
         most = omega (arith, R .within);
-        is = λ l e k d. by (lead e) (told false (ne-eqb (row .parts % 4) 1 q) l e k d);
+        is = λ l e k d. by (lead e) (told false (ne-eqb (row .parts % 5) 1 q) l e k d);
       }
     where
       by : (o : Option Ty) → has o ≡ false → at + 1 ≡ at + 1 + found o 0 (λ t. sizeTy t)

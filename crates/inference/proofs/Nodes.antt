@@ -30,15 +30,15 @@ abbrev pub leads : ℕ → ℕ → Bool
 leads s h = cond (eqb h 9) true (cond (eqb s 2) (cond (eqb h 3) true (cond (eqb h 7) true (eqb h 8))) (leb 12 h))
 
 abbrev schemeParts : ℕ → ℕ
-schemeParts h = cond (eqb h 3) 3 (cond (eqb h 4) 3 (cond (eqb h 5) 15 (cond (eqb h 6) 63 (cond (eqb h 9) 9 0))))
+schemeParts h = cond (eqb h 3) 3 (cond (eqb h 4) 3 (cond (eqb h 5) 18 (cond (eqb h 6) 93 (cond (eqb h 9) 11 0))))
 
 leaf-at : (k : ℕ) → ltb (rowOf k .parts) 2 ≡ isLeaf (rowOf k .shape)
 unfolding rowOf
 leaf-at = by-rows (λ r. ltb (r .parts) 2) (λ r. isLeaf (r .shape)) refl refl
 
-lead-at : (k : ℕ) → eqb (rowOf k .parts % 4) 1 ≡ leads (rowOf k .sort) (rowOf k .shape)
+lead-at : (k : ℕ) → eqb (rowOf k .parts % 5) 1 ≡ leads (rowOf k .sort) (rowOf k .shape)
 unfolding rowOf
-lead-at = by-rows (λ r. eqb (r .parts % 4) 1) (λ r. leads (r .sort) (r .shape)) refl refl
+lead-at = by-rows (λ r. eqb (r .parts % 5) 1) (λ r. leads (r .sort) (r .shape)) refl refl
 
 scheme-at : (k : ℕ) → cond (eqb (rowOf k .sort) 3) (rowOf k .parts) 0 ≡ cond (eqb (rowOf k .sort) 3) (schemeParts (rowOf k .shape)) 0
 unfolding rowOf
@@ -86,8 +86,8 @@ module _ {w : List ℕ} {at : ℕ} {row : code.Row} (R : Read w at row) where
         ap f (R .known) ∙ h (getD w at 0 % 256) ∙ ap (λ (r : code.Row). g (r .sort) (r .shape)) (sym (R .known))
         ∙ ap (λ (s : ℕ). g s (row .shape)) sort-told ∙ ap (g (sortNumber (term l))) shape-told
 
-    pub lead-row : eqb (row .parts % 4) 1 ≡ leads (sortNumber (term l)) (shapeNumber (term l) e)
-    lead-row = of-row (λ r. eqb (r .parts % 4) 1) leads lead-at
+    pub lead-row : eqb (row .parts % 5) 1 ≡ leads (sortNumber (term l)) (shapeNumber (term l) e)
+    lead-row = of-row (λ r. eqb (r .parts % 5) 1) leads lead-at
 
     leaf-row : ltb (row .parts) 2 ≡ isLeaf (shapeNumber (term l) e)
     leaf-row = of-row (λ r. ltb (r .parts) 2) (λ s h. isLeaf h) leaf-at
@@ -158,11 +158,11 @@ module _ {w : List ℕ} {at : ℕ} {row : code.Row} (R : Read w at row) where
           by e h (three a b c) = node.a-choice a b c
 
     -- In Scheme the parts' sorts tell as much.
-    pub scheme-one : row .parts < 4 → (e : Term sc) (k : List ℕ) → drop at w ≡ put e k → Several sc e → ⊥
+    pub scheme-one : row .parts < 5 → (e : Term sc) (k : List ℕ) → drop at w ≡ put e k → Several sc e → ⊥
     scheme-one n e k d (two o a b) = omega (arith, scheme-row (op2 o a b) k d)
     scheme-one n e k d (three a b c) = omega (arith, scheme-row (if0 a b c) k d)
 
-    module _ (n4 : 4 ≤ row .parts) where
+    module _ (n5 : 5 ≤ row .parts) where
       pub scheme-several : Of sc w at (Several sc)
       scheme-several e k d = by e (scheme-row e k d) (branches sc e k d)
         where
@@ -171,14 +171,14 @@ module _ {w : List ℕ} {at : ℕ} {row : code.Row} (R : Read w at row) where
           by e h (one o a) = absurd (omega (arith, h))
           by e h (more s) = s
 
-      pub scheme-two : row .parts < 16 → Of sc w at (Shaped sc 5)
+      pub scheme-two : row .parts < 25 → Of sc w at (Shaped sc 5)
       scheme-two n e k d = by e (scheme-row e k d) (scheme-several e k d)
         where
           by : (e : Term sc) → row .parts ≡ schemeParts (shapeNumber (term sc) e) → Several sc e → Shaped sc 5 e
           by e h (two o a b) = node.two-parts o a b
           by e h (three a b c) = absurd (omega (arith, h))
 
-      pub scheme-three : 16 ≤ row .parts → Of sc w at (Shaped sc 6)
+      pub scheme-three : 25 ≤ row .parts → Of sc w at (Shaped sc 6)
       scheme-three n e k d = by e (scheme-row e k d) (scheme-several e k d)
         where
           by : (e : Term sc) → row .parts ≡ schemeParts (shapeNumber (term sc) e) → Several sc e → Shaped sc 6 e

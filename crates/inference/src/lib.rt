@@ -4,6 +4,7 @@
 
 pub mod parts;
 
+use nodes::kinds::BASE;
 use nodes::kinds::Kinds;
 use nodes::kinds::row_at;
 use parts::function;
@@ -24,13 +25,13 @@ ghost use Rattle.rules.specs.Answers.{inferred, formed};
 ghost use Rattle.inference.specs.Parts.{Begins};
 ghost use Rattle.inference.specs.Infers.{Infers};
 
-// A row's parts are the digits of a number in base 4, the first the lowest. A node whose number is below these has no part that is a term, fewer
+// A row's parts are the digits of a number in base 5, the first the lowest. A node whose number is below these has no part that is a term, fewer
 // than two parts, and fewer than three.
 const SOME_TERM: u64 = 2;
 
-const TWO_PARTS: u64 = 4;
+const TWO_PARTS: u64 = BASE;
 
-const THREE_PARTS: u64 = 16;
+const THREE_PARTS: u64 = BASE * BASE;
 
 // The type of the ML term that starts at the place `at`, inside the lambda at `scope`.
 pub fn infer(

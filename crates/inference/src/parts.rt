@@ -22,7 +22,7 @@ pub fn parts_start(table: &Kinds, all: &[u32], row: Row, at: usize) -> usize
     ensures { λ r. ⌜ PartsStart (now (all .entry)) at r ⌝ }
 {
     let first = at + 1;
-    if row.parts % 4 == nodes::kinds::TYPE {
+    if row.parts % nodes::kinds::BASE == nodes::kinds::TYPE {
         return type_end(table, all, first);
     }
     first

@@ -12,8 +12,8 @@ use Rattle.calculus.specs.Verdicts.{found}
 use Rattle.calculus.specs.Trees.{ml, sc}
 use Rattle.calculus.specs.Kinds.{Sort, type, term, Row, table, rowIn, rowFor}
 use Rattle.nodes.specs.declared.kinds.Row as code
-use Rattle.nodes.specs.Table.{sortNumber, rowOf}
-use Rattle.nodes.specs.Walks.{sortThen, sortsOf, isDue}
+use Rattle.nodes.specs.Table.{sortNumber, rowOf, rows, listed}
+use Rattle.nodes.specs.Walks.{sortThen, sortsOf, Digits, isDue}
 use Rattle.nodes.proofs.Table.{not-in, past, by-table, by-rows}
 
 -- What a walk needs of a row: its parts and its operand's range.
@@ -63,36 +63,43 @@ row-due x f s w =
     ∙ by-row x f (w / 256) (eqb (rowOf (w % 256) .sort) (sortNumber s)) _ (rowOf (w % 256)) refl
 
 -- The sorts that a number stands for: none, or the first and the others.
-pub none-due : (d : ℕ) → d % 4 ≡ 0 → sortsOf d ≡ []
+pub none-due : (d : ℕ) → d % 5 ≡ 0 → sortsOf d ≡ []
 unfolding sortsOf
 none-due d h = rw h
 
 pub record FirstDue (d : ℕ) : Type 0 where
   pub sort : Sort
-  pub number : sortNumber sort ≡ d % 4
-  pub sorts : sortsOf d ≡ sort ∷ sortsOf (d / 4)
+  pub number : sortNumber sort ≡ d % 5
+  pub sorts : sortsOf d ≡ sort ∷ sortsOf (d / 5)
 
-pub first-due : (d : ℕ) → d < 64 → (d % 4 ≡ 0 → ⊥) → FirstDue d
+pub first-due : (d : ℕ) → Digits d → (d % 5 ≡ 0 → ⊥) → FirstDue d
 unfolding sortsOf
-first-due d h g = by (d % 4) refl
+first-due d h g = by (d % 5) refl
   where
-    rest : sortThen (d / 4 % 4) (sortThen (d / 16 % 4) []) ≡ sortThen (d / 4 % 4) (sortThen (d / 4 / 4 % 4) (sortThen (d / 4 / 16 % 4) []))
+    rest : sortThen (d / 5 % 5) (sortThen (d / 25 % 5) []) ≡ sortThen (d / 5 % 5) (sortThen (d / 5 / 5 % 5) (sortThen (d / 5 / 25 % 5) []))
     rest =
-        let e : d / 16 % 4 ≡ d / 4 / 4 % 4 = omega arith in
-        let z : d / 4 / 16 % 4 ≡ 0 = omega arith in
+        let e : d / 25 % 5 ≡ d / 5 / 5 % 5 = omega arith in
+        let z : d / 5 / 25 % 5 ≡ 0 = omega (arith, h .third) in
         rw (e, z)
 
-    by : (n : ℕ) → d % 4 ≡ n → FirstDue d
+    by : (n : ℕ) → d % 5 ≡ n → FirstDue d
     by zero e = absurd (g e)
     by (suc zero) e = record { sort = type; number = sym e; sorts = rw e (ap (λ (l : List Sort). type ∷ l) rest) }
     by (suc (suc zero)) e = record { sort = term ml; number = sym e; sorts = rw e (ap (λ (l : List Sort). term ml ∷ l) rest) }
     by (suc (suc (suc zero))) e = record { sort = term sc; number = sym e; sorts = rw e (ap (λ (l : List Sort). term sc ∷ l) rest) }
-    by (suc (suc (suc (suc n)))) e = absurd (omega (arith, e))
+    by (suc (suc (suc (suc n)))) e = absurd (omega (arith, e, h .first))
 
-small : (k : ℕ) → ltb (rowOf k .parts) 64 ≡ true
+-- One digit, the digits but the first, and a kind's parts stand for sorts.
+pub one-digit : (d : ℕ) → d < 4 → Digits d
+one-digit d h = record { first = omega arith; second = omega arith; third = omega arith }
+
+pub other-digits : (d : ℕ) → Digits d → Digits (d / 5)
+other-digits d h = record { first = h .second; second = omega (arith, h .third); third = omega (arith, h .third) }
+
+below : (f : ℕ → ℕ) → listed (λ k. ltb (f (rowOf k .parts)) 4) 0 rows ≡ listed (λ k. true) 0 rows → ltb (f 0) 4 ≡ true → (k : ℕ) → f (rowOf k .parts) < 4
+below f e z k = ltb-true (f (rowOf k .parts)) 4 (by-rows (λ r. ltb (f (r .parts)) 4) (λ r. true) e z k)
+
+pub parts-digits : (k : ℕ) → Digits (rowOf k .parts)
 unfolding rowOf
-small = by-rows (λ r. ltb (r .parts) 64) (λ r. true) refl refl
-
--- A kind's parts are at most three.
-pub parts-small : (k : ℕ) → rowOf k .parts < 64
-parts-small k = ltb-true (rowOf k .parts) 64 (small k)
+parts-digits k =
+    record { first = below (λ p. p % 5) refl refl k; second = below (λ p. p / 5 % 5) refl refl k; third = below (λ p. p / 25) refl refl k }

@@ -1,5 +1,5 @@
 -- The ways out of the walk with levels: `ws` are the words left, `at` are gone by, `due` and `room` say what is due. Assumes nothing.
-use Prim.Native.Nat.{ℕ, _+_, _-_, _/_, _%_, _≤_, _<_}
+use Prim.Native.Nat.{ℕ, _+_, _-_, _/_, _%_, _≤_}
 use mathlib.Core.Bool.{true, false, cond}
 use mathlib.Core.List.{List, _∷_}
 use mathlib.Core.Path.{_≡_, sym, ap, _∙_}
@@ -14,7 +14,7 @@ use Rattle.nodes.specs.declared.refusals.Refusal.{Refusal}
 use Rattle.nodes.specs.declared.walks.Walked.{Walked}
 use Rattle.nodes.specs.declared.walks.Walked.the-variants.{Took, Refused}
 use Rattle.nodes.specs.Table.{rowOf}
-use Rattle.nodes.specs.Walks.{walked, sortsOf, isDue}
+use Rattle.nodes.specs.Walks.{walked, sortsOf, Digits, isDue}
 use Rattle.nodes.proofs.Dues.{row-due, none-due, FirstDue, first-due}
 use Rattle.nodes.proofs.Ways as ways
 
@@ -22,15 +22,15 @@ use Rattle.nodes.proofs.Ways as ways
 abbrev pub Answer : List ℕ → ℕ → ℕ → ℕ → Verdict ℕ
 Answer ws at due room = later at (walk nestedDue ws (levelled room (sortsOf due)))
 
-pub nothing-due : (ws : List ℕ) (at due room : ℕ) → due % 4 ≡ 0 → passed at ≡ Answer ws at due room
+pub nothing-due : (ws : List ℕ) (at due room : ℕ) → due % 5 ≡ 0 → passed at ≡ Answer ws at due room
 nothing-due ws at due room h = rw (none-due due h) (ways.done nestedDue ws at)
 
-module _ (ws : List ℕ) (at due room : ℕ) (small : due < 64) (some : due % 4 ≡ 0 → ⊥) where
+module _ (ws : List ℕ) (at due room : ℕ) (small : Digits due) (some : due % 5 ≡ 0 → ⊥) where
   abbrev d : FirstDue due
   d = first-due due small some
 
   abbrev rest : List (Sort × ℕ)
-  rest = levelled room (sortsOf (due / 4))
+  rest = levelled room (sortsOf (due / 5))
 
   answer-is : later at (walk nestedDue ws ((d .sort, room) ∷ rest)) ≡ Answer ws at due room
   answer-is = ap (λ (ss : List Sort). later at (walk nestedDue ws (levelled room ss))) (sym (d .sorts))
@@ -40,15 +40,15 @@ module _ (ws : List ℕ) (at due room : ℕ) (small : due < 64) (some : due % 4 
 
   module _ (more : length ws ≡ 0 → ⊥) (row : code.Row) (is : row ≡ rowOf (getD ws 0 0 % 256)) where
     due-is : nestedDue (d .sort, room) (getD ws 0 0)
-        ≡ cond (isDue row (due % 4) (getD ws 0 0 / 256)) (cond (eqb room 0) (refuses 4) (opens (levelled (room - 1) (sortsOf (row .parts))))) (refuses 3)
+        ≡ cond (isDue row (due % 5) (getD ws 0 0 / 256)) (cond (eqb room 0) (refuses 4) (opens (levelled (room - 1) (sortsOf (row .parts))))) (refuses 3)
     due-is =
         row-due (refuses 3) (λ ps. cond (eqb room 0) (refuses 4) (opens (levelled (room - 1) ps))) (d .sort) (getD ws 0 0)
         ∙ rw (is, d .number)
 
-    pub undue : isDue row (due % 4) (getD ws 0 0 / 256) ≡ false → refused 3 at ≡ Answer ws at due room
+    pub undue : isDue row (due % 5) (getD ws 0 0 / 256) ≡ false → refused 3 at ≡ Answer ws at due room
     undue h = ways.stopped nestedDue ws at (d .sort, room) rest more 3 (due-is ∙ rw h) ∙ answer-is
 
-    module _ (h : isDue row (due % 4) (getD ws 0 0 / 256) ≡ true) where
+    module _ (h : isDue row (due % 5) (getD ws 0 0 / 256) ≡ true) where
       pub too-deep : room ≡ 0 → refused 4 at ≡ Answer ws at due room
       too-deep z = ways.stopped nestedDue ws at (d .sort, room) rest more 4 (due-is ∙ rw (h, eq-eqb room 0 z)) ∙ answer-is
 
@@ -65,6 +65,6 @@ module _ (ws : List ℕ) (at due room : ℕ) (small : due < 64) (some : due % 4 
         pub inner-ends : (n : ℕ) → x ≡ Took n → (at + 1 ≤ n) × (n ≤ at + length ws)
         inner-ends n q = ways.inner-ends nestedDue ws at (d .sort, room) rest more ps opened x e n q
 
-        pub goes-on : (n : ℕ) → x ≡ Took n → (y : Walked) → walked y ≡ Answer (take (length ws - (n - at)) (drop (n - at) ws)) n (due / 4) room
+        pub goes-on : (n : ℕ) → x ≡ Took n → (y : Walked) → walked y ≡ Answer (take (length ws - (n - at)) (drop (n - at) ws)) n (due / 5) room
             → walked y ≡ Answer ws at due room
         goes-on n q y g = ways.goes-on nestedDue ws at (d .sort, room) rest more ps opened x e n q y g ∙ answer-is

@@ -29,7 +29,7 @@ same-list f g n e k h = sym (listed-at f (f 0) n k h) ∙ ap (λ (l : List _). g
 
 -- A row from its number.
 abbrev pub unpacked : ℕ → code.Row
-unpacked r = record { sort = r % 4; parts = r / 4 % 64; shape = r / 256 % 16; low = r / 4096 % 2; high = r / 8192 }
+unpacked r = record { sort = r % 5; parts = r / 5 % 125; shape = r / 625 % 64; low = r / 40000 % 2; high = r / 80000 }
 
 pub unpacked-at : (k : ℕ) → k < rows → unpacked (getD kinds k 0) ≡ rowOf k
 unfolding kinds rowOf

@@ -11,10 +11,10 @@ sortNumber type = 1
 sortNumber (term ml) = 2
 sortNumber (term sc) = 3
 
--- Sorts in order, as the digits of a number in base 4, the first the lowest.
+-- Sorts in order, as the digits of a number in base 5, the first the lowest.
 abbrev pub sortsNumber : List Sort → ℕ
 sortsNumber [] = 0
-sortsNumber (s ∷ ss) = sortNumber s + 4 * sortsNumber ss
+sortsNumber (s ∷ ss) = sortNumber s + 5 * sortsNumber ss
 
 -- The ten shapes of terms, ms and sm as one, and the four of types.
 abbrev pub shapeNumber : (s : Sort) → Tree s → ℕ
@@ -65,7 +65,7 @@ rows = 64
 
 -- A row in one number, and the whole table.
 abbrev pub packed : code.Row → ℕ
-packed r = r .sort + 4 * r .parts + 256 * r .shape + 4096 * r .low + 8192 * r .high
+packed r = r .sort + 5 * r .parts + 625 * r .shape + 40000 * r .low + 80000 * r .high
 
 abbrev pub listed {ℓ} : {A : Type ℓ} → (ℕ → A) → ℕ → ℕ → List A
 listed f k zero = []

@@ -1,5 +1,5 @@
 -- What is due in code, and what a walk answers.
-use Prim.Native.Nat.{ℕ, zero, suc, _+_, _/_, _%_}
+use Prim.Native.Nat.{ℕ, zero, suc, _+_, _/_, _%_, _<_}
 use mathlib.Core.Bool.{Bool, _&&_}
 use mathlib.Core.List.{List, [], _∷_}
 use lib.Dec.{eqb, leb}
@@ -18,7 +18,7 @@ abbrev pub walked : Walked → Verdict ℕ
 walked (Took n) = passed n
 walked (Refused r) = refusal r
 
--- The sorts that a number stands for: up to three digits in base 4, the first the lowest; 0 ends them.
+-- The sorts that a number stands for: up to three digits in base 5, the first the lowest; 0 ends them.
 abbrev pub sortThen : ℕ → List Sort → List Sort
 sortThen zero ss = []
 sortThen (suc zero) ss = type ∷ ss
@@ -26,7 +26,13 @@ sortThen (suc (suc zero)) ss = term ml ∷ ss
 sortThen (suc (suc (suc n))) ss = term sc ∷ ss
 
 unfoldable pub sortsOf : ℕ → List Sort
-sortsOf d = sortThen (d % 4) (sortThen (d / 4 % 4) (sortThen (d / 16 % 4) []))
+sortsOf d = sortThen (d % 5) (sortThen (d / 5 % 5) (sortThen (d / 25 % 5) []))
+
+-- Numbers that stand for sorts: three digits at most, each 0 or a sort's. The digit 4 is no sort's.
+pub record Digits (d : ℕ) : Type 0 where
+  pub first : d % 5 < 4
+  pub second : d / 5 % 5 < 4
+  pub third : d / 25 < 4
 
 -- A kind is of a sort, and has an operand in its range.
 abbrev pub isDue : code.Row → ℕ → ℕ → Bool

@@ -4,7 +4,9 @@ ghost use mathlib.Core.Path.{_≡_};
 ghost use Prim.Native.Nat.{_%_};
 ghost use Rattle.nodes.specs.Table.{rowOf, kinds};
 
-// The sorts of nodes. 0 is none.
+// The sorts of nodes are digits. 0 is none, and 4 is free.
+pub const BASE: u64 = 5;
+
 pub const TYPE: u64 = 1;
 
 pub const ML: u64 = 2;
@@ -39,17 +41,19 @@ pub const LIST: u64 = 12;
 pub const FUNCTION: u64 = 13;
 
 // The places of a row's columns: its parts' sorts, its shape, and its operand's range.
-const FIRST: u64 = 4;
+const FIRST: u64 = BASE;
 
-const SECOND: u64 = 16;
+const SECOND: u64 = BASE * FIRST;
 
-const THIRD: u64 = 64;
+const THIRD: u64 = BASE * SECOND;
 
-const SHAPE: u64 = 256;
+const SHAPE: u64 = BASE * THIRD;
 
-const FROM_ONE: u64 = 4096;
+const SHAPES: u64 = 64;
 
-const UP_TO: u64 = 8192;
+const FROM_ONE: u64 = SHAPES * SHAPE;
+
+const UP_TO: u64 = 2 * FROM_ONE;
 
 const LARGEST: u64 = 16777215;
 
@@ -128,7 +132,7 @@ pub const KINDS: Kinds = [
     0,
 ];
 
-// What the table says of a kind: its sort, its parts' sorts (the first in the lowest digit, in base 4; 0 ends them), its shape, and the least
+// What the table says of a kind: its sort, its parts' sorts (the first in the lowest digit, in base 5; 0 ends them), its shape, and the least
 // and the greatest operand.
 pub struct Row {
     pub sort: u64,
@@ -155,10 +159,10 @@ pub fn row_at(table: &Kinds, w: u32) -> Row
     }
     let r = table[k];
     Row {
-        sort: r % 4,
-        parts: r / 4 % 64,
-        shape: r / 256 % 16,
-        low: r / 4096 % 2,
-        high: r / 8192,
+        sort: r % BASE,
+        parts: r / FIRST % THIRD,
+        shape: r / SHAPE % SHAPES,
+        low: r / FROM_ONE % 2,
+        high: r / UP_TO,
     }
 }

@@ -12,7 +12,7 @@ ghost use lib.ListN.{length};
 ghost use Rattle.calculus.specs.Reading.{later, walk};
 ghost use Rattle.calculus.specs.Scope.{isFree, inside, scopeDue};
 ghost use Rattle.nodes.specs.Table.{kinds, rowOf};
-ghost use Rattle.nodes.specs.Walks.{walked};
+ghost use Rattle.nodes.specs.Walks.{walked, Digits};
 ghost use Rattle.nodes.specs.Around.{around, each, Entered};
 
 // A word is a variable without a lambda of its language there. The first `depth` bytes of `scope` are the languages of the lambdas around it.
@@ -59,11 +59,11 @@ fn variables(
     scope: &mut [u8],
     depth: usize,
 ) -> Walked
-    requires { ⌜ (now table ≡ kinds) × (due < 64) × (at + length (now words) < 2 ^ 63) × (depth + length (now words) ≤ length (now scope)) ⌝ }
+    requires { ⌜ (now table ≡ kinds) × Digits due × (at + length (now words) < 2 ^ 63) × (depth + length (now words) ≤ length (now scope)) ⌝ }
     ensures { λ r. ⌜ walked r ≡ later at (walk scopeDue (now (words .entry)) (each (around depth (now (scope .entry))) due)) ⌝ }
     ensures { λ _. ⌜ around depth (now (scope .exit)) ≡ around depth (now (scope .entry)) ⌝ }
 {
-    if due % 4 == 0 {
+    if due % crate::kinds::BASE == 0 {
         return Walked::Took(at);
     }
     if words.len() == 0 {
@@ -80,7 +80,14 @@ fn variables(
         return inner;
     };
     let n = end - at;
-    variables(table, &words[n..], end, due / 4, scope, depth)
+    variables(
+        table,
+        &words[n..],
+        end,
+        due / crate::kinds::BASE,
+        scope,
+        depth,
+    )
 }
 
 // Refusal 5 over the whole term, whose words stand at a place of the file. For the rooms above; a term of a file has at most 4,096 words.

@@ -10,7 +10,7 @@ ghost use lib.ListN.{length};
 ghost use Rattle.calculus.specs.Reading.{later, walk, levelled, nestedDue, inOrder, nodeSize, nodeAt};
 ghost use Rattle.calculus.specs.Kinds.{Sort};
 ghost use Rattle.nodes.specs.Table.{kinds, sortNumber};
-ghost use Rattle.nodes.specs.Walks.{walked, sortsOf, isDue, bothOrdered};
+ghost use Rattle.nodes.specs.Walks.{walked, sortsOf, Digits, isDue, bothOrdered};
 
 // How many words were gone by when the walk ended, or why it did not.
 pub enum Walked {
@@ -34,10 +34,10 @@ fn is_due(row: Row, sort: u64, w: u32) -> bool
 
 // Walks over the nodes of the sorts due, one after the other, with so many levels of nesting left for each. `at` words are gone by.
 pub fn walk(table: &Kinds, words: &[u32], at: usize, due: u64, room: usize) -> Walked
-    requires { ⌜ (now table ≡ kinds) × (due < 64) × (at + length (now words) < 2 ^ 63) ⌝ }
+    requires { ⌜ (now table ≡ kinds) × Digits due × (at + length (now words) < 2 ^ 63) ⌝ }
     ensures { λ r. ⌜ walked r ≡ later at (walk nestedDue (now (words .entry)) (levelled room (sortsOf due))) ⌝ }
 {
-    let first = due % 4;
+    let first = due % crate::kinds::BASE;
     if first == 0 {
         return Walked::Took(at);
     }
@@ -57,7 +57,7 @@ pub fn walk(table: &Kinds, words: &[u32], at: usize, due: u64, room: usize) -> W
         return inner;
     };
     let n = end - at;
-    walk(table, &words[n..], end, due / 4, room)
+    walk(table, &words[n..], end, due / crate::kinds::BASE, room)
 }
 
 // Whether the words, which stand at a place of the file, are one node of a sort, nested no deeper than 256: refusals 3 and 4.

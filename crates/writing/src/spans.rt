@@ -1,27 +1,28 @@
 // How many words nodes have.
 
+use nodes::kinds::BASE;
 use nodes::kinds::Kinds;
 use nodes::kinds::row_at;
 ghost use mathlib.Core.Path.{_≡_};
 ghost use Prim.Native.Nat.{_+_, _*_, _<_, _≤_, _^_};
 ghost use lib.ListN.{length};
 ghost use Rattle.nodes.specs.Table.{kinds};
-ghost use Rattle.nodes.specs.Walks.{sortsOf};
+ghost use Rattle.nodes.specs.Walks.{sortsOf, Digits};
 ghost use Rattle.writing.specs.Spans.{span};
 
-// How many parts a row of the table has: its digits in base 4.
+// How many parts a row of the table has: its digits in base 5.
 pub fn count(parts: u64) -> usize
-    requires { ⌜ parts < 64 ⌝ }
+    requires { ⌜ Digits parts ⌝ }
     ensures { λ r. ⌜ r ≡ length (sortsOf parts) ⌝ }
     ensures most { λ r. ⌜ r ≤ 3 ⌝ }
 {
-    if parts % 4 == 0 {
+    if parts % BASE == 0 {
         return 0;
     }
-    if parts / 4 % 4 == 0 {
+    if parts / BASE % BASE == 0 {
         return 1;
     }
-    if parts / 16 == 0 {
+    if parts / BASE / BASE == 0 {
         return 2;
     }
     3

@@ -10,7 +10,8 @@ use native.Mathlib.Omega.{arith}
 use Rattle.calculus.specs.Trees.{Lang}
 use Rattle.nodes.specs.declared.walks.Walked.the-variants.{Took}
 use Rattle.nodes.specs.Around.{around}
-use Rattle.nodes.proofs.Dues.{parts-small}
+use Rattle.nodes.specs.Walks.{Digits}
+use Rattle.nodes.proofs.Dues.{parts-digits, other-digits}
 use Rattle.nodes.proofs.Lambdas.{kept-outside}
 use Rattle.nodes.proofs.Ways.{part-length}
 use Rattle.nodes.proofs.Scoping.{nothing-due, run-out, free, inner-refused, inner-ends, goes-on}
@@ -107,7 +108,7 @@ variables-variables-requires t c κs =
     let s = c .before .before .before .before .before .before .before .before .before .before .before .before .before .before .before in
     let l = part-length (s .args .words .now) 1 in
     let r = c .before .before .before .before .before .before .before .before .before .row-at in
-    let p : r .result .parts < 64 = rw (r .ensures) (parts-small (getD (s .args .words .now) 0 0 % 256)) in
+    let p : Digits (r .result .parts) = rw (r .ensures) (parts-digits (getD (s .args .words .now) 0 0 % 256)) in
     let n = pos-of-ne-zero (c .before .before .before .before .before .before .before .before .before .before .before .if2 .left) in
     let e = c .before .before .before .before .enter in
     (omega (arith, l, s .pre .0), (s .pre .1 .0, p, omega (arith, l, s .pre .1 .2), omega (arith, l, n, s .pre .1 .3, e .ensures .most, e .kept .1 .1 .0)))
@@ -158,7 +159,7 @@ variables-variables-requires-2 t c κs =
       omega (arith, l, e, s .pre .0),
       (
         s .pre .1 .0,
-        omega (arith, s .pre .1 .1),
+        other-digits (s .args .due) (s .pre .1 .1),
         omega (arith, l, e, s .pre .1 .2),
         omega (arith, l, e, s .pre .1 .3, c .before .before .before .before .before .before .before .before .before .before .before .before .enter .kept .1 .1 .0, v .variables .kept .1 .1 .1 .1 .0),
       ),

@@ -8,7 +8,8 @@ use Prim.Native.Nat.{_+_, _-_, _%_, _≤_}
 use native.Mathlib.Nat.{pos-of-ne-zero}
 use native.Mathlib.Omega.{arith}
 use Rattle.nodes.specs.declared.walks.Walked.the-variants.{Took}
-use Rattle.nodes.proofs.Dues.{parts-small}
+use Rattle.nodes.specs.Walks.{Digits}
+use Rattle.nodes.proofs.Dues.{parts-digits, other-digits}
 use Rattle.nodes.proofs.Ways.{part-length}
 use Rattle.nodes.proofs.Nested.{nothing-due, run-out, undue, too-deep, inner-refused, inner-ends, goes-on}
 use Prim.Native.Nat.{ℕ, _<_}
@@ -91,7 +92,7 @@ walk-walk-requires t c κs =
     let s = c .before .before .before .before .before .before .before .before .before in
     let l = part-length (s .args .words .now) 1 in
     let r = c .before .before .before .before .row-at in
-    let p : r .result .parts < 64 = rw (r .ensures) (parts-small (getD (s .args .words .now) 0 0 % 256)) in
+    let p : Digits (r .result .parts) = rw (r .ensures) (parts-digits (getD (s .args .words .now) 0 0 % 256)) in
     let n = pos-of-ne-zero (c .before .before .before .before .before .before .if2 .left) in
     (omega (arith, l, s .pre .0), (s .pre .1 .0, p, omega (arith, l, s .pre .1 .2)))
 
@@ -129,7 +130,7 @@ walk-walk-requires-2 t c κs =
     let n = c .before .before .inner .given .0 .0 in
     let l = part-length (s .args .words .now) (n - s .args .at) in
     let e = ends t (c .before .before .before .before) n (c .before .before .inner .given .1) in
-    (omega (arith, l, e, s .pre .0), (s .pre .1 .0, omega (arith, s .pre .1 .1), omega (arith, l, e, s .pre .1 .2)))
+    (omega (arith, l, e, s .pre .0), (s .pre .1 .0, other-digits (s .args .due) (s .pre .1 .1), omega (arith, l, e, s .pre .1 .2)))
 
 walk-returns-6 : (t : ℕ) → walk-lts.Need-returns-6 (calls t) (walk-at t) walk.Post
 walk-returns-6 t c =

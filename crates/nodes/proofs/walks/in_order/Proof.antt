@@ -1,11 +1,12 @@
 -- `nodes::walks::in_order` meets its contract. Assumes nothing.
+use Rattle.nodes.proofs.Dues.{one-digit}
 use Rattle.nodes.proofs.Readers.{not-before, order-refused, order-took, order-more}
 use borrow.Author.Needs.{needs}
 use Rattle.nodes.proofs.walks.in_order.Statement.{statement}
 use Rattle.nodes.proofs.walks.in_order.Tie as tie
 
 walk-requires : tie.Need-walk-requires
-walk-requires c κs = search needs
+walk-requires c κs = let p = c .before .pre in (p .0, one-digit _ (p .1), p .2)
 
 enum-known-found : tie.Need-enum-known-found
 enum-known-found c = search needs

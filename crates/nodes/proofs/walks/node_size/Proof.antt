@@ -6,6 +6,7 @@ use native.Mathlib.Omega.{arith}
 use Rattle.calculus.specs.Reading.{taken}
 use Rattle.nodes.specs.Table.{rowOf, kinds}
 use Rattle.nodes.specs.Walks.{walked}
+use Rattle.nodes.proofs.Dues.{one-digit}
 use Rattle.nodes.proofs.Readers.{no-node, node-is, sort-small}
 use borrow.Author.Needs.{needs}
 use Rattle.nodes.proofs.walks.node_size.Statement.{statement}
@@ -27,7 +28,7 @@ walk-requires c κs =
     let r = c .before .row-at in
     let ws = c .before .before .before .before .before .before .args .words .now in
     let h : r .result .sort < 4 = rw (r .ensures) (sort-small (getD ws 0 0 % 256)) in
-    (refl, omega (arith, h), omega (arith, c .before .before .before .before .before .before .good .0 .1))
+    (refl, one-digit (r .result .sort) h, omega (arith, c .before .before .before .before .before .before .good .0 .1))
 
 enum-known-n : tie.Need-enum-known-n
 enum-known-n c = search needs

@@ -4,7 +4,7 @@ use mathlib.Core.Path.{_≡_, sym, ap, _∙_}
 use Prim.Native.Nat.{_+_, _*_, _≤_, _-_}
 use native.Mathlib.Omega.{arith}
 use lib.ListN.{length, drop, getD}
-use Rattle.nodes.proofs.Dues.{parts-small}
+use Rattle.nodes.proofs.Dues.{parts-digits}
 use Rattle.nodes.proofs.Lambdas.{part-count}
 use Rattle.nodes.specs.Walks.{sortsOf}
 use Rattle.calculus.specs.Scope.{partCount}
@@ -40,7 +40,7 @@ sub-left : tie.Need-sub-left Inv-loop μ-loop
 sub-left c = search needs
 
 count-requires : tie.Need-count-requires Inv-loop μ-loop
-count-requires c κs = rw (c .row-at .ensures) (parts-small _)
+count-requires c κs = rw (c .row-at .ensures) (parts-digits _)
 
 add-left : tie.Need-add-left Inv-loop μ-loop
 add-left c = search needs

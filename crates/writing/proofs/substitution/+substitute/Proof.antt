@@ -8,7 +8,7 @@ use native.Mathlib.Omega.{arith}
 use Rattle.calculus.specs.Scope.{partCount}
 use Rattle.nodes.specs.Table.{rowOf}
 use Rattle.nodes.specs.Walks.{sortsOf}
-use Rattle.nodes.proofs.Dues.{parts-small}
+use Rattle.nodes.proofs.Dues.{parts-digits}
 use Rattle.nodes.proofs.Lambdas.{part-count}
 use Rattle.nodes.proofs.Ways.{part-length}
 use Rattle.writing.proofs.Stores.{wrote-length}
@@ -150,7 +150,7 @@ substitute-row-at-requires : (t : ℕ) → lts.Need-row-at-requires (calls t) (h
 substitute-row-at-requires t c κs = search needs
 
 substitute-count-requires : (t : ℕ) → lts.Need-count-requires (calls t) (here t) substitute.Post Inv μ-loop
-substitute-count-requires t c κs = rw (c .row-at .ensures) (parts-small _)
+substitute-count-requires t c κs = rw (c .row-at .ensures) (parts-digits _)
 
 substitute-add-left : (t : ℕ) → lts.Need-add-left (calls t) (here t) substitute.Post Inv μ-loop
 substitute-add-left t c = search needs
