@@ -19,10 +19,6 @@ end-is Spent = refl
 end-is Error = refl
 end-is Full = refl
 
--- Each case of a refusal.
-pub refused-as : (r s : Refusal) (x : RecipeRun) → x ≡ runNumbers (refusal s) → r ≡ s → x ≡ runNumbers (refusal r)
-refused-as r s x q e = q ∙ ap (λ (y : Refusal). runNumbers (refusal y)) (sym e)
-
 -- Either case of an answer.
 pub answer-refused : (v : Verdict Line) (a : Answer) (r : Refusal) (x : RecipeRun) → spoken a ≡ v → a ≡ Refused r → x ≡ runNumbers (refusal r) → x ≡ runNumbers v
 answer-refused v a r x s q e = e ∙ ap runNumbers (sym (ap spoken q) ∙ s)

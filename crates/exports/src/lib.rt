@@ -4,6 +4,8 @@ pub mod runs;
 
 use checker::Checked;
 use nodes::refusals::Refusal;
+use nodes::refusals::number;
+use nodes::refusals::place;
 ghost use mathlib.Core.Path.{_≡_};
 ghost use Prim.Native.Nat.{_+_, _*_, _≤_};
 ghost use Rattle.calculus.specs.File.{check};
@@ -16,16 +18,7 @@ fn packed(r: Refusal) -> u64
     requires { ⌜ placeOf r ≤ 4096 ⌝ }
     ensures { λ x. ⌜ x ≡ numberOf r + 256 * placeOf r ⌝ }
 {
-    match r {
-        Refusal::Bytes => 1,
-        Refusal::Header => 2,
-        Refusal::Word(p) => 3 + 256 * (p as u64),
-        Refusal::Nesting(p) => 4 + 256 * (p as u64),
-        Refusal::Variable(p) => 5 + 256 * (p as u64),
-        Refusal::Untyped(p) => 6 + 256 * (p as u64),
-        Refusal::Mistyped(p) => 7 + 256 * (p as u64),
-        Refusal::Capacity => 8,
-    }
+    number(r) as u64 + 256 * (place(r) as u64)
 }
 
 // The check of a file, for every file: 0 where it is accepted, else the refusal.

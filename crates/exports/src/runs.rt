@@ -5,6 +5,8 @@ use engine::ends::Report;
 use engine::runs::Answer;
 use engine::runs::run;
 use nodes::refusals::Refusal;
+use nodes::refusals::number;
+use nodes::refusals::place;
 ghost use mathlib.Core.Path.{_≡_};
 ghost use Prim.Native.Nat.{_≤_};
 ghost use lib.ListN.{length};
@@ -12,7 +14,7 @@ ghost use Rattle.calculus.specs.Verdicts.{passed, andThen};
 ghost use Rattle.calculus.specs.File.{operate, firstAfter, secondAfter};
 ghost use Rattle.nodes.specs.Refusals.{placeOf, refusal};
 ghost use Rattle.engine.specs.Ran.{lineOf};
-ghost use Rattle.exports.specs.Numbers.{endNumber, refusedNumbers, endedNumbers, runNumbers};
+ghost use Rattle.exports.specs.Numbers.{endNumber, endedNumbers, runNumbers};
 
 #[repr(C)]
 pub struct RecipeRun {
@@ -32,34 +34,18 @@ fn narrow(n: usize) -> u32
     n as u32
 }
 
-fn refused(number: u32, place: usize) -> RecipeRun
-    requires { ⌜ place ≤ 4096 ⌝ }
-    ensures { λ r. ⌜ r ≡ refusedNumbers number place ⌝ }
+fn refused_by(r: Refusal) -> RecipeRun
+    requires { ⌜ placeOf r ≤ 4096 ⌝ }
+    ensures { λ x. ⌜ x ≡ runNumbers (refusal r) ⌝ }
 {
     RecipeRun {
-        refusal: number,
-        place: narrow(place),
+        refusal: number(r),
+        place: narrow(place(r)),
         end: 0,
         code: 0,
         steps: 0,
         left: 0,
         wanted: 0,
-    }
-}
-
-fn refused_by(r: Refusal) -> RecipeRun
-    requires { ⌜ placeOf r ≤ 4096 ⌝ }
-    ensures { λ x. ⌜ x ≡ runNumbers (refusal r) ⌝ }
-{
-    match r {
-        Refusal::Bytes => refused(1, 0),
-        Refusal::Header => refused(2, 0),
-        Refusal::Word(p) => refused(3, p),
-        Refusal::Nesting(p) => refused(4, p),
-        Refusal::Variable(p) => refused(5, p),
-        Refusal::Untyped(p) => refused(6, p),
-        Refusal::Mistyped(p) => refused(7, p),
-        Refusal::Capacity => refused(8, 0),
     }
 }
 

@@ -1,3 +1,6 @@
+ghost use mathlib.Core.Path.{_≡_};
+ghost use Rattle.nodes.specs.Refusals.{numberOf, placeOf};
+
 // Why a recipe is refused, in the order of document 01's table; specs/Refusals.antt gives each its number and its place in the file.
 // Untyped and Mistyped carry their places for a later request; they are 0 until then.
 pub enum Refusal {
@@ -9,4 +12,35 @@ pub enum Refusal {
     Untyped(usize),
     Mistyped(usize),
     Capacity,
+}
+
+// A refusal's number, and its place in the file.
+pub fn number(r: Refusal) -> u32
+    ensures { λ x. ⌜ x ≡ numberOf r ⌝ }
+{
+    match r {
+        Refusal::Bytes => 1,
+        Refusal::Header => 2,
+        Refusal::Word(_) => 3,
+        Refusal::Nesting(_) => 4,
+        Refusal::Variable(_) => 5,
+        Refusal::Untyped(_) => 6,
+        Refusal::Mistyped(_) => 7,
+        Refusal::Capacity => 8,
+    }
+}
+
+pub fn place(r: Refusal) -> usize
+    ensures { λ x. ⌜ x ≡ placeOf r ⌝ }
+{
+    match r {
+        Refusal::Bytes => 0,
+        Refusal::Header => 0,
+        Refusal::Word(p) => p,
+        Refusal::Nesting(p) => p,
+        Refusal::Variable(p) => p,
+        Refusal::Untyped(p) => p,
+        Refusal::Mistyped(p) => p,
+        Refusal::Capacity => 0,
+    }
 }
