@@ -17,7 +17,7 @@ use Rattle.calculus.specs.Scope.{Scoped, scopeDue}
 use Rattle.calculus.specs.Typing.{Typed}
 use Rattle.calculus.specs.Inference.{sameType, infer}
 use Rattle.calculus.specs.Run.{Result, run, uncounted, capacity}
-use Rattle.calculus.specs.File.{wordsOf, isSize, isHeader, typeCount, typeWords, termWords, ordered, scoped, Recipe, typed, withTree, checkWords, check, runIn, operate}
+use Rattle.calculus.specs.File.{wordsOf, isSize, isHeader, typeCount, typeWords, termWords, ordered, scoped, Recipe, typed, withTree, judged, checkWords, check, runIn, operate}
 use Rattle.calculus.specs.Accepted.{Accepted}
 use Rattle.calculus.proofs.Verdicts.{passed-injective, then-passed, unless-iff, refuse-iff}
 use Rattle.calculus.proofs.Walks.{later-passed}
@@ -61,17 +61,31 @@ typed-iff τ e x = (
 pub tree-read : {A : Type 0} (s : Sort) (ws : List ℕ) (p : ℕ) (k : Tree s → Verdict A) (o : Ordered s ws) → withTree s ws p k ≡ k (o .tree)
 tree-read s ws p k o = rw (ap (readTree s) (o .spelt) ∙ whole-tree s (o .tree) (o .ranged))
 
--- Refusals 5, 6 and 7, of words in order.
-module _ (ws : List ℕ) (x : Recipe) (t : Ordered type (typeWords ws)) (e : Ordered (term ml) (termWords ws)) where
-  judged-iff : (scoped (termWords ws) (4 + typeCount ws)
-      (withTree type (typeWords ws) 4 (λ τ. withTree (term ml) (termWords ws) (4 + typeCount ws) (λ e. typed τ e))) ≡ passed x)
+-- Refusals 3 to 7, of the words of a type and of a term.
+abbrev pub Judged : List ℕ → List ℕ → Recipe → Type 0
+Judged types terms x =
+    (t : Ordered type types) × (e : Ordered (term ml) terms) × Scoped [] (e .tree) × Typed [] (e .tree) (t .tree) × (x ≡ (t .tree, e .tree))
+
+module _ (types terms : List ℕ) (start : ℕ) (x : Recipe) where
+  trees-iff : (t : Ordered type types) (e : Ordered (term ml) terms)
+      → (scoped terms start (withTree type types 4 (λ τ. withTree (term ml) terms start (λ e. typed τ e))) ≡ passed x)
       ↔ (Scoped [] (e .tree) × (Typed [] (e .tree) (t .tree) × (x ≡ (t .tree, e .tree))))
-  judged-iff =
-      let i = scoped-iff (e .tree) (termWords ws) (4 + typeCount ws) _ x (e .spelt) in
+  trees-iff t e =
+      let i = scoped-iff (e .tree) terms start _ x (e .spelt) in
       let j = typed-iff (t .tree) (e .tree) x in
-      let k = tree-read type (typeWords ws) 4 (λ τ. withTree (term ml) (termWords ws) (4 + typeCount ws) (λ e. typed τ e)) t
-      ∙ tree-read (term ml) (termWords ws) (4 + typeCount ws) (λ e. typed (t .tree) e) e in
+      let k = tree-read type types 4 (λ τ. withTree (term ml) terms start (λ e. typed τ e)) t
+      ∙ tree-read (term ml) terms start (λ e. typed (t .tree) e) e in
       (λ q. let h = i .0 q in (h .0, j .0 (sym k ∙ h .1)), λ h. i .1 (h .0, k ∙ j .1 (h .1)))
+
+  pub judged-iff : (judged types terms start ≡ passed x) ↔ Judged types terms x
+  judged-iff = (
+    λ q.
+        let t = ordered-iff type types 4 _ x .0 q in
+        let e = ordered-iff (term ml) terms start _ x .0 (t .1) in
+        let j = trees-iff (t .0) (e .0) .0 (e .1) in
+        (t .0, e .0, j .0, j .1 .0, j .1 .1),
+    λ h. ordered-iff type types 4 _ x .1 (h .0, ordered-iff (term ml) terms start _ x .1 (h .1, trees-iff (h .0) (h .1) .1 (h .2, (h .3, h .4)))),
+  )
 
 -- Refusals 2 to 7.
 abbrev pub InOrder : List ℕ → Recipe → Type 0
@@ -81,20 +95,17 @@ pub passes-in-order : (ws : List ℕ) (x : Recipe) → checkWords ws ≡ passed 
 unfolding checkWords
 passes-in-order ws x q =
     let h = unless-iff (isHeader ws) 2 0 _ x .0 q in
-    let t = ordered-iff type (typeWords ws) 4 _ x .0 (h .1) in
-    let e = ordered-iff (term ml) (termWords ws) (4 + typeCount ws) _ x .0 (t .1) in
-    let j = judged-iff ws x (t .0) (e .0) .0 (e .1) in
-    subst (InOrder ws) (sym (j .1 .1)) ((h .0, t .0 .spelt, e .0 .spelt), t .0 .nests, e .0 .nests, e .0 .ranged, j .0, j .1 .0)
+    let j = judged-iff (typeWords ws) (termWords ws) (4 + typeCount ws) x .0 (h .1) in
+    let t = j .0 in
+    let e = j .1 in
+    subst (InOrder ws) (sym (j .4)) ((h .0, t .spelt, e .spelt), t .nests, e .nests, e .ranged, j .2, j .3)
 
 in-order-passes : (ws : List ℕ) (x : Recipe) → InOrder ws x → checkWords ws ≡ passed x
 unfolding checkWords
 in-order-passes ws x h =
     let t : Ordered type (typeWords ws) = record { tree = x .0; spelt = h .0 .1; ranged = tt; nests = h .1 } in
     let e : Ordered (term ml) (termWords ws) = record { tree = x .1; spelt = h .0 .2; ranged = h .3; nests = h .2 } in
-    unless-iff (isHeader ws) 2 0 _ x .1 (
-      h .0 .0,
-      ordered-iff type (typeWords ws) 4 _ x .1 (t, ordered-iff (term ml) (termWords ws) (4 + typeCount ws) _ x .1 (e, judged-iff ws x t e .1 (h .4, (h .5, refl)))),
-    )
+    unless-iff (isHeader ws) 2 0 _ x .1 (h .0 .0, judged-iff (typeWords ws) (termWords ws) (4 + typeCount ws) x .1 (t, e, h .4, h .5, refl))
 
 -- "the check accepts exactly those to which the published typing .. gives the declared type".
 pub check-iff : (bytes : List ℕ) (τ : Ty) (e : Term ml) → (check bytes ≡ passed (τ, e)) ↔ Accepted bytes τ e

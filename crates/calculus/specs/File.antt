@@ -64,16 +64,19 @@ typed τ e = andThen (orRefuse (infer [] e) 6 0) (λ t. unless (sameType ml t τ
 abbrev pub withTree : {A : Type 0} → (s : Sort) → List ℕ → ℕ → (Tree s → Verdict A) → Verdict A
 withTree s ws p k = andThen (orRefuse (readTree s ws) 3 p) k
 
--- Refusals 2 to 7 of a file's words, or the recipe: "Order: 1, 2; then 3 and 4 in one walk, type before term, 3 before 4 at a word; then 5
--- over the whole term; 6; 7; 8. The check alone never gives 8."
+-- Refusals 3 to 7 of the words of a declared type, which stands at 4, and of a term, which stands at `start`; or the recipe: "then 3 and 4 in
+-- one walk, type before term, 3 before 4 at a word; then 5 over the whole term; 6; 7".
+abbrev pub judged : List ℕ → List ℕ → ℕ → Verdict Recipe
+judged types terms start =
+    ordered type types 4
+    (ordered (term ml) terms start
+    (scoped terms start
+    (withTree type types 4 (λ τ.
+    withTree (term ml) terms start (λ e. typed τ e)))))
+
+-- Refusals 2 to 7 of a file's words: "Order: 1, 2; then 3 and 4 ..; 8. The check alone never gives 8."
 unfoldable pub checkWords : List ℕ → Verdict Recipe
-checkWords ws =
-    unless (isHeader ws) 2 0
-    (ordered type (typeWords ws) 4
-    (ordered (term ml) (termWords ws) (4 + typeCount ws)
-    (scoped (termWords ws) (4 + typeCount ws)
-    (withTree type (typeWords ws) 4 (λ τ.
-    withTree (term ml) (termWords ws) (4 + typeCount ws) (λ e. typed τ e))))))
+checkWords ws = unless (isHeader ws) 2 0 (judged (typeWords ws) (termWords ws) (4 + typeCount ws))
 
 -- The check of a file's bytes.
 unfoldable pub check : List ℕ → Verdict Recipe

@@ -1,12 +1,12 @@
 -- What the check answers: the verdict of document 01's table, without the recipe.
-use Prim.Native.Nat.{ℕ}
+use Prim.Native.Nat.{ℕ, _+_}
 use mathlib.Core.List.{List}
 use mathlib.Core.Path.{_≡_}
-use lib.ListN.{drop}
+use lib.ListN.{length, take, drop}
 use Rattle.calculus.specs.Trees.{Ty, ml, Term}
 use Rattle.calculus.specs.Words.{words}
 use Rattle.calculus.specs.Verdicts.{Verdict, passed, andThen}
-use Rattle.calculus.specs.File.{Recipe, typed}
+use Rattle.calculus.specs.File.{wordsOf, typeCount, Recipe, typed, judged, check}
 use Rattle.nodes.specs.Refusals.{refusal}
 use Rattle.types.specs.References.{Written}
 use Rattle.checker.specs.declared.Checked.{Checked}
@@ -20,6 +20,14 @@ checked Accepted = passed tt
 -- Accepted, whatever the recipe.
 abbrev pub accepting : Verdict Recipe → Verdict (Unit {0})
 accepting v = andThen v (λ x. passed tt)
+
+-- Refusals 3 to 7 of words whose declared type, of so many words, stands at 4, and whose term stands behind it.
+abbrev pub judging : List ℕ → ℕ → Verdict Recipe
+judging ws types = judged (take types (drop 4 ws)) (drop (4 + types) ws) (4 + types)
+
+-- Refusals 1 to 7 of a file, or how many words its declared type has, and how many it has itself.
+abbrev pub admitting : List ℕ → Verdict (ℕ × ℕ)
+admitting bytes = andThen (check bytes) (λ x. passed (typeCount (wordsOf bytes), length (wordsOf bytes)))
 
 -- Refusals 6 and 7 of the declared type, which is written at 4, and of the term, whose words are the words from a place on.
 abbrev pub Decides : List ℕ → ℕ → Checked → Type 0

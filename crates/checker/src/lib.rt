@@ -11,13 +11,13 @@ use nodes::walks::ordered;
 use rules::Inferred;
 use types::same;
 ghost use mathlib.Core.Path.{_≡_};
-ghost use Prim.Native.Nat.{_<_, _≤_};
+ghost use Prim.Native.Nat.{_+_, _<_, _≤_};
 ghost use lib.ListN.{length};
-ghost use Rattle.calculus.specs.File.{typeCount, checkWords};
+ghost use Rattle.calculus.specs.File.{padded};
 ghost use Rattle.calculus.specs.File as calculus;
 ghost use Rattle.nodes.specs.Table.{kinds};
-ghost use Rattle.file.proofs.Tests.{Fits};
-ghost use Rattle.checker.specs.Checks.{checked, accepting, Decides};
+ghost use Rattle.file.specs.Opening.{opened, kept};
+ghost use Rattle.checker.specs.Checks.{checked, accepting, judging, admitting, Decides};
 
 pub enum Checked {
     Refused(Refusal),
@@ -50,10 +50,11 @@ fn typed(words: &[u32], start: usize) -> Checked
     typed_by(&table, words, start, &mut link[..n])
 }
 
-// Refusals 3 to 7 of a file's words, whose header is in order and says that the declared type has so many words. For the rooms above.
+// Refusals 3 to 7 of words whose declared type, of so many words, stands at 4, and whose term stands behind it; what stands before 4 does not
+// matter. For the rooms above.
 pub fn judge(words: &[u32], types: usize) -> Checked
-    requires { ⌜ Fits (now words) × (types ≡ typeCount (now words)) × (length (now words) ≤ 4096) ⌝ }
-    ensures { λ r. ⌜ checked r ≡ accepting (checkWords (now (words .entry))) ⌝ }
+    requires { ⌜ (4 + types ≤ length (now words)) × (length (now words) ≤ 4096) ⌝ }
+    ensures { λ r. ⌜ checked r ≡ accepting (judging (now (words .entry)) types) ⌝ }
 {
     let start = 4 + types;
     let walked = ordered(&words[4..start], &words[start..]);
@@ -67,13 +68,30 @@ pub fn judge(words: &[u32], types: usize) -> Checked
     typed(words, start)
 }
 
+// Opens a file and judges it. The array is left as `open` leaves it. For the rooms above.
+pub fn admit(file: &[u8], all: &mut [u32; 4096]) -> Opened
+    ensures answer { λ r. ⌜ opened r ≡ admitting (now (file .entry)) ⌝ }
+    ensures array { λ r. ⌜ now (all .exit) ≡ padded 4096 (kept (now (file .entry))) ⌝ }
+{
+    let mut found = [0u32; 4096];
+    let answer = open(file, &mut found);
+    *all = found;
+    let Opened::Recipe(types, n) = answer else {
+        return answer;
+    };
+    match judge(&found[..n], types) {
+        Checked::Refused(r) => Opened::Refused(r),
+        Checked::Accepted => answer,
+    }
+}
+
 // The check of a file: every file, accepted or refused.
 pub fn check(file: &[u8]) -> Checked
     ensures { λ r. ⌜ checked r ≡ accepting (calculus.check (now (file .entry))) ⌝ }
 {
     let mut all = [0u32; 4096];
-    match open(file, &mut all) {
+    match admit(file, &mut all) {
         Opened::Refused(r) => Checked::Refused(r),
-        Opened::Recipe(types, n) => judge(&all[..n], types),
+        Opened::Recipe(_, _) => Checked::Accepted,
     }
 }

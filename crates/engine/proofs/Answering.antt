@@ -1,34 +1,30 @@
 -- The answer of a run: refused, with both buffers zero, or ended as the specification's run does. Assumes nothing.
-use Prim.Native.Nat.{ℕ, _+_, _-_, _≤_, _<_}
-use mathlib.Core.List.{List, []}
+use Prim.Native.Nat.{ℕ, zero, suc, _+_, _-_, _≤_, _<_}
+use mathlib.Core.List.{List, [], _∷_}
 use mathlib.Core.Path.{_≡_, refl, sym, ap, _∙_, subst}
 use native.Mathlib.Omega.{arith}
 use lib.ListN.{length, take, drop}
-use lib.Seq.{sets-eq, take-at}
+use lib.Seq.{sets-eq, take-at, take-nil}
 use borrow.Author.Tests.{le-leb, lt-leb}
-use borrow.Rule.Slice.PartAt.{part-to-end}
 use Rattle.calculus.specs.Trees.{ml, Term}
 use Rattle.calculus.specs.Words.{words, size}
 use Rattle.calculus.specs.Kinds.{term}
 use Rattle.calculus.specs.Verdicts.{Verdict, refused, passed, andThen}
 use Rattle.calculus.specs.Run as spec
-use Rattle.calculus.specs.File.{typeCount, Recipe, checkWords, check, runIn, operate}
-use Rattle.calculus.proofs.Verdicts.{not-both, then-passed}
+use Rattle.calculus.specs.File.{wordsOf, Recipe, check, runIn, operate}
 use Rattle.calculus.proofs.Sizes.{tree-length}
 use Rattle.calculus.proofs.Checks.{passes-in-order}
 use Rattle.nodes.specs.declared.refusals.Refusal.{Refusal}
-use Rattle.nodes.specs.Refusals.{numberOf, placeOf, refusal}
-use Rattle.file.proofs.Opening.{Opens}
+use Rattle.nodes.specs.Refusals.{refusal}
 use Rattle.writing.specs.Wrote.{Wrote}
-use Rattle.checker.specs.declared.Checked.the-variants.{Refused, Accepted}
+use Rattle.checker.proofs.Admitting.{types-within, Admits}
 use Rattle.engine.specs.declared.ends.Report.{Report}
 use Rattle.engine.specs.declared.runs.Answer.{Answer}
 use Rattle.engine.specs.declared.runs.Answer.the-variants as a
 use Rattle.engine.specs.Buffered.{Settled}
 use Rattle.calculus.specs.File.{padded}
 use Rattle.engine.specs.Ran.{lineOf, told, Reduced}
-use Rattle.engine.specs.Answered.{Answered, started, Begun}
-use Rattle.engine.proofs.Bridge.{Judged}
+use Rattle.engine.specs.Answered.{Answered, Begun}
 
 -- A refusal, with both buffers wiped.
 pub answered-refused : {r : Refusal} {first second first′ second′ : List ℕ} → Settled [] first second first′ second′
@@ -42,6 +38,12 @@ answered-as {x = x} {first = first} {second = second} {first′ = first′} {sec
 
 words-size : (e : Term ml) → length (words e) ≡ size e
 words-size e = omega (arith, tree-length (term ml) e [])
+
+part-of : (l : List ℕ) (a e : ℕ) → take (e - a) (drop a l) ≡ drop a (take e l)
+part-of l zero e = let z : e - 0 ≡ e = omega arith in ap (λ (n : ℕ). take n l) z
+part-of [] (suc a) e = take-nil (e - suc a) ∙ sym (ap (drop (suc a)) (take-nil e))
+part-of (w ∷ l) (suc a) zero = let z : 0 - suc a ≡ 0 = omega arith in ap (λ (n : ℕ). take n (drop a l)) z
+part-of (w ∷ l) (suc a) (suc e) = let z : suc e - suc a ≡ e - a = omega arith in ap (λ (n : ℕ). take n (drop a l)) z ∙ part-of l a e
 
 -- The run of a recipe: its term's words are over the capacity, or fit.
 over : (limit cap : ℕ) (x : Recipe) → cap < size (x .1) → refused 8 0 ≡ runIn limit cap x
@@ -84,39 +86,25 @@ begun-ended {limit} {cap} {count} {k} {ws} {first} {second} {first₁} {first′
           });
     }
 
--- The words of a file: refused by the check, or its term begun.
-pub started-refused : (ws : List ℕ) {first second first′ second′ : List ℕ} (limit : ℕ) (r : Refusal) {x : Answer} → Judged ws (Refused r)
-    → Answered (refusal r) x first second first′ second′ → Answered (started ws limit (length first) (length second)) x first second first′ second′
-started-refused ws {first} {second} {first′} {second′} limit r {x} j h = by (checkWords ws) j
-  where
-    by : (v : Verdict Recipe) → refusal r ≡ andThen v (λ y. passed (tt {0}))
-        → Answered (andThen v (λ y. runIn limit (spec.capacity (length first) (length second)) y)) x first second first′ second′
-    by (refused n p) q = answered-as (let z : refused (numberOf r) (placeOf r) ≡ refused n p = cc in z) h
-    by (passed y) q = absurd (not-both (numberOf r) (placeOf r) tt q)
+-- Where the term of a file that was accepted stands in the array.
+pub term-within : {bytes all : List ℕ} {types n : ℕ} → Admits bytes all types n → (4 + types ≤ n) × (n ≤ 4096) × (length all ≡ 4096)
+term-within m = let o = m .opened in (omega (arith, types-within o .0, o .count-is), o .few, o .array-is)
 
-pub started-begun : (ws : List ℕ) {first second first′ second′ : List ℕ} (limit from : ℕ) {x : Answer} → Judged ws Accepted → from ≡ 4 + typeCount ws
-    → Begun limit (take (length ws - from) (drop from ws)) x first second first′ second′
-    → Answered (started ws limit (length first) (length second)) x first second first′ second′
-started-begun ws {first} {second} {first′} {second′} limit from {x} j f b =
-    let i = then-passed (checkWords ws) (λ y. passed tt) tt (sym j) in
-    let o = passes-in-order ws (i .0) (i .1) in
-    let w : take (length ws - from) (drop from ws) ≡ words (i .0 .1) =
-    part-to-end ws from ∙ ap (λ (k : ℕ). drop k ws) f ∙ o .0 .2 in
-    answered-as (sym (ap (λ (v : Verdict Recipe). andThen v (λ y. runIn limit (spec.capacity (length first) (length second)) y)) (i .1)))
-    (b .of (i .0 .1) (i .0 .0) w (record { ranged = o .3; type = i .0 .0; typed = o .5 }))
-
--- A file's bytes: refused when it is opened, or its words started.
+-- A file's bytes: refused by the check, or its term begun.
 module _ (bytes : List ℕ) (limit : ℕ) {first second first′ second′ : List ℕ} {x : Answer} where
   pub run-refused : (r : Refusal) → check bytes ≡ refusal r → Answered (refusal r) x first second first′ second′
       → Answered (operate bytes limit (length first) (length second)) x first second first′ second′
   unfolding operate
-  run-refused r q h =
-      answered-as (ap (λ (v : Verdict Recipe). andThen v (λ y. runIn limit (spec.capacity (length first) (length second)) y)) (sym q)) h
+  run-refused r q h = answered-as (ap (λ (v : Verdict Recipe). andThen v (λ y. runIn limit (spec.capacity (length first) (length second)) y)) (sym q)) h
 
-  pub run-started : {all : List ℕ} {types n : ℕ} → Opens bytes all types n
-      → Answered (started (take n all) limit (length first) (length second)) x first second first′ second′
+  pub run-begun : {all : List ℕ} {types n : ℕ} → Admits bytes all types n → Begun limit (take (n - (4 + types)) (drop (4 + types) all)) x first second first′ second′
       → Answered (operate bytes limit (length first) (length second)) x first second first′ second′
   unfolding operate
-  run-started {all} {types} {n} o h =
-      answered-as (ap (λ (v : Verdict Recipe). andThen v (λ y. runIn limit (spec.capacity (length first) (length second)) y))
-      (ap checkWords (o .words-are) ∙ sym (o .check-is))) h
+  run-begun {all} {types} {n} m b =
+      let e = m .recipe in
+      let o = m .opened in
+      let i = passes-in-order (wordsOf bytes) e (sym (o .check-is) ∙ m .accepted) in
+      let w : take (n - (4 + types)) (drop (4 + types) all) ≡ words (e .1) = part-of all (4 + types) n
+      ∙ ap (drop (4 + types)) (o .words-are) ∙ ap (λ (k : ℕ). drop (4 + k) (wordsOf bytes)) (o .types-are) ∙ i .0 .2 in
+      answered-as (ap (λ (v : Verdict Recipe). andThen v (λ y. runIn limit (spec.capacity (length first) (length second)) y)) (sym (m .accepted)))
+      (b .of (e .1) (e .0) w (record { ranged = i .3; type = e .0; typed = i .5 }))

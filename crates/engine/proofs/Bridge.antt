@@ -1,13 +1,10 @@
--- A step of the reducer is that of the calculus, and the judgement of a file's words is the check's. Assumes nothing.
+-- A step of the reducer is that of the calculus. Assumes nothing.
 use Prim.Native.Nat.{ℕ}
 use mathlib.Core.List.{List}
 use mathlib.Core.Path.{_≡_}
 use Rattle.calculus.specs.Trees.{ml, Term}
 use Rattle.calculus.specs.Words.{words}
 use Rattle.calculus.specs.Reduction.{Outcome, value, raised, next, stuck, step}
-use Rattle.calculus.specs.File.{checkWords}
-use Rattle.checker.specs.declared.Checked.{Checked}
-use Rattle.checker.specs.Checks.{checked, accepting}
 use Rattle.reducer.specs.declared.turns.From.{From}
 use Rattle.reducer.specs.declared.steps.Move.{Move}
 use Rattle.reducer.specs.Around.{Standing}
@@ -23,6 +20,3 @@ moved {ws} {b} {b′} {from} {r} s e q at = by (step e) (s .of e q at)
     by (raised c) m = m .0
     by (next u) m = (m .0, m .1, m .2 .sized, m .2 .written .stored, m .2 .resumes)
     by stuck m = m .0
-
-abbrev pub Judged : List ℕ → Checked → Type 0
-Judged ws r = checked r ≡ accepting (checkWords ws)

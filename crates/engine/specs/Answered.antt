@@ -7,7 +7,7 @@ use Rattle.calculus.specs.Trees.{Ty, ml, Term}
 use Rattle.calculus.specs.Words.{words}
 use Rattle.calculus.specs.Verdicts.{Verdict, passed, andThen}
 use Rattle.calculus.specs.Run.{Result, capacity}
-use Rattle.calculus.specs.File.{checkWords, runIn, firstAfter, secondAfter}
+use Rattle.calculus.specs.File.{runIn, firstAfter, secondAfter}
 use Rattle.nodes.specs.Refusals.{refusal}
 use Rattle.engine.specs.declared.runs.Answer.{Answer}
 use Rattle.engine.specs.declared.runs.Answer.the-variants.{Refused, Ended}
@@ -23,10 +23,6 @@ pub record Answered (v : Verdict Result) (x : Answer) (first second first′ sec
   pub answer-is : spoken x ≡ andThen v (λ r. passed (lineOf r))
   pub first-is : first′ ≡ firstAfter (length first) v
   pub second-is : second′ ≡ secondAfter (length second) v
-
--- Of a file's words: the check, and then the run.
-abbrev pub started : List ℕ → ℕ → ℕ → ℕ → Verdict Result
-started ws limit first second = andThen (checkWords ws) (λ x. runIn limit (capacity first second) x)
 
 -- Of the words of a term that was accepted.
 pub record Begun (limit : ℕ) (ws : List ℕ) (x : Answer) (first second first′ second′ : List ℕ) : Type 0 where

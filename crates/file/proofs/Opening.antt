@@ -6,7 +6,8 @@ use Prim.Native.Nat.{ℕ, _/_, _≤_}
 use native.Mathlib.Omega.{arith}
 use lib.ListN.{length, take}
 use Rattle.calculus.specs.Verdicts.{refused, passed, andThen}
-use Rattle.calculus.specs.File.{wordsOf, isSize, isHeader, typeCount, checkWords, check, padded}
+use Rattle.calculus.specs.File.{wordsOf, isSize, isHeader, typeCount, Recipe, checkWords, check, padded}
+use Rattle.calculus.proofs.Verdicts.{not-both}
 use Rattle.file.specs.Opening.{opening, kept}
 use Rattle.file.proofs.Bytes.{words-length}
 use Rattle.file.proofs.Padding.{padded-take, padded-length}
@@ -66,3 +67,13 @@ opens bs all {types} {n} e a = sized (isSize (length bs)) refl (isHeader (wordsO
         }
     sized true p false q = let z : _≡_ {A = ℕ} 0 1 = cc in absurd (omega arith)
     sized false p h q = let z : _≡_ {A = ℕ} 0 1 = cc in absurd (omega arith)
+
+-- A file that passes the check is opened.
+pub check-opened : (bs : List ℕ) (x : Recipe) → check bs ≡ passed x → passed (typeCount (wordsOf bs), length (wordsOf bs)) ≡ opening bs
+check-opened bs x e = tested (isSize (length bs)) refl (isHeader (wordsOf bs)) refl
+  where
+    tested : (s : Bool) → isSize (length bs) ≡ s → (h : Bool) → isHeader (wordsOf bs) ≡ h
+        → passed (typeCount (wordsOf bs), length (wordsOf bs)) ≡ opening bs
+    tested true p true q = rw (p, q)
+    tested true p false q = absurd (not-both 2 0 x (sym (check-refused bs (rw (p, q))) ∙ e))
+    tested false p h q = absurd (not-both 1 0 x (sym (check-refused bs (rw p)) ∙ e))

@@ -1,0 +1,81 @@
+-- `checker::admit` meets its contract, for every file. Assumes nothing.
+use borrow.Author.Needs.{needs}
+use Prim.Native.Nat.{ℕ}
+use mathlib.Core.List.{List}
+use mathlib.Core.Path.{sym, ap, _∙_}
+use native.Mathlib.Omega.{arith}
+use Rattle.file.specs.Opening.{opened}
+use Rattle.file.proofs.Opening.{Opens, opens}
+use Rattle.checker.specs.Checks.{checked, accepting, judging}
+use Rattle.checker.proofs.Admitting.{types-within, unopened, judged-out, judged-in}
+use Rattle.checker.proofs.admit.Statement.{statement}
+use Rattle.checker.proofs.admit.Tie as tie
+
+-- What is known of an opened file.
+known : (c : tie.After-answer)
+    → Opens (c .before .before .before .before .before .args .file .now) (c .before .before .«open» .last .1 .0) (c .answer .given .0 .0) (c .answer .given .0 .1 .0)
+known c = let e = c .before .before .«open» .ensures in opens _ _ (ap opened (sym (c .answer .given .1)) ∙ e .0) (e .1)
+
+open-requires : tie.Need-open-requires
+open-requires c κs = search needs
+
+enum-known-answer : tie.Need-enum-known-answer
+enum-known-answer c = search needs
+
+enum-told : tie.Need-enum-told
+enum-told c = search needs
+
+returns : tie.Need-returns
+returns c =
+    let e = c .before .before .«open» .ensures in
+    let g = c .enum-told .given .1 in
+    (ap opened g ∙ unopened _ (ap opened (sym g) ∙ e .0), e .1)
+
+array-share-prefix-found : tie.Need-array-share-prefix-found
+array-share-prefix-found c = let k = known (c .before) in omega (arith, k .few, k .array-is)
+
+slice-aggregate-judge : tie.Need-slice-aggregate-judge
+slice-aggregate-judge c = let k = known (c .before .before) in rw (k .words-are) (k .count-is)
+
+judge-requires : tie.Need-judge-requires
+judge-requires c κs = let k = known (c .before .before) in rw (k .words-are) (types-within k)
+
+enum-known-r : tie.Need-enum-known-r
+enum-known-r c = search needs
+
+enum-told-2 : tie.Need-enum-told-2
+enum-told-2 c = search needs
+
+returns-2 : tie.Need-returns-2
+returns-2 c =
+    let f = c .before .before .before .before .before .before in
+    let k = known f in
+    let j = c .before .before .before .judge in (
+      judged-out k (ap checked (sym (c .before .r .given .1)) ∙ j .ensures ∙ ap (λ (ws : List ℕ). accepting (judging ws (f .answer .given .0 .0))) (k .words-are)),
+      f .before .before .«open» .ensures .1,
+    )
+
+returns-3 : tie.Need-returns-3
+returns-3 c =
+    let f = c .before .before .before .before .before in
+    let k = known f in
+    let j = c .before .before .judge in (
+      judged-in k (ap checked (sym (c .enum-told2 .given .1)) ∙ j .ensures ∙ ap (λ (ws : List ℕ). accepting (judging ws (f .answer .given .0 .0))) (k .words-are)),
+      f .before .before .«open» .ensures .1,
+    )
+
+pub admit-spec : {M : Type 1} → statement M
+admit-spec =
+    tie.close
+    (tie.spec
+    open-requires
+    enum-known-answer
+    enum-told
+    returns
+    array-share-prefix-found
+    slice-aggregate-judge
+    judge-requires
+    enum-known-r
+    enum-told-2
+    returns-2
+    returns-3)
