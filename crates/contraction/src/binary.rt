@@ -5,6 +5,8 @@ use crate::numbers::number_at;
 use crate::rules::Rule;
 use crate::rules::amiss;
 use crate::rules::numbered;
+use crate::words::ml_wrong;
+use crate::words::scheme_wrong;
 use nodes::kinds::Kinds;
 use writing::spans::skip;
 ghost use mathlib.Core.Path.{_≡_};
@@ -25,22 +27,22 @@ const PLUS: u64 = 2;
 fn operator(w: u32) -> u64
     ensures { λ r. ⌜ r ≡ operator2 w ⌝ }
 {
-    if w == 19 {
+    if w == crate::words::ML_APPLICATION {
         return APPLY;
     }
-    if w == 35 {
+    if w == crate::words::SCHEME_APPLICATION {
         return APPLY;
     }
-    if w == 25 {
+    if w == crate::words::ML_CONS {
         return PAIR;
     }
-    if w == 40 {
+    if w == crate::words::SCHEME_CONS {
         return PAIR;
     }
-    if w == 21 {
+    if w == crate::words::ML_ADD {
         return PLUS;
     }
-    if w == 36 {
+    if w == crate::words::SCHEME_ADD {
         return PLUS;
     }
     3
@@ -51,13 +53,13 @@ fn sum(scheme: bool, a: u32, b: u32) -> Rule
     requires { ⌜ (a ≤ 16777215) × (b ≤ 16777215) ⌝ }
     ensures { λ r. ⌜ r ≡ sumRule scheme a b ⌝ }
 {
-    if a + b <= 16777215 {
+    if a + b <= crate::words::LARGEST {
         return numbered(scheme, a + b);
     }
     if scheme {
-        return Rule::Led(1324, 0, 0);
+        return Rule::Led(scheme_wrong(crate::words::OVER), 0, 0);
     }
-    Rule::Led2(1309, 1, 0, 0)
+    Rule::Led2(ml_wrong(crate::words::OVER), crate::words::N, 0, 0)
 }
 
 // How much more a is than b, or 0.
@@ -84,13 +86,13 @@ fn of_apply(
     ensures told { λ r. ⌜ OfApply (now (words .entry)) scheme r ⌝ }
 {
     if form != crate::forms::FUNCTION {
-        return amiss(scheme, 2);
+        return amiss(scheme, crate::words::NO_FUNCTION);
     }
     if scheme {
-        return Rule::Substituted(32, 2, middle, end);
+        return Rule::Substituted(crate::words::SCHEME_VARIABLE, 2, middle, end);
     }
     let body = 2 + skip(table, &words[2..], 1);
-    Rule::Substituted(16, body, middle, end)
+    Rule::Substituted(crate::words::ML_VARIABLE, body, middle, end)
 }
 
 // The operators of two parts. The node's words end at `end`.
@@ -106,7 +108,7 @@ pub fn of_two(table: &Kinds, words: &[u32], end: usize) -> Rule
     let form = form_at(table, &words[1..]);
     let w = words[0];
     let op = operator(w);
-    let scheme = 32 <= w;
+    let scheme = crate::words::FIRST_SCHEME <= w;
     if op == APPLY {
         return of_apply(table, words, scheme, form, middle, end);
     }
@@ -114,10 +116,10 @@ pub fn of_two(table: &Kinds, words: &[u32], end: usize) -> Rule
         return Rule::Stuck;
     }
     if form != crate::forms::NUMBER {
-        return amiss(scheme, 1);
+        return amiss(scheme, crate::words::NO_NUMBER);
     }
     if form_at(table, &words[middle..]) != crate::forms::NUMBER {
-        return amiss(scheme, 1);
+        return amiss(scheme, crate::words::NO_NUMBER);
     }
     let a = number_at(&words[1..]);
     let b = number_at(&words[middle..]);
@@ -136,7 +138,7 @@ pub fn of_if(table: &Kinds, words: &[u32], end: usize) -> Rule
     let second = 1 + skip(table, &words[1..], 1);
     let third = second + skip(table, &words[second..], 1);
     if form_at(table, &words[1..]) != crate::forms::NUMBER {
-        if words[0] == 38 {
+        if words[0] == crate::words::SCHEME_IF0 {
             return Rule::Part(third, end);
         }
         return Rule::Stuck;

@@ -4,6 +4,7 @@ use crate::forms::form_at;
 use crate::numbers::number_at;
 use crate::rules::Rule;
 use crate::rules::numbered;
+use crate::words::ml_wrong;
 use nodes::kinds::Kinds;
 use writing::spans::skip;
 ghost use mathlib.Core.Path.{_≡_};
@@ -22,7 +23,7 @@ fn refused(scheme: bool, code: u32, value: usize) -> Rule
     if scheme {
         return Rule::Stuck;
     }
-    Rule::Led(29 + 256 * code, 1, value)
+    Rule::Led(ml_wrong(code), 1, value)
 }
 
 // At the type N. The value's form is told; its words stand from `value` to `end`.
@@ -32,7 +33,7 @@ fn at_number(words: &[u32], scheme: bool, form: u64, value: usize, end: usize) -
     ensures told { λ r. ⌜ AtType (now (words .entry)) scheme r N ⌝ }
 {
     if form != crate::forms::NUMBER {
-        return refused(scheme, 1, value);
+        return refused(scheme, crate::words::NO_NUMBER, value);
     }
     numbered(scheme, number_at(&words[value..]))
 }
@@ -63,21 +64,27 @@ fn at_list(table: &Kinds, words: &[u32], scheme: bool, form: u64, value: usize, 
 {
     if form == crate::forms::EMPTY {
         if scheme {
-            return Rule::Led(39, 0, 0);
+            return Rule::Led(crate::words::SCHEME_NIL, 0, 0);
         }
-        return Rule::Led(24, 2, value);
+        return Rule::Led(crate::words::ML_NIL, 2, value);
     }
     if form != crate::forms::PAIR {
-        return refused(scheme, 3, value);
+        return refused(scheme, crate::words::NO_LIST, value);
     }
     let tail = value + 1 + skip(table, &words[value + 1..], 1);
     if end < tail {
         return Rule::Stuck;
     }
     if scheme {
-        return Rule::Items(40, 45, value, tail, end);
+        return Rule::Items(
+            crate::words::SCHEME_CONS,
+            crate::words::SM,
+            value,
+            tail,
+            end,
+        );
     }
-    Rule::Items(25, 30, value, tail, end)
+    Rule::Items(crate::words::ML_CONS, crate::words::MS, value, tail, end)
 }
 
 // At a type t to u.
@@ -94,7 +101,7 @@ fn at_function(
     ensures told { λ r. ⌜ AtFunction (now (words .entry)) scheme r ⌝ }
 {
     if form != crate::forms::FUNCTION {
-        return refused(scheme, 2, value);
+        return refused(scheme, crate::words::NO_FUNCTION, value);
     }
     let second = 2 + skip(table, &words[2..], 1);
     if value < second {
@@ -120,15 +127,15 @@ pub fn of_boundary(table: &Kinds, words: &[u32], end: usize) -> Rule
         return Rule::Stuck;
     }
     let form = form_at(table, &words[value..]);
-    let scheme = words[0] == 45;
+    let scheme = words[0] == crate::words::SM;
     let t = words[1];
-    if t == 1 {
+    if t == crate::words::N {
         return at_number(words, scheme, form, value, end);
     }
-    if t == 2 {
+    if t == crate::words::L {
         return at_lump(words, scheme, form, value, end);
     }
-    if t == 3 {
+    if t == crate::words::LIST {
         return at_list(table, words, scheme, form, value, end);
     }
     at_function(table, words, scheme, form, value, end)

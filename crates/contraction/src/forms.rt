@@ -37,19 +37,19 @@ pub fn form_at(table: &Kinds, words: &[u32]) -> u64
     if shape == nodes::kinds::NIL {
         return EMPTY;
     }
-    if w == 25 {
+    if w == crate::words::ML_CONS {
         return PAIR;
     }
-    if w == 40 {
+    if w == crate::words::SCHEME_CONS {
         return PAIR;
     }
-    if w != 30 {
+    if w != crate::words::MS {
         return OTHER;
     }
     if words.len() < 2 {
         return OTHER;
     }
-    if words[1] == 2 {
+    if words[1] == crate::words::L {
         return LUMP;
     }
     OTHER

@@ -8,3 +8,4 @@ pub mod numbers;
 pub mod pieces;
 pub mod rules;
 pub mod unary;
+pub mod words;

@@ -1,5 +1,6 @@
 // The rules' answers: what a node becomes whose turn it is. Places are counted from the node's word on.
 
+use crate::words::scheme_wrong;
 ghost use mathlib.Core.Path.{_≡_};
 ghost use Prim.Native.Nat.{_≤_};
 ghost use Rattle.contraction.specs.Told.{amissRule, numberRule};
@@ -31,7 +32,7 @@ pub fn amiss(scheme: bool, code: u32) -> Rule
     ensures { λ r. ⌜ r ≡ amissRule scheme code ⌝ }
 {
     if scheme {
-        return Rule::Led(44 + 256 * code, 0, 0);
+        return Rule::Led(scheme_wrong(code), 0, 0);
     }
     Rule::Stuck
 }
@@ -41,7 +42,7 @@ pub fn numbered(scheme: bool, n: u32) -> Rule
     ensures { λ r. ⌜ r ≡ numberRule scheme n ⌝ }
 {
     if scheme {
-        return Rule::Number(33, n);
+        return Rule::Number(crate::words::SCHEME_NUMBER, n);
     }
-    Rule::Number(17, n)
+    Rule::Number(crate::words::ML_NUMBER, n)
 }

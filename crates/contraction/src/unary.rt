@@ -3,6 +3,8 @@
 use crate::forms::form_at;
 use crate::rules::Rule;
 use crate::rules::amiss;
+use crate::words::ml_wrong;
+use crate::words::scheme_wrong;
 use nodes::kinds::Kinds;
 use writing::spans::skip;
 ghost use mathlib.Core.Path.{_≡_};
@@ -25,19 +27,19 @@ const TEST: u64 = 4;
 fn operator(w: u32) -> u64
     ensures { λ r. ⌜ r ≡ operator1 w ⌝ }
 {
-    if w == 26 {
+    if w == crate::words::ML_HD {
         return HEAD;
     }
-    if w == 41 {
+    if w == crate::words::SCHEME_HD {
         return HEAD;
     }
-    if w == 20 {
+    if w == crate::words::FIX {
         return FIX;
     }
-    if w == 28 {
+    if w == crate::words::IS_NULL {
         return NULL;
     }
-    if w % 256 == 43 {
+    if w % 256 == crate::words::TEST {
         return TEST;
     }
     1
@@ -80,10 +82,10 @@ fn of_null(form: u64) -> Rule
     ensures { λ r. ⌜ r ≡ nullRule form ⌝ }
 {
     if form == crate::forms::EMPTY {
-        return Rule::Number(17, 0);
+        return Rule::Number(crate::words::ML_NUMBER, 0);
     }
     if form == crate::forms::PAIR {
-        return Rule::Number(17, 1);
+        return Rule::Number(crate::words::ML_NUMBER, 1);
     }
     Rule::Stuck
 }
@@ -98,7 +100,7 @@ fn of_fix(table: &Kinds, words: &[u32], form: u64, end: usize) -> Rule
         return Rule::Stuck;
     }
     let body = 2 + skip(table, &words[2..], 1);
-    Rule::Substituted(16, body, 0, end)
+    Rule::Substituted(crate::words::ML_VARIABLE, body, 0, end)
 }
 
 // hd, or tl.
@@ -118,15 +120,15 @@ fn of_list(table: &Kinds, words: &[u32], first: bool, scheme: bool, form: u64, e
         return Rule::Part(middle, end);
     }
     if form != crate::forms::EMPTY {
-        return amiss(scheme, 3);
+        return amiss(scheme, crate::words::NO_LIST);
     }
     if scheme {
-        return Rule::Led(1068, 0, 0);
+        return Rule::Led(scheme_wrong(crate::words::NO_ITEM), 0, 0);
     }
     if first {
-        return Rule::Led(1053, 2, end);
+        return Rule::Led(ml_wrong(crate::words::NO_ITEM), 2, end);
     }
-    Rule::Led2(1053, 3, 2, end)
+    Rule::Led2(ml_wrong(crate::words::NO_ITEM), crate::words::LIST, 2, end)
 }
 
 // The operators of one part. The node's words end at `end`.
@@ -148,7 +150,14 @@ pub fn of_one(table: &Kinds, words: &[u32], end: usize) -> Rule
         return of_null(form);
     }
     if op == TEST {
-        return Rule::Number(33, answer(w / 256, form));
+        return Rule::Number(crate::words::SCHEME_NUMBER, answer(w / 256, form));
     }
-    of_list(table, words, op == HEAD, 32 <= w, form, end)
+    of_list(
+        table,
+        words,
+        op == HEAD,
+        crate::words::FIRST_SCHEME <= w,
+        form,
+        end,
+    )
 }

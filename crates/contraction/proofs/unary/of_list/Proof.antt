@@ -68,23 +68,35 @@ returns-4 c =
       rw (c .amiss .ensures) (list-other _ _ _ (s .pre .2) _ _ (c .before .if4 .taken) (c .before .before .if1 .left)),
     )
 
+scheme-wrong-requires : tie.Need-scheme-wrong-requires
+scheme-wrong-requires c κs = search needs
+
 returns-5 : tie.Need-returns-5
 returns-5 c =
-    let s = c .before .before .before .before in
-    ((omega arith, omega arith), known-list refl (c .if5 .taken) (list-nil-scheme _ _ _ (s .pre .2) _ (c .before .if4 .left)))
+    let s = c .before .before .before .before .before in
+    rw (c .scheme-wrong .ensures)
+    ((omega arith, omega arith), known-list refl (c .before .if5 .taken) (list-nil-scheme _ _ _ (s .pre .2) _ (c .before .before .if4 .left)))
+
+ml-wrong-requires : tie.Need-ml-wrong-requires
+ml-wrong-requires c κs = search needs
 
 returns-6 : tie.Need-returns-6
 returns-6 c =
-    let s = c .before .before .before .before .before in (
+    let s = c .before .before .before .before .before .before in
+    rw (c .ml-wrong .ensures) (
       (s .pre .2 .least, s .pre .2 .most),
-      known-list (c .if6 .taken) (c .before .if5 .left) (list-nil-head _ _ _ (s .pre .2) (c .before .before .if4 .left)),
+      known-list (c .before .if6 .taken) (c .before .before .if5 .left) (list-nil-head _ _ _ (s .pre .2) (c .before .before .before .if4 .left)),
     )
+
+ml-wrong-requires-2 : tie.Need-ml-wrong-requires-2
+ml-wrong-requires-2 c κs = search needs
 
 returns-7 : tie.Need-returns-7
 returns-7 c =
-    let s = c .before .before .before .before .before in (
+    let s = c .before .before .before .before .before .before in
+    rw (c .ml-wrong2 .ensures) (
       (s .pre .2 .least, s .pre .2 .most),
-      known-list (c .if6 .left) (c .before .if5 .left) (list-nil-tail _ _ _ (s .pre .2) (c .before .before .if4 .left)),
+      known-list (c .before .if6 .left) (c .before .before .if5 .left) (list-nil-tail _ _ _ (s .pre .2) (c .before .before .before .if4 .left)),
     )
 
 pub of-list-spec : {M : Type 1} → statement M
@@ -101,6 +113,9 @@ of-list-spec =
     returns-3
     amiss-requires
     returns-4
+    scheme-wrong-requires
     returns-5
+    ml-wrong-requires
     returns-6
+    ml-wrong-requires-2
     returns-7)

@@ -1,0 +1,91 @@
+// Words by the names of their kinds.
+
+ghost use mathlib.Core.Path.{_≡_};
+ghost use Prim.Native.Nat.{_≤_};
+ghost use Rattle.calculus.specs.Words.{word};
+
+// The kinds that the rules look for and write. A word of operand 0 is its kind.
+pub const N: u32 = 1;
+
+pub const L: u32 = 2;
+
+pub const LIST: u32 = 3;
+
+pub const ML_VARIABLE: u32 = 16;
+
+pub const ML_NUMBER: u32 = 17;
+
+pub const ML_LAMBDA: u32 = 18;
+
+pub const ML_APPLICATION: u32 = 19;
+
+pub const FIX: u32 = 20;
+
+pub const ML_ADD: u32 = 21;
+
+pub const ML_NIL: u32 = 24;
+
+pub const ML_CONS: u32 = 25;
+
+pub const ML_HD: u32 = 26;
+
+pub const IS_NULL: u32 = 28;
+
+const ML_WRONG: u32 = 29;
+
+pub const MS: u32 = 30;
+
+pub const SCHEME_VARIABLE: u32 = 32;
+
+pub const FIRST_SCHEME: u32 = SCHEME_VARIABLE;
+
+pub const SCHEME_NUMBER: u32 = 33;
+
+pub const SCHEME_LAMBDA: u32 = 34;
+
+pub const SCHEME_APPLICATION: u32 = 35;
+
+pub const SCHEME_ADD: u32 = 36;
+
+pub const SCHEME_IF0: u32 = 38;
+
+pub const SCHEME_NIL: u32 = 39;
+
+pub const SCHEME_CONS: u32 = 40;
+
+pub const SCHEME_HD: u32 = 41;
+
+pub const TEST: u32 = 43;
+
+const SCHEME_WRONG: u32 = 44;
+
+pub const SM: u32 = 45;
+
+// The codes of the wrongs that the rules make.
+pub const NO_NUMBER: u32 = 1;
+
+pub const NO_FUNCTION: u32 = 2;
+
+pub const NO_LIST: u32 = 3;
+
+pub const NO_ITEM: u32 = 4;
+
+pub const OVER: u32 = 5;
+
+// The greatest number.
+pub const LARGEST: u32 = 16777215;
+
+// The words of wrongs.
+pub fn ml_wrong(code: u32) -> u32
+    requires { ⌜ code ≤ 65535 ⌝ }
+    ensures { λ r. ⌜ r ≡ word 29 code ⌝ }
+{
+    ML_WRONG + 256 * code
+}
+
+pub fn scheme_wrong(code: u32) -> u32
+    requires { ⌜ code ≤ 65535 ⌝ }
+    ensures { λ r. ⌜ r ≡ word 44 code ⌝ }
+{
+    SCHEME_WRONG + 256 * code
+}
