@@ -95,9 +95,11 @@ module _ (bytes : List ℕ) (limit : ℕ) {first second first′ second′ : Lis
   pub run-refused : (r : Refusal) → check bytes ≡ refusal r → Answered (refusal r) x first second first′ second′
       → Answered (operate bytes limit (length first) (length second)) x first second first′ second′
   unfolding operate
-  run-refused r q h = answered-as (ap (λ (v : Verdict Recipe). andThen v (λ y. runIn limit (spec.capacity (length first) (length second)) y)) (sym q)) h
+  run-refused r q h =
+      answered-as (ap (λ (v : Verdict Recipe). andThen v (λ y. runIn limit (spec.capacity (length first) (length second)) y)) (sym q)) h
 
-  pub run-begun : {all : List ℕ} {types n : ℕ} → Admits bytes all types n → Begun limit (take (n - (4 + types)) (drop (4 + types) all)) x first second first′ second′
+  pub run-begun : {all : List ℕ} {types n : ℕ} → Admits bytes all types n
+      → Begun limit (take (n - (4 + types)) (drop (4 + types) all)) x first second first′ second′
       → Answered (operate bytes limit (length first) (length second)) x first second first′ second′
   unfolding operate
   run-begun {all} {types} {n} m b =

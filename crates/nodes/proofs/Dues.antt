@@ -96,7 +96,8 @@ one-digit d h = record { first = omega arith; second = omega arith; third = omeg
 pub other-digits : (d : ℕ) → Digits d → Digits (d / 5)
 other-digits d h = record { first = h .second; second = omega (arith, h .third); third = omega (arith, h .third) }
 
-below : (f : ℕ → ℕ) → listed (λ k. ltb (f (rowOf k .parts)) 4) 0 rows ≡ listed (λ k. true) 0 rows → ltb (f 0) 4 ≡ true → (k : ℕ) → f (rowOf k .parts) < 4
+below : (f : ℕ → ℕ) → listed (λ k. ltb (f (rowOf k .parts)) 4) 0 rows ≡ listed (λ k. true) 0 rows → ltb (f 0) 4 ≡ true → (k : ℕ)
+    → f (rowOf k .parts) < 4
 below f e z k = ltb-true (f (rowOf k .parts)) 4 (by-rows (λ r. ltb (f (r .parts)) 4) (λ r. true) e z k)
 
 pub parts-digits : (k : ℕ) → Digits (rowOf k .parts)

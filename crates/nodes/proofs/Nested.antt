@@ -40,7 +40,8 @@ module _ (ws : List ℕ) (at due room : ℕ) (small : Digits due) (some : due % 
 
   module _ (more : length ws ≡ 0 → ⊥) (row : code.Row) (is : row ≡ rowOf (getD ws 0 0 % 256)) where
     due-is : nestedDue (d .sort, room) (getD ws 0 0)
-        ≡ cond (isDue row (due % 5) (getD ws 0 0 / 256)) (cond (eqb room 0) (refuses 4) (opens (levelled (room - 1) (sortsOf (row .parts))))) (refuses 3)
+        ≡ cond (isDue row (due % 5) (getD ws 0 0 / 256))
+        (cond (eqb room 0) (refuses 4) (opens (levelled (room - 1) (sortsOf (row .parts))))) (refuses 3)
     due-is =
         row-due (refuses 3) (λ ps. cond (eqb room 0) (refuses 4) (opens (levelled (room - 1) ps))) (d .sort) (getD ws 0 0)
         ∙ rw (is, d .number)

@@ -2,8 +2,10 @@
 use borrow.Author.Needs.{needs}
 use Prim.Native.Nat.{ℕ}
 use mathlib.Core.List.{List}
-use mathlib.Core.Path.{sym, ap, _∙_}
+use mathlib.Core.Path.{_≡_, sym, ap, _∙_}
+use lib.ListN.{take}
 use native.Mathlib.Omega.{arith}
+use Rattle.calculus.specs.File.{wordsOf}
 use Rattle.file.specs.Opening.{opened}
 use Rattle.file.proofs.Opening.{Opens, opens}
 use Rattle.checker.specs.Checks.{checked, accepting, judging}
@@ -12,9 +14,24 @@ use Rattle.checker.proofs.admit.Statement.{statement}
 use Rattle.checker.proofs.admit.Tie as tie
 
 -- What is known of an opened file.
-known : (c : tie.After-answer)
-    → Opens (c .before .before .before .before .before .args .file .now) (c .before .before .«open» .last .1 .0) (c .answer .given .0 .0) (c .answer .given .0 .1 .0)
-known c = let e = c .before .before .«open» .ensures in opens _ _ (ap opened (sym (c .answer .given .1)) ∙ e .0) (e .1)
+module _ (c : tie.After-answer) where
+  abbrev file : List ℕ
+  file = c .before .before .before .before .before .args .file .now
+
+  abbrev found : List ℕ
+  found = c .before .before .«open» .last .1 .0
+
+  abbrev types : ℕ
+  types = c .answer .given .0 .0
+
+  abbrev count : ℕ
+  count = c .answer .given .0 .1 .0
+
+  known : Opens file found types count
+  known = let e = c .before .before .«open» .ensures in opens _ _ (ap opened (sym (c .answer .given .1)) ∙ e .0) (e .1)
+
+  judged-file : accepting (judging (take count found) types) ≡ accepting (judging (wordsOf file) types)
+  judged-file = ap (λ (ws : List ℕ). accepting (judging ws types)) (known .words-are)
 
 open-requires : tie.Need-open-requires
 open-requires c κs = search needs
@@ -49,20 +66,14 @@ enum-told-2 c = search needs
 returns-2 : tie.Need-returns-2
 returns-2 c =
     let f = c .before .before .before .before .before .before in
-    let k = known f in
-    let j = c .before .before .before .judge in (
-      judged-out k (ap checked (sym (c .before .r .given .1)) ∙ j .ensures ∙ ap (λ (ws : List ℕ). accepting (judging ws (f .answer .given .0 .0))) (k .words-are)),
-      f .before .before .«open» .ensures .1,
-    )
+    let j = ap checked (sym (c .before .r .given .1)) ∙ c .before .before .before .judge .ensures in
+    (judged-out (known f) (j ∙ judged-file f), f .before .before .«open» .ensures .1)
 
 returns-3 : tie.Need-returns-3
 returns-3 c =
     let f = c .before .before .before .before .before in
-    let k = known f in
-    let j = c .before .before .judge in (
-      judged-in k (ap checked (sym (c .enum-told2 .given .1)) ∙ j .ensures ∙ ap (λ (ws : List ℕ). accepting (judging ws (f .answer .given .0 .0))) (k .words-are)),
-      f .before .before .«open» .ensures .1,
-    )
+    let j = ap checked (sym (c .enum-told2 .given .1)) ∙ c .before .before .judge .ensures in
+    (judged-in (known f) (j ∙ judged-file f), f .before .before .«open» .ensures .1)
 
 pub admit-spec : {M : Type 1} → statement M
 admit-spec =

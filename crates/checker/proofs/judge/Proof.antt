@@ -40,7 +40,8 @@ enum-known-walked c = search needs
 returns : tie.Need-returns
 returns c =
     let s = c .before .before .before .before .before .before .before in let g = c .before .walked .given in
-    not-ordered (s .args .words .now) (s .args .types) (s .pre .0) (g .0 .0) (ordered-is (s .args .words .now) (s .args .types) (s .pre .0) _ (ap walked (sym (g .1)) ∙ c .before .before .before .ordered .ensures))
+    not-ordered (s .args .words .now) (s .args .types) (s .pre .0) (g .0 .0)
+    (ordered-is (s .args .words .now) (s .args .types) (s .pre .0) _ (ap walked (sym (g .1)) ∙ c .before .before .before .ordered .ensures))
 
 enum-told : tie.Need-enum-told
 enum-told c = search needs
@@ -65,8 +66,13 @@ enum-known-closed c = search needs
 
 returns-2 : tie.Need-returns-2
 returns-2 c =
-    let s = c .before .before .before .before .before .before .before .before .before .before .before in let o = c .before .before .before .before .before .enum-told .given in let g = c .before .closed .given in
-    not-closed (s .args .words .now) (s .args .types) (s .pre .0) (o .0 .0) (g .0 .0) (ordered-is (s .args .words .now) (s .args .types) (s .pre .0) _ (ap walked (sym (o .1)) ∙ c .before .before .before .before .before .before .before .ordered .ensures)) (closing-is (s .args .words .now) (s .args .types) (s .pre .0) _ (ap walked (sym (g .1)) ∙ c .before .before .before .scoped .ensures))
+    let s = c .before .before .before .before .before .before .before .before .before .before .before in
+    let o = c .before .before .before .before .before .enum-told .given in
+    let g = c .before .closed .given in
+    not-closed (s .args .words .now) (s .args .types) (s .pre .0) (o .0 .0) (g .0 .0)
+    (ordered-is (s .args .words .now) (s .args .types) (s .pre .0) _
+    (ap walked (sym (o .1)) ∙ c .before .before .before .before .before .before .before .ordered .ensures))
+    (closing-is (s .args .words .now) (s .args .types) (s .pre .0) _ (ap walked (sym (g .1)) ∙ c .before .before .before .scoped .ensures))
 
 enum-told-2 : tie.Need-enum-told-2
 enum-told-2 c = search needs
@@ -76,8 +82,14 @@ typed-requires c κs = search needs
 
 returns-3 : tie.Need-returns-3
 returns-3 c =
-    let s = c .before .before .before .before .before .before .before .before .before .before .before in let o = c .before .before .before .before .before .enum-told .given in let g = c .before .enum-told2 .given in
-    decided (s .args .words .now) (s .args .types) (s .pre .0) (o .0 .0) (g .0 .0) (c .typed .result) (ordered-is (s .args .words .now) (s .args .types) (s .pre .0) _ (ap walked (sym (o .1)) ∙ c .before .before .before .before .before .before .before .ordered .ensures)) (closing-is (s .args .words .now) (s .args .types) (s .pre .0) _ (ap walked (sym (g .1)) ∙ c .before .before .before .scoped .ensures)) (c .typed .ensures)
+    let s = c .before .before .before .before .before .before .before .before .before .before .before in
+    let o = c .before .before .before .before .before .enum-told .given in
+    let g = c .before .enum-told2 .given in
+    decided (s .args .words .now) (s .args .types) (s .pre .0) (o .0 .0) (g .0 .0) (c .typed .result)
+    (ordered-is (s .args .words .now) (s .args .types) (s .pre .0) _
+    (ap walked (sym (o .1)) ∙ c .before .before .before .before .before .before .before .ordered .ensures))
+    (closing-is (s .args .words .now) (s .args .types) (s .pre .0) _ (ap walked (sym (g .1)) ∙ c .before .before .before .scoped .ensures))
+    (c .typed .ensures)
 
 pub judge-spec : {M : Type 1} → statement M
 judge-spec =

@@ -13,7 +13,8 @@ use Rattle.engine.proofs.runs.run.Tie as tie
 
 -- What is known of a file that was accepted.
 known : (c : tie.After-types)
-    → Admits (c .before .before .before .before .before .before .before .args .file .now) (c .before .before .admit .last .1 .0) (c .types .given .0 .0) (c .types .given .0 .1 .0)
+    → Admits (c .before .before .before .before .before .before .before .args .file .now) (c .before .before .admit .last .1 .0)
+    (c .types .given .0 .0) (c .types .given .0 .1 .0)
 known c = let e = c .before .before .admit .ensures in admits _ _ (ap opened (sym (c .types .given .1)) ∙ e .0) (e .1)
 
 admit-requires : tie.Need-admit-requires
@@ -63,7 +64,8 @@ returns c =
     let r = mid .r .given in
     let s = mid .before .before .before .before .before .before .before in
     run-refused (s .args .file .now) (s .args .limit) (r .0 .0)
-    (not-admitted (s .args .file .now) (ap opened (sym (r .1)) ∙ mid .before .before .admit .ensures .0)) (c .before .before .before .before .refused .ensures)
+    (not-admitted (s .args .file .now) (ap opened (sym (r .1)) ∙ mid .before .before .admit .ensures .0))
+    (c .before .before .before .before .refused .ensures)
 
 same-length-3 : tie.Need-same-length-3
 same-length-3 c = search needs
