@@ -7,10 +7,10 @@ use mathlib.Core.Path.{_≡_, refl, sym, ap, subst}
 use lib.Dec.{eqb, leb}
 use native.Mathlib.Omega.{arith}
 use borrow.Author.Tests.{leb-true, leb-false, le-leb, lt-leb, eqb-true, eqb-false, ne-eqb}
-use Rattle.calculus.specs.Trees.{Ty, N, L, list, _to_, Lang, ml, sc, Static, numbers, Test, isFun, isList, isNull, isNum, head, tail, fixpoint, empty, testing, apply, plus, minus, pair, Term, var, num, lam, op1, op2, if0, nil, wrong, ms, sm, app, add, sub, cons, hd, tl, fix, null?, test}
+use Rattle.calculus.specs.Trees.{Ty, N, L, list, _to_, Lang, ml, sc, Static, numbers, Test, isFun, isList, isNull, isNum, HD, TL, FIX, NULL?, TEST, APP, ADD, SUB, CONS, Term, var, num, lam, op1, op2, if0, nil, wrong, ms, sm, app, add, sub, cons, hd, tl, fix, null?, test}
 use Rattle.calculus.specs.Words.{largest}
 use Rattle.calculus.specs.Scope.{Scoped}
-use Rattle.calculus.specs.Reduction.{substitute, isLump, isPair, Form, number, lambda, noItem, items, sealed, other, form, Became, becomes, raises, nothing, onNumber, onLambda, onList, onLump, amiss, third, answer, contract1, onNumbers, contract2, toML, toScheme, contract}
+use Rattle.calculus.specs.Reduction.{substitute, isLump, isCons, Form, number, lambda, nilForm, consForm, sealed, other, form, Became, becomes, raises, nothing, onNumber, onLambda, onList, onLump, amiss, third, answer, contract1, onNumbers, contract2, toML, toScheme, contract}
 use Rattle.calculus.specs.Rules.{Value, lamV, numV, nilV, consV, lumpV, Lambda, Number, Nil, Cons, _⊢_⇒_, app-lambda, app-no-lambda, fix-lambda, add-numbers, add-over, add-no-number, sub-numbers, sub-no-number, if0-zero, if0-other, if0-no-number, hd-cons, hd-nil, hd-no-list, tl-cons, tl-nil, tl-no-list, null-nil, null-cons, fun?-lambda, fun?-other, list?-nil, list?-cons, list?-other, null?-nil, null?-other, num?-number, num?-other, ms-number, ms-no-number, ms-nil, ms-cons, ms-no-list, ms-lambda, ms-no-lambda, sm-number, sm-lump, sm-nil, sm-cons, sm-lambda}
 use Rattle.calculus.proofs.Substitution.{closed-shift, substitute-ordinary}
 
@@ -20,7 +20,7 @@ Ready (var i) = Unit {0}
 Ready (num n) = ⊥
 Ready (lam t b) = ⊥
 Ready (op1 {l} o a) = Value l a
-Ready (op2 {l} o a b) = (isPair o ≡ false) × Value l a × Value l b
+Ready (op2 {l} o a b) = (isCons o ≡ false) × Value l a × Value l b
 Ready (if0 {l} a b c) = Value l a
 Ready (nil t) = ⊥
 Ready (wrong c t) = Unit {0}
@@ -30,8 +30,8 @@ Ready (sm t a) = Value ml a
 abbrev tag : {l : Lang} → Form l → ℕ
 tag (number n) = 0
 tag (lambda t b) = 1
-tag (noItem t) = 2
-tag (items v w) = 3
+tag (nilForm t) = 2
+tag (consForm v w) = 3
 tag (sealed v) = 4
 tag other = 5
 
@@ -157,23 +157,23 @@ unfolding contract contract1 contract2 toML toScheme form onLump amiss third
 contract-ruled (var i) s h = tt
 contract-ruled (num n) s h = tt
 contract-ruled (lam t b) s h = tt
-contract-ruled (op1 (head {l = ml}) v) s h = on-list (Ruled (hd v)) _ _ _ h (λ n c. tt) (λ t q. rw q hd-nil) (λ a b x y q. rw q (hd-cons x y))
-contract-ruled (op1 (head {l = sc}) v) s h = on-list (Ruled (hd v)) _ _ _ h (hd-no-list h) (λ t q. rw q hd-nil) (λ a b x y q. rw q (hd-cons x y))
-contract-ruled (op1 (tail {l = ml}) v) s h = on-list (Ruled (tl v)) _ _ _ h (λ n c. tt) (λ t q. rw q tl-nil) (λ a b x y q. rw q (tl-cons x y))
-contract-ruled (op1 (tail {l = sc}) v) s h = on-list (Ruled (tl v)) _ _ _ h (tl-no-list h) (λ t q. rw q tl-nil) (λ a b x y q. rw q (tl-cons x y))
-contract-ruled (op1 fixpoint v) s h = on-lambda (Ruled (fix v)) _ _ h (λ n. tt) (λ t b q. fix-ruled v t b s q)
-contract-ruled (op1 empty v) s h = on-list (Ruled (null? v)) _ _ _ h (λ n c. tt) (λ t q. rw q null-nil) (λ a b x y q. rw q (null-cons x y))
-contract-ruled (op1 (testing k) v) s h = answered k h .0
-contract-ruled (op2 {l = ml} apply v w) s h = on-lambda (Ruled (app v w)) _ _ (h .1) (λ n. tt) (λ t b q. app-ruled v w t b (s .0) (s .1) (h .2) q)
-contract-ruled (op2 {l = sc} apply v w) s h =
+contract-ruled (op1 (HD {l = ml}) v) s h = on-list (Ruled (hd v)) _ _ _ h (λ n c. tt) (λ t q. rw q hd-nil) (λ a b x y q. rw q (hd-cons x y))
+contract-ruled (op1 (HD {l = sc}) v) s h = on-list (Ruled (hd v)) _ _ _ h (hd-no-list h) (λ t q. rw q hd-nil) (λ a b x y q. rw q (hd-cons x y))
+contract-ruled (op1 (TL {l = ml}) v) s h = on-list (Ruled (tl v)) _ _ _ h (λ n c. tt) (λ t q. rw q tl-nil) (λ a b x y q. rw q (tl-cons x y))
+contract-ruled (op1 (TL {l = sc}) v) s h = on-list (Ruled (tl v)) _ _ _ h (tl-no-list h) (λ t q. rw q tl-nil) (λ a b x y q. rw q (tl-cons x y))
+contract-ruled (op1 FIX v) s h = on-lambda (Ruled (fix v)) _ _ h (λ n. tt) (λ t b q. fix-ruled v t b s q)
+contract-ruled (op1 NULL? v) s h = on-list (Ruled (null? v)) _ _ _ h (λ n c. tt) (λ t q. rw q null-nil) (λ a b x y q. rw q (null-cons x y))
+contract-ruled (op1 (TEST k) v) s h = answered k h .0
+contract-ruled (op2 {l = ml} APP v w) s h = on-lambda (Ruled (app v w)) _ _ (h .1) (λ n. tt) (λ t b q. app-ruled v w t b (s .0) (s .1) (h .2) q)
+contract-ruled (op2 {l = sc} APP v w) s h =
     on-lambda (Ruled (app v w)) _ _ (h .1) (app-no-lambda (h .1) (h .2)) (λ t b q. app-ruled v w t b (s .0) (s .1) (h .2) q)
-contract-ruled (op2 {l = ml} plus v w) s h = on-numbers (Ruled (add v w)) _ (h .1) (h .2) (λ n. tt) (λ n m q p. rw (q, p) (sum-ruled n m _ refl))
-contract-ruled (op2 {l = sc} plus v w) s h =
+contract-ruled (op2 {l = ml} ADD v w) s h = on-numbers (Ruled (add v w)) _ (h .1) (h .2) (λ n. tt) (λ n m q p. rw (q, p) (sum-ruled n m _ refl))
+contract-ruled (op2 {l = sc} ADD v w) s h =
     on-numbers (Ruled (add v w)) _ (h .1) (h .2) (add-no-number (h .1) (h .2)) (λ n m q p. rw (q, p) (sum-ruled n m _ refl))
-contract-ruled (op2 {l = ml} minus v w) s h = on-numbers (Ruled (sub v w)) _ (h .1) (h .2) (λ n. tt) (λ n m q p. rw (q, p) sub-numbers)
-contract-ruled (op2 {l = sc} minus v w) s h =
+contract-ruled (op2 {l = ml} SUB v w) s h = on-numbers (Ruled (sub v w)) _ (h .1) (h .2) (λ n. tt) (λ n m q p. rw (q, p) sub-numbers)
+contract-ruled (op2 {l = sc} SUB v w) s h =
     on-numbers (Ruled (sub v w)) _ (h .1) (h .2) (sub-no-number (h .1) (h .2)) (λ n m q p. rw (q, p) sub-numbers)
-contract-ruled (op2 pair v w) s h = tt
+contract-ruled (op2 CONS v w) s h = tt
 contract-ruled (if0 {l = ml} v b c) s h = on-number (Ruled (if0 v b c)) _ _ h (λ n. tt) (λ n q. rw q (zero-ruled n b c _ refl))
 contract-ruled (if0 {l = sc} v b c) s h = on-number (Ruled (if0 v b c)) _ _ h (if0-no-number h) (λ n q. rw q (zero-ruled n b c _ refl))
 contract-ruled (nil t) s h = tt

@@ -5,14 +5,14 @@ use mathlib.Core.Logic.{_↔_, _⊎_, inl, inr}
 use mathlib.Core.Option.{Option, none, some}
 use mathlib.Core.Path.{_≡_, refl, sym, ap, subst, _∙_}
 use native.Mathlib.Omega.{arith}
-use Rattle.calculus.specs.Trees.{Ty, N, L, list, _to_, ml, sc, head, apply, pair, Term, var, num, lam, nil, wrong, ms, sm, app, cons}
+use Rattle.calculus.specs.Trees.{Ty, N, L, list, _to_, ml, sc, HD, APP, CONS, Term, var, num, lam, nil, wrong, ms, sm, app, cons}
 use Rattle.calculus.specs.Words.{size, sizeTy}
 use Rattle.calculus.specs.Typing.{Typed}
 use Rattle.calculus.specs.Reduction.{form, becomes, onList, contract1}
 use Rattle.calculus.specs.Substitution.{shift, ordinary}
 use Rattle.calculus.specs.Rules.{Value, lamV, numV, nilV, consV, lumpV, Lambda, Number, Nil, Cons, app-lambda, ms-number, ms-no-number, ms-nil, ms-cons, ms-no-list, ms-lambda, ms-no-lambda, sm-number, sm-lump, sm-nil, sm-cons, sm-lambda, Steps, stay, then, Raises}
 use Rattle.calculus.specs.Endings.{by-value}
-use Rattle.calculus.specs.Conversions.{Data, Fits, number, anything, empty, items, function, first, misfit, crossing, boundaries, Reaches, Survives, Crosses, Leaves, Seals, wrapper, Wraps, Functions, Conversions}
+use Rattle.calculus.specs.Conversions.{Data, Fits, number, anything, fits-nil, fits-cons, function, first, misfit, crossing, boundaries, Reaches, Survives, Crosses, Leaves, Seals, wrapper, Wraps, Functions, Conversions}
 use Rattle.calculus.proofs.Contraction.{mark}
 use Rattle.calculus.proofs.Bounds.{size-shift}
 use Rattle.calculus.proofs.Typing.{typed-scoped}
@@ -24,14 +24,14 @@ data Same : ℕ → ℕ → Ty → Term ml → Term sc → Type 0 where
   numbers : {n : ℕ} → Same 1 1 N (num n) (num n)
   lumps : {w : Term sc} → Value sc w → Same 0 1 L (ms L w) w
   nils : {t : Ty} → Same 1 1 (list t) (nil t) (nil tt)
-  pairs : {t : Ty} {i j o p : ℕ} {v v′ : Term ml} {w w′ : Term sc} → Same i o t v w → Same j p (list t) v′ w′
+  conses : {t : Ty} {i j o p : ℕ} {v v′ : Term ml} {w w′ : Term sc} → Same i o t v w → Same j p (list t) v′ w′
       → Same (suc (i + j)) (suc (o + p)) (list t) (cons v v′) (cons w w′)
 
 same-values : {i o : ℕ} {t : Ty} {v : Term ml} {w : Term sc} → Same i o t v w → Value ml v × Value sc w
 same-values numbers = (numV, numV)
 same-values (lumps h) = (lumpV h, h)
 same-values nils = (nilV, nilV)
-same-values (pairs a b) = (consV (same-values a .0) (same-values b .0), consV (same-values a .1) (same-values b .1))
+same-values (conses a b) = (consV (same-values a .0) (same-values b .0), consV (same-values a .1) (same-values b .1))
 
 -- The Scheme value has no more words.
 same-size : {i o : ℕ} {t : Ty} {v : Term ml} {w : Term sc} → Same i o t v w → size w ≤ size v
@@ -39,7 +39,7 @@ unfolding size sizeTy
 same-size numbers = omega arith
 same-size (lumps h) = omega arith
 same-size nils = omega arith
-same-size (pairs a b) = omega (arith, same-size a, same-size b)
+same-size (conses a b) = omega (arith, same-size a, same-size b)
 
 -- The steps of both ways.
 same-count : {i o : ℕ} {t : Ty} {v : Term ml} {w : Term sc} → Same i o t v w → (o + i ≡ crossing t v) × (i + o ≡ crossing t w)
@@ -47,7 +47,7 @@ unfolding crossing
 same-count numbers = (refl, refl)
 same-count (lumps h) = (refl, refl)
 same-count nils = (refl, refl)
-same-count (pairs a b) =
+same-count (conses a b) =
     let x = same-count a in let y = same-count b in (omega (arith, x .0, y .0), omega (arith, x .1, y .1))
 
 type-bounded : (t : Ty) → suc (sizeTy t) ≤ boundaries t
@@ -63,28 +63,28 @@ unfolding size sizeTy boundaries
 arrive numbers = once (rule ms-number) (omega arith)
 arrive (lumps h) = still
 arrive nils = once (rule ms-nil) (omega arith)
-arrive (pairs {t} {i} {j} {v = v} {w = w} {w′} a b) =
+arrive (conses {t} {i} {j} {v = v} {w = w} {w′} a b) =
     let x = same-values a in
     let y = same-values b in
     let rest = ms (list t) w′ in
     on {f = cons (ms t w) rest} (rule (ms-cons (x .1) (y .1))) (omega (arith, type-bounded t, same-size a, same-size b))
     (join (i + j) refl
-    (inside (λ (e : Term ml). cons e rest) (suc (size rest)) (in-head pair) (λ e. omega arith) (omega (arith, same-size b)) (arrive a))
-    (inside (λ (e : Term ml). cons v e) (suc (size v)) (in-tail pair (x .0)) (λ e. omega arith) (omega arith) (arrive b)))
+    (inside (λ (e : Term ml). cons e rest) (suc (size rest)) (in-head CONS) (λ e. omega arith) (omega (arith, same-size b)) (arrive a))
+    (inside (λ (e : Term ml). cons v e) (suc (size v)) (in-tail CONS (x .0)) (λ e. omega arith) (omega arith) (arrive b)))
 
 leave : {i o : ℕ} {t : Ty} {v : Term ml} {w : Term sc} → Same i o t v w → Within (boundaries t + size v) o (sm t v) w
 unfolding size sizeTy boundaries
 leave numbers = once (rule sm-number) (omega arith)
 leave (lumps h) = once (rule (sm-lump h)) (omega arith)
 leave nils = once (rule sm-nil) (omega arith)
-leave (pairs {t} {o = o} {p} {v} {v′} {w} a b) =
+leave (conses {t} {o = o} {p} {v} {v′} {w} a b) =
     let x = same-values a in
     let y = same-values b in
     let rest = sm (list t) v′ in
     on {f = cons (sm t v) rest} (rule (sm-cons (x .0) (y .0))) (omega (arith, type-bounded t))
     (join (o + p) refl
-    (inside (λ (e : Term sc). cons e rest) (suc (size rest)) (in-head pair) (λ e. omega arith) (omega arith) (leave a))
-    (inside (λ (e : Term sc). cons w e) (suc (size w)) (in-tail pair (x .1)) (λ e. omega arith) (omega (arith, same-size a)) (leave b)))
+    (inside (λ (e : Term sc). cons e rest) (suc (size rest)) (in-head CONS) (λ e. omega arith) (omega arith) (leave a))
+    (inside (λ (e : Term sc). cons w e) (suc (size w)) (in-tail CONS (x .1)) (λ e. omega arith) (omega (arith, same-size a)) (leave b)))
 
 -- There and back.
 ml-within : {i o : ℕ} {t : Ty} {v : Term ml} {w : Term sc} → Same i o t v w
@@ -116,14 +116,14 @@ ml-same t {v} d (consV a b) h =
     let e : Data u = rw q at d in
     let x = ml-same u e a (h .2) in
     let y = ml-same (list u) e b (rw p at (h .3)) in
-    subst (λ (s : Ty). Some s v) (sym q) (_, _, _, pairs (x .3) (y .3))
+    subst (λ (s : Ty). Some s v) (sym q) (_, _, _, conses (x .3) (y .3))
 ml-same t d (lumpV a) h = rw (h .1) (0, 1, _, lumps a)
 
 scheme-same : {t : Ty} {w : Term sc} → Data t → Fits t w → (i : ℕ) × (o : ℕ) × (v : Term ml) × Same i o t v w
 scheme-same d number = (1, 1, _, numbers)
 scheme-same d (anything h) = (0, 1, _, lumps h)
-scheme-same d empty = (1, 1, _, nils)
-scheme-same d (items a b) = let x = scheme-same d a in let y = scheme-same d b in (_, _, _, pairs (x .3) (y .3))
+scheme-same d fits-nil = (1, 1, _, nils)
+scheme-same d (fits-cons a b) = let x = scheme-same d a in let y = scheme-same d b in (_, _, _, conses (x .3) (y .3))
 scheme-same d function = absurd d
 
 -- Data survives.
@@ -145,18 +145,18 @@ module _ (t : Ty) {v w : Term sc} (a : Value sc v) (b : Value sc w) where
   past-head : {P : Term ml → Type 0} → Reaches (ms t v) (Value ml) → ((r : Term ml) → Value ml r → Reaches (cons r (ms (list t) w)) P)
       → Reaches (ms (list t) (cons v w)) P
   past-head {P} x k =
-      after-rule (ms-cons a b) (onward (λ (e : Term ml). cons e (ms (list t) w)) (in-head pair) {Q = P} (x .2) (k (x .1) (x .3)))
+      after-rule (ms-cons a b) (onward (λ (e : Term ml). cons e (ms (list t) w)) (in-head CONS) {Q = P} (x .2) (k (x .1) (x .3)))
 
-  items-conversion : (c d : Option ℕ) → Conversion t v c → Conversion (list t) w d → Conversion (list t) (cons v w) (first c d)
-  items-conversion none none x y = (
-    items (x .0) (y .0),
-    past-head (x .1) (λ r h. onward (λ (e : Term ml). cons r e) (in-tail pair h) {Q = Value ml} (y .1 .2) (0, _, stay, consV h (y .1 .3))),
+  cons-conversion : (c d : Option ℕ) → Conversion t v c → Conversion (list t) w d → Conversion (list t) (cons v w) (first c d)
+  cons-conversion none none x y = (
+    fits-cons (x .0) (y .0),
+    past-head (x .1) (λ r h. onward (λ (e : Term ml). cons r e) (in-tail CONS h) {Q = Value ml} (y .1 .2) (0, _, stay, consV h (y .1 .3))),
   )
-  items-conversion none (some d) x y =
-      past-head (x .1) (λ r h. onward (λ (e : Term ml). cons r e) (in-tail pair h) {Q = Raises d} (y .2) (0, _, stay, raises-tail pair h (y .3)))
-  items-conversion (some c) d x y =
+  cons-conversion none (some d) x y =
+      past-head (x .1) (λ r h. onward (λ (e : Term ml). cons r e) (in-tail CONS h) {Q = Raises d} (y .2) (0, _, stay, raises-tail CONS h (y .3)))
+  cons-conversion (some c) d x y =
       after-rule (ms-cons a b)
-      (onward (λ (e : Term ml). cons e (ms (list t) w)) (in-head pair) {Q = Raises c} (x .2) (0, _, stay, raises-head pair (x .3)))
+      (onward (λ (e : Term ml). cons e (ms (list t) w)) (in-head CONS) {Q = Raises c} (x .2) (0, _, stay, raises-head CONS (x .3)))
 
 no-number : (v : Term sc) → Value sc v → ¬ Number v → Conversion N v (some 1)
 no-number v h ne = reached (wrong 1 N) (ms-no-number h ne) (raises N)
@@ -176,8 +176,8 @@ conversion N {v} (consV a b) = no-number v (consV a b) (λ h. omega (arith, ap m
 conversion L h = (anything h, (0, _, stay, lumpV h))
 conversion (list t) {v} lamV = no-list t v lamV (λ h. omega (arith, ap mark (h .1))) (λ h. omega (arith, ap mark (h .2)))
 conversion (list t) {v} numV = no-list t v numV (λ h. omega (arith, ap mark (h .1))) (λ h. omega (arith, ap mark (h .2)))
-conversion (list t) nilV = (empty, reached _ ms-nil nilV)
-conversion (list t) (consV a b) = items-conversion t a b (misfit t a) (misfit (list t) b) (conversion t a) (conversion (list t) b)
+conversion (list t) nilV = (fits-nil, reached _ ms-nil nilV)
+conversion (list t) (consV a b) = cons-conversion t a b (misfit t a) (misfit (list t) b) (conversion t a) (conversion (list t) b)
 conversion (t to u) lamV = (function, reached _ ms-lambda lamV)
 conversion (t to u) {v} numV = no-lambda t u v numV (λ h. omega (arith, ap mark (h .2)))
 conversion (t to u) {v} nilV = no-lambda t u v nilV (λ h. omega (arith, ap mark (h .2)))
@@ -186,17 +186,17 @@ conversion (t to u) {v} (consV a b) = no-lambda t u v (consV a b) (λ h. omega (
 fits-value : {t : Ty} {v : Term sc} → Fits t v → Value sc v
 fits-value number = numV
 fits-value (anything h) = h
-fits-value empty = nilV
-fits-value (items a b) = consV (fits-value a) (fits-value b)
+fits-value fits-nil = nilV
+fits-value (fits-cons a b) = consV (fits-value a) (fits-value b)
 fits-value function = lamV
 
 -- What fits arrives.
 fits-arrives : {t : Ty} {v : Term sc} → Fits t v → Reaches (ms t v) (Value ml)
 fits-arrives number = reached _ ms-number numV
 fits-arrives (anything h) = (0, _, stay, lumpV h)
-fits-arrives empty = reached _ ms-nil nilV
-fits-arrives (items {t} a b) =
-    items-conversion t (fits-value a) (fits-value b) none none (a, fits-arrives a) (b, fits-arrives b) .1
+fits-arrives fits-nil = reached _ ms-nil nilV
+fits-arrives (fits-cons {t} a b) =
+    cons-conversion t (fits-value a) (fits-value b) none none (a, fits-arrives a) (b, fits-arrives b) .1
 fits-arrives function = reached _ ms-lambda lamV
 
 first-code : (P : ℕ → Type 0) (x y : Option ℕ) (c : ℕ) → (x ≡ some c → P c) → (y ≡ some c → P c) → first x y ≡ some c → P c
@@ -255,17 +255,17 @@ Arrival v t = Reaches (sm t v) (Fits t)
 departs : (t : Ty) {v : Term ml} → Value ml v → Typed [] v t → Arrival v t
 departs t {v} lamV h = subst (Arrival v) (sym (h .2)) (reached _ sm-lambda function)
 departs t {v} numV h = subst (Arrival v) (sym h) (reached _ sm-number number)
-departs t {v} nilV h = subst (Arrival v) (sym h) (reached _ sm-nil empty)
+departs t {v} nilV h = subst (Arrival v) (sym h) (reached _ sm-nil fits-nil)
 departs t {v} (consV {w = w} a b) h =
     let u = h .0 in
     let q : t ≡ list u = h .4 .1 in
     let p : h .1 ≡ list u = h .4 .0 in
     let x = departs u a (h .2) in
     let y = departs (list u) b (rw p at (h .3)) in
-    let last : Reaches (cons (x .1) (y .1)) (Fits (list u)) = (0, _, stay, items (x .3) (y .3)) in
-    let tail = onward (λ (e : Term sc). cons (x .1) e) (in-tail pair (fits-value (x .3))) {Q = Fits (list u)} (y .2) last in
+    let last : Reaches (cons (x .1) (y .1)) (Fits (list u)) = (0, _, stay, fits-cons (x .3) (y .3)) in
+    let tail = onward (λ (e : Term sc). cons (x .1) e) (in-tail CONS (fits-value (x .3))) {Q = Fits (list u)} (y .2) last in
     subst (Arrival v) (sym q)
-    (after-rule (sm-cons a b) (onward (λ (e : Term sc). cons e (sm (list u) w)) (in-head pair) {Q = Fits (list u)} (x .2) tail))
+    (after-rule (sm-cons a b) (onward (λ (e : Term sc). cons e (sm (list u) w)) (in-head CONS) {Q = Fits (list u)} (x .2) tail))
 departs t {v} (lumpV a) h = subst (Arrival v) (sym (h .1)) (reached _ (sm-lump a) (anything a))
 
 returned : (t : Ty) {v : Term ml} → Value ml v → Typed [] v t → Reaches (ms t (sm t v)) (Value ml)
@@ -302,9 +302,9 @@ late-error : (n : ℕ) → Steps 5 (app (ms (N to N) (lam tt (nil tt))) (num n))
 unfolding shift ordinary form
 late-error n =
     let f : Term sc = lam tt (nil tt) in
-    then (in-head apply (ms (N to N) f) (lam N (ms N (app f (sm N (var 0))))) (rule ms-lambda))
+    then (in-head APP (ms (N to N) f) (lam N (ms N (app f (sm N (var 0))))) (rule ms-lambda))
     (then {f = ms N (app f (sm N (num n)))} (rule (app-lambda numV))
-    (then (into-ml N (app f (sm N (num n))) (app f (num n)) (in-tail apply lamV (sm N (num n)) (num n) (rule sm-number)))
+    (then (into-ml N (app f (sm N (num n))) (app f (num n)) (in-tail APP lamV (sm N (num n)) (num n) (rule sm-number)))
     (then (into-ml N (app f (num n)) (nil tt) (rule (app-lambda numV)))
     (then (rule (ms-no-number nilV (λ h. omega (arith, ap mark (h .1))))) stay))))
 
@@ -322,37 +322,37 @@ no-lambda-back t u b k n p =
 -- Of equal conses the heads are equal.
 same-head : {a b v w : Term ml} → cons a b ≡ cons v w → a ≡ v
 unfolding contract1 form onList
-same-head {a} {b} {v} {w} q = cc (let z : becomes a ≡ becomes v = ap (contract1 head) q in z)
+same-head {a} {b} {v} {w} q = cc (let z : becomes a ≡ becomes v = ap (contract1 HD) q in z)
 
 abbrev Back : Ty → Term ml → Term ml → Type 0
 Back t r e = e ≡ cons r (nil t)
 
 -- A list of one item comes back as the list of what the item comes back as.
 module _ (t : Ty) {v r : Term ml} {w : Term sc} (h : Value ml v) (f : Fits t w) (x : Value ml r) where
-  item-in : {j : ℕ} → Steps j (ms t w) r → Reaches (ms (list t) (cons w (nil tt))) (Back t r)
-  item-in p =
+  list-in : {j : ℕ} → Steps j (ms t w) r → Reaches (ms (list t) (cons w (nil tt))) (Back t r)
+  list-in p =
       after-rule (ms-cons (fits-value f) nilV)
-      (onward (λ (e : Term ml). cons e (ms (list t) (nil tt))) (in-head pair) {Q = Back t r} p
-      (onward (λ (e : Term ml). cons r e) (in-tail pair x) {Q = Back t r} (then (rule ms-nil) stay) (0, _, stay, refl)))
+      (onward (λ (e : Term ml). cons e (ms (list t) (nil tt))) (in-head CONS) {Q = Back t r} p
+      (onward (λ (e : Term ml). cons r e) (in-tail CONS x) {Q = Back t r} (then (rule ms-nil) stay) (0, _, stay, refl)))
 
-  item-out : {i j : ℕ} → Steps i (sm t v) w → Steps j (ms t w) r → Reaches (ms (list t) (sm (list t) (cons v (nil t)))) (Back t r)
-  item-out q p =
+  list-out : {i j : ℕ} → Steps i (sm t v) w → Steps j (ms t w) r → Reaches (ms (list t) (sm (list t) (cons v (nil t)))) (Back t r)
+  list-out q p =
       let s = list t in
       let rest = sm s (nil t) in
       onward (ms s) (into-ml s) {Q = Back t r} {r = cons (sm t v) rest} (then (rule (sm-cons h nilV)) stay)
-      (onward (λ (e : Term sc). ms s (cons e rest)) (λ a b z. into-ml s (cons a rest) (cons b rest) (in-head pair a b z)) {Q = Back t r} q
-      (onward (λ (e : Term sc). ms s (cons w e)) (λ a b z. into-ml s (cons w a) (cons w b) (in-tail pair (fits-value f) a b z)) {Q = Back t r}
-      (then (rule sm-nil) stay) (item-in p)))
+      (onward (λ (e : Term sc). ms s (cons e rest)) (λ a b z. into-ml s (cons a rest) (cons b rest) (in-head CONS a b z)) {Q = Back t r} q
+      (onward (λ (e : Term sc). ms s (cons w e)) (λ a b z. into-ml s (cons w a) (cons w b) (in-tail CONS (fits-value f) a b z)) {Q = Back t r}
+      (then (rule sm-nil) stay) (list-in p)))
 
 -- So a list of one item comes back as it was only if the item does.
-item-back : (t : Ty) (v : Term ml) → Value ml v → Typed [] v t → (n : ℕ)
+list-back : (t : Ty) (v : Term ml) → Value ml v → Typed [] v t → (n : ℕ)
     → Steps n (ms (list t) (sm (list t) (cons v (nil t)))) (cons v (nil t))
     → (m : ℕ) × Steps m (ms t (sm t v)) v
-item-back t v h k n p =
+list-back t v h k n p =
     let x = departs t h k in
     let y = fits-arrives (x .3) in
     let e = ms (list t) (sm (list t) (cons v (nil t))) in
-    let all = item-out t h (x .3) (y .3) (x .2) (y .2) in
+    let all = list-out t h (x .3) (y .3) (x .2) (y .2) in
     let own : Typed {l = ml} [] e (list t) = ((t, list t, k, refl, (refl, refl)), refl) in
     let done : Steps (all .0) e (cons (y .1) (nil t)) = subst (Steps (all .0) e) (all .3) (all .2) in
     let q = one-end (list t) own done (value-end (list t) own done (consV (y .3) nilV)) p (value-end (list t) own p (consV h nilV)) in
@@ -364,7 +364,7 @@ back-data : (t : Ty) → ((v : Term ml) → Value ml v → Typed [] v t → (n :
 back-data N h = tt
 back-data L h = tt
 back-data (list t) h =
-    back-data t (λ v x k. let y = h (cons v (nil t)) (consV x nilV) (t, list t, k, refl, (refl, refl)) in item-back t v x k (y .0) (y .1))
+    back-data t (λ v x k. let y = h (cons v (nil t)) (consV x nilV) (t, list t, k, refl, (refl, refl)) in list-back t v x k (y .0) (y .1))
 back-data (t to u) h =
     let k : Typed {l = ml} [] (lam t (wrong 1 u)) (t to u) = (u, refl, refl) in
     let x = h (lam t (wrong 1 u)) lamV k in

@@ -1,7 +1,7 @@
 -- Recipes of document 01 worked out by hand in the published rules: nothing here runs `step`. Assumes nothing.
 use mathlib.Core.Path.{ap}
 use native.Mathlib.Omega.{arith}
-use Rattle.calculus.specs.Trees.{N, L, list, _to_, Lang, ml, apply, plus, pair, Term, var, num, lam, if0, nil, wrong, ms, sm, app, add, cons, fix}
+use Rattle.calculus.specs.Trees.{N, L, list, _to_, Lang, ml, APP, ADD, CONS, Term, var, num, lam, if0, nil, wrong, ms, sm, app, add, cons, fix}
 use Rattle.calculus.specs.Substitution.{shift, ordinary}
 use Rattle.calculus.specs.Reduction.{form}
 use Rattle.calculus.specs.Rules.{Around, hole, in-first, in-second, in-ms, around, lamV, numV, nilV, _⊢_⇒_, app-lambda, fix-lambda, if0-no-number, ms-number, ms-cons, ms-no-list, ms-lambda, sm-number, sm-lump, _⟶_, by-rule, Steps, stay, then, Raises, by-wrong}
@@ -15,9 +15,9 @@ at-root h = by-rule hole h
 pub function : Steps 5 (app (ms (N to N) (lam tt (var 0))) (num 7)) (num 7)
 unfolding around shift ordinary
 function =
-    then (by-rule (in-first apply hole (num 7)) ms-lambda)
+    then (by-rule (in-first APP hole (num 7)) ms-lambda)
     (then (at-root (app-lambda numV))
-    (then (by-rule (in-ms N (in-second apply (lam tt (var 0)) lamV hole)) sm-number)
+    (then (by-rule (in-ms N (in-second APP (lam tt (var 0)) lamV hole)) sm-number)
     (then (by-rule (in-ms N hole) (app-lambda numV))
     (then (at-root ms-number) stay))))
 
@@ -40,9 +40,9 @@ pub no-list : Steps 3 (ms (list N) (cons (num 1) (num 2))) (cons (num 1) (wrong 
 unfolding around
 no-list = (
   then (at-root (ms-cons numV numV))
-      (then (by-rule (in-first pair hole (ms (list N) (num 2))) ms-number)
-      (then (by-rule (in-second pair (num 1) numV hole) tail-no-list) stay)),
-  by-wrong (in-second pair (num 1) numV hole) (list N),
+      (then (by-rule (in-first CONS hole (ms (list N) (num 2))) ms-number)
+      (then (by-rule (in-second CONS (num 1) numV hole) tail-no-list) stay)),
+  by-wrong (in-second CONS (num 1) numV hole) (list N),
 )
 
 -- ms N (if0 nil 1 2): 2, 2 steps.
@@ -53,4 +53,4 @@ third = then (by-rule (in-ms N hole) (if0-no-number nilV (λ h. omega (arith, ap
 -- ms N (add (fn v0) (wrong 300)): error 300, in the first step.
 pub own-code : Raises 300 (ms N (add (lam tt (var 0)) (wrong 300 tt)))
 unfolding around
-own-code = by-wrong (in-ms N (in-second plus (lam tt (var 0)) lamV hole)) tt
+own-code = by-wrong (in-ms N (in-second ADD (lam tt (var 0)) lamV hole)) tt

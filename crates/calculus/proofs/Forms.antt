@@ -4,14 +4,14 @@ use Prim.Native.Nat.{ℕ}
 use mathlib.Core.Path.{_≡_}
 use native.Mathlib.Omega.{arith}
 use Rattle.calculus.specs.Trees.{Lang, ml, sc, Static, Term}
-use Rattle.calculus.specs.Reduction.{Form, number, lambda, noItem, items, sealed, other, Became, onNumber, onLambda, onList, onLump}
+use Rattle.calculus.specs.Reduction.{Form, number, lambda, nilForm, consForm, sealed, other, Became, onNumber, onLambda, onList, onLump}
 
 -- The classes that the rules tell apart: numbers, functions, lists, lumps.
 abbrev pub class : {l : Lang} → Form l → ℕ
 class (number n) = 0
 class (lambda t b) = 1
-class (noItem t) = 2
-class (items v w) = 2
+class (nilForm t) = 2
+class (consForm v w) = 2
 class (sealed v) = 3
 class other = 4
 
@@ -22,8 +22,8 @@ module _ {m : Lang} (P : Became m → Type 0) (o : Became m) where
   unfolding onNumber
   on-number R (number n) k h ne p = p n h
   on-number R (lambda t b) k h ne p = ne (omega arith)
-  on-number R (noItem t) k h ne p = ne (omega arith)
-  on-number R (items v w) k h ne p = ne (omega arith)
+  on-number R (nilForm t) k h ne p = ne (omega arith)
+  on-number R (consForm v w) k h ne p = ne (omega arith)
   on-number R (sealed v) k h ne p = ne (omega arith)
   on-number R other k h ne p = ne (omega arith)
 
@@ -32,18 +32,18 @@ module _ {m : Lang} (P : Became m → Type 0) (o : Became m) where
   unfolding onLambda
   on-lambda R (number n) k h ne p = ne (omega arith)
   on-lambda R (lambda t b) k h ne p = p t b h
-  on-lambda R (noItem t) k h ne p = ne (omega arith)
-  on-lambda R (items v w) k h ne p = ne (omega arith)
+  on-lambda R (nilForm t) k h ne p = ne (omega arith)
+  on-lambda R (consForm v w) k h ne p = ne (omega arith)
   on-lambda R (sealed v) k h ne p = ne (omega arith)
   on-lambda R other k h ne p = ne (omega arith)
 
   pub on-list : {l : Lang} (R : Form l → Type 0) (f : Form l) (e : Static l → Became m) (k : Term l → Term l → Became m) → R f
-      → ((class f ≡ 2 → ⊥) → P o) → ((t : Static l) → R (noItem t) → P (e t)) → ((v w : Term l) → R (items v w) → P (k v w)) → P (onList f o e k)
+      → ((class f ≡ 2 → ⊥) → P o) → ((t : Static l) → R (nilForm t) → P (e t)) → ((v w : Term l) → R (consForm v w) → P (k v w)) → P (onList f o e k)
   unfolding onList
   on-list R (number n) e k h ne p q = ne (omega arith)
   on-list R (lambda t b) e k h ne p q = ne (omega arith)
-  on-list R (noItem t) e k h ne p q = p t h
-  on-list R (items v w) e k h ne p q = q v w h
+  on-list R (nilForm t) e k h ne p q = p t h
+  on-list R (consForm v w) e k h ne p q = q v w h
   on-list R (sealed v) e k h ne p q = ne (omega arith)
   on-list R other e k h ne p q = ne (omega arith)
 
@@ -52,16 +52,16 @@ module _ {m : Lang} (P : Became m → Type 0) (o : Became m) where
   unfolding onLump
   on-lump R (number n) k h ne p = ne (omega arith)
   on-lump R (lambda t b) k h ne p = ne (omega arith)
-  on-lump R (noItem t) k h ne p = ne (omega arith)
-  on-lump R (items v w) k h ne p = ne (omega arith)
+  on-lump R (nilForm t) k h ne p = ne (omega arith)
+  on-lump R (consForm v w) k h ne p = ne (omega arith)
   on-lump R (sealed v) k h ne p = p v h
   on-lump R other k h ne p = ne (omega arith)
 
 -- The forms of Scheme, which has no lumps.
 pub of-scheme : (P : Form sc → Type 0) → ((n : ℕ) → P (number n)) → ((t : Static sc) (b : Term sc) → P (lambda t b))
-    → ((t : Static sc) → P (noItem t)) → ((v w : Term sc) → P (items v w)) → P other → (f : Form sc) → P f
+    → ((t : Static sc) → P (nilForm t)) → ((v w : Term sc) → P (consForm v w)) → P other → (f : Form sc) → P f
 of-scheme P n l e i o (number x) = n x
 of-scheme P n l e i o (lambda t b) = l t b
-of-scheme P n l e i o (noItem t) = e t
-of-scheme P n l e i o (items v w) = i v w
+of-scheme P n l e i o (nilForm t) = e t
+of-scheme P n l e i o (consForm v w) = i v w
 of-scheme P n l e i o other = o

@@ -5,7 +5,7 @@ use mathlib.Core.List.{[], _∷_}
 use mathlib.Core.Logic.{_↔_}
 use mathlib.Core.Option.{Option, none, some, Option·some-injective, Option·none-ne-some}
 use mathlib.Core.Path.{_≡_, refl, sym, ap, _∙_}
-use Rattle.calculus.specs.Trees.{N, L, list, _to_, Ty-discrete, Lang, ml, sc, Static, numbers, lists, functions, Op1, head, tail, fixpoint, empty, testing, Op2, apply, plus, minus, pair, Term, var, num, lam, op1, op2, if0, nil, wrong, ms, sm}
+use Rattle.calculus.specs.Trees.{N, L, list, _to_, Ty-discrete, Lang, ml, sc, Static, numbers, lists, functions, Op1, HD, TL, FIX, NULL?, TEST, Op2, APP, ADD, SUB, CONS, Term, var, num, lam, op1, op2, if0, nil, wrong, ms, sm}
 use Rattle.calculus.specs.Verdicts.{found}
 use Rattle.calculus.specs.Typing.{Entry, of, Lambdas, At, Rule1, Rule2, Typed}
 use Rattle.calculus.specs.Inference.{decided, sameType, entryType, typeAt, element, sides, result1, sumType, result2, infer}
@@ -86,13 +86,13 @@ sides-exactly sc t = record { right = λ x q. refl; whole = λ x q. refl }
 
 -- The operators, and if0.
 result1-exactly : {l : Lang} (o : Op1 l) (t : Static l) → Exactly (Rule1 o t) (result1 o t)
-result1-exactly (head {l}) t = element-exactly l t
-result1-exactly (tail {l}) t = found-exactly (element-exactly l t) (λ u. some-exactly)
-result1-exactly fixpoint t =
+result1-exactly (HD {l}) t = element-exactly l t
+result1-exactly (TL {l}) t = found-exactly (element-exactly l t) (λ u. some-exactly)
+result1-exactly FIX t =
     iff-exactly (found-exactly (sides-exactly ml t) (λ x. same-exactly ml (x .0) (x .1) some-exactly))
     (λ τ. (λ h. h .1 ∙ rw (h .2 .1, h .2 .0), λ q. ((τ, τ), q, (refl, refl))))
-result1-exactly empty t = found-exactly (element-exactly ml t) (λ u. some-exactly)
-result1-exactly (testing k) t = record { right = λ τ q. tt; whole = λ τ q. refl }
+result1-exactly NULL? t = found-exactly (element-exactly ml t) (λ u. some-exactly)
+result1-exactly (TEST k) t = record { right = λ τ q. tt; whole = λ τ q. refl }
 
 sum-exactly : (l : Lang) (t u : Static l) → Exactly (λ τ. (t ≡ numbers l) × (u ≡ numbers l) × (τ ≡ numbers l)) (sumType l t u)
 sum-exactly l t u =
@@ -100,12 +100,12 @@ sum-exactly l t u =
     (λ τ. (λ h. (h .0, h .1 .0, h .1 .1), λ h. (h .0, (h .1, h .2))))
 
 result2-exactly : (l : Lang) (o : Op2) (t u : Static l) → Exactly (Rule2 l o t u) (result2 l o t u)
-result2-exactly l apply t u =
+result2-exactly l APP t u =
     iff-exactly (found-exactly (sides-exactly l t) (λ x. same-exactly l (x .0) u some-exactly))
     (λ τ. (λ h. h .1 ∙ rw (h .2 .0, h .2 .1), λ q. ((u, τ), q, (refl, refl))))
-result2-exactly l plus t u = sum-exactly l t u
-result2-exactly l minus t u = sum-exactly l t u
-result2-exactly l pair t u = same-exactly l u (lists l t) some-exactly
+result2-exactly l ADD t u = sum-exactly l t u
+result2-exactly l SUB t u = sum-exactly l t u
+result2-exactly l CONS t u = same-exactly l u (lists l t) some-exactly
 
 -- The answer is the type, exactly.
 infer-exactly : {l : Lang} (Γ : Lambdas) (e : Term l) → Exactly (Typed Γ e) (infer Γ e)

@@ -2,7 +2,7 @@
 use mathlib.Core.Bool.{Bool, true, false}
 use mathlib.Core.Path.{_≡_, refl, ap, _∙_}
 use Rattle.calculus.specs.Trees.{Lang, Term, var, num, lam, op1, op2, if0, nil, wrong, ms, sm}
-use Rattle.calculus.specs.Reduction.{isLump, isPair, contract, Frame, under, first, second, tested, intoML, intoScheme, plug, Context, fill, Turn, done, at, into, own, turn, Outcome, value, outcome, stepped, step}
+use Rattle.calculus.specs.Reduction.{isLump, isCons, contract, Frame, under, first, second, tested, intoML, intoScheme, plug, Context, fill, Turn, done, at, into, own, turn, Outcome, value, outcome, stepped, step}
 
 abbrev Stands : {l : Lang} → Term l → Turn l → Type 0
 Stands e done = Unit {0}
@@ -27,7 +27,7 @@ turn-stands (lam t b) = tt
 turn-stands (op1 o a) = into-stands (under o) a (op1 o a) (turn a) _ refl (turn-stands a) (own-stands false (op1 o a))
 turn-stands (op2 o a b) =
     into-stands (first o b) a (op2 o a b) (turn a) _ refl (turn-stands a)
-    (into-stands (second o a) b (op2 o a b) (turn b) _ refl (turn-stands b) (own-stands (isPair o) (op2 o a b)))
+    (into-stands (second o a) b (op2 o a b) (turn b) _ refl (turn-stands b) (own-stands (isCons o) (op2 o a b)))
 turn-stands (if0 a b c) = into-stands (tested b c) a (if0 a b c) (turn a) _ refl (turn-stands a) (own-stands false (if0 a b c))
 turn-stands (nil t) = tt
 turn-stands (wrong c t) = own-stands false (wrong c t)

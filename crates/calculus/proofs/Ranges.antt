@@ -5,10 +5,10 @@ use mathlib.Core.Path.{_≡_, refl}
 use lib.Dec.{eqb, leb}
 use borrow.Author.Tests.{leb-true}
 use native.Mathlib.Omega.{arith}
-use Rattle.calculus.specs.Trees.{Ty, N, L, list, _to_, Lang, ml, sc, Static, numbers, Test, isFun, isList, isNull, isNum, Op1, head, tail, fixpoint, empty, testing, Op2, apply, plus, minus, pair, Term, var, num, lam, op1, op2, if0, nil, wrong, ms, sm, fix}
+use Rattle.calculus.specs.Trees.{Ty, N, L, list, _to_, Lang, ml, sc, Static, numbers, Test, isFun, isList, isNull, isNum, Op1, HD, TL, FIX, NULL?, TEST, Op2, APP, ADD, SUB, CONS, Term, var, num, lam, op1, op2, if0, nil, wrong, ms, sm, fix}
 use Rattle.calculus.specs.Words.{largest, lastCode}
 use Rattle.calculus.specs.Limits.{InRange}
-use Rattle.calculus.specs.Reduction.{replaced, substitute, Form, number, lambda, noItem, items, sealed, other, form, Became, becomes, raises, nothing, onNumber, onLambda, onList, amiss, third, answer, contract1, onNumbers, contract2, toML, toScheme, contract, Frame, under, first, second, tested, intoML, intoScheme, plug, Context, here, within, fill, Outcome, value, raised, next, stuck, outcome, step}
+use Rattle.calculus.specs.Reduction.{replaced, substitute, Form, number, lambda, nilForm, consForm, sealed, other, form, Became, becomes, raises, nothing, onNumber, onLambda, onList, amiss, third, answer, contract1, onNumbers, contract2, toML, toScheme, contract, Frame, under, first, second, tested, intoML, intoScheme, plug, Context, here, within, fill, Outcome, value, raised, next, stuck, outcome, step}
 use Rattle.calculus.proofs.Forms.{of-scheme, on-number, on-lambda, on-list, on-lump}
 use Rattle.calculus.proofs.Places.{step-by}
 
@@ -41,8 +41,8 @@ substitute-in-range v k (sm t a) h r = substitute-in-range v k a h r
 abbrev FormInRange : {l : Lang} → Form l → Type 0
 FormInRange (number n) = n ≤ largest
 FormInRange (lambda t b) = InRange b
-FormInRange (noItem t) = Unit {0}
-FormInRange (items v w) = InRange v × InRange w
+FormInRange (nilForm t) = Unit {0}
+FormInRange (consForm v w) = InRange v × InRange w
 FormInRange (sealed v) = InRange v
 FormInRange other = Unit {0}
 
@@ -52,10 +52,10 @@ form-in-range (var i) h = tt
 form-in-range (num n) h = h
 form-in-range (lam t b) h = h
 form-in-range (op1 o a) h = tt
-form-in-range (op2 apply a b) h = tt
-form-in-range (op2 plus a b) h = tt
-form-in-range (op2 minus a b) h = tt
-form-in-range (op2 pair a b) h = h
+form-in-range (op2 APP a b) h = tt
+form-in-range (op2 ADD a b) h = tt
+form-in-range (op2 SUB a b) h = tt
+form-in-range (op2 CONS a b) h = h
 form-in-range (if0 a b c) h = tt
 form-in-range (nil t) h = tt
 form-in-range (wrong c t) h = tt
@@ -106,11 +106,11 @@ module _ {l m : Lang} (v : Term l) (h : InRange v) (o : Became m) (r : BecameInR
 
 contract1-in-range : {l : Lang} (o : Op1 l) (v : Term l) → InRange v → BecameInRange (contract1 o v)
 unfolding InRange contract1
-contract1-in-range (head {l}) v h = by-list v h _ (amiss-in-range l 3 (omega arith)) _ _ (λ t. omega arith) (λ a b p q. p)
-contract1-in-range (tail {l}) v h = by-list v h _ (amiss-in-range l 3 (omega arith)) _ _ (λ t. omega arith) (λ a b p q. q)
-contract1-in-range fixpoint v h = by-lambda v h nothing tt _ (λ t b p. substitute-in-range (fix v) 0 b h p)
-contract1-in-range empty v h = by-list v h nothing tt _ _ (λ t. omega arith) (λ a b p q. omega arith)
-contract1-in-range (testing k) v h = answer-in-range k (form v)
+contract1-in-range (HD {l}) v h = by-list v h _ (amiss-in-range l 3 (omega arith)) _ _ (λ t. omega arith) (λ a b p q. p)
+contract1-in-range (TL {l}) v h = by-list v h _ (amiss-in-range l 3 (omega arith)) _ _ (λ t. omega arith) (λ a b p q. q)
+contract1-in-range FIX v h = by-lambda v h nothing tt _ (λ t b p. substitute-in-range (fix v) 0 b h p)
+contract1-in-range NULL? v h = by-list v h nothing tt _ _ (λ t. omega arith) (λ a b p q. omega arith)
+contract1-in-range (TEST k) v h = answer-in-range k (form v)
 
 numbers-in-range : (l : Lang) (v w : Term l) (k : ℕ → ℕ → Became l) → InRange v → InRange w
     → ((n m : ℕ) → n ≤ largest → BecameInRange (k n m)) → BecameInRange (onNumbers l v w k)
@@ -120,12 +120,12 @@ numbers-in-range l v w k h i p =
 
 contract2-in-range : (l : Lang) (o : Op2) (v w : Term l) → InRange v → InRange w → BecameInRange (contract2 l o v w)
 unfolding InRange contract2
-contract2-in-range l apply v w h i = by-lambda v h _ (amiss-in-range l 2 (omega arith)) _ (λ t b p. substitute-in-range w 0 b i p)
-contract2-in-range l plus v w h i =
+contract2-in-range l APP v w h i = by-lambda v h _ (amiss-in-range l 2 (omega arith)) _ (λ t b p. substitute-in-range w 0 b i p)
+contract2-in-range l ADD v w h i =
     numbers-in-range l v w _ h i
     (λ n m p. cond-in-range {l = l} (leb (n + m) largest) (num (n + m)) (wrong 5 (numbers l)) (λ q. leb-true (n + m) largest q) (omega arith))
-contract2-in-range l minus v w h i = numbers-in-range l v w _ h i (λ n m p. omega arith)
-contract2-in-range l pair v w h i = tt
+contract2-in-range l SUB v w h i = numbers-in-range l v w _ h i (λ n m p. omega arith)
+contract2-in-range l CONS v w h i = tt
 
 toML-in-range : (t : Ty) (v : Term sc) → InRange v → BecameInRange (toML t v)
 unfolding InRange toML

@@ -8,7 +8,7 @@ use lib.Dec.{T, eqb}
 use lib.ListN.{length, replicate}
 use native.Mathlib.Omega.{arith}
 use Rattle.calculus.specs.Verdicts.{found, passed}
-use Rattle.calculus.specs.Trees.{Ty, N, L, list, _to_, Lang, ml, sc, isFun, isList, isNull, isNum, head, tail, fixpoint, empty, testing, apply, plus, minus, pair, Term, var, num, lam, op1, op2, if0, nil, wrong, ms, sm}
+use Rattle.calculus.specs.Trees.{Ty, N, L, list, _to_, Lang, ml, sc, isFun, isList, isNull, isNum, HD, TL, FIX, NULL?, TEST, APP, ADD, SUB, CONS, Term, var, num, lam, op1, op2, if0, nil, wrong, ms, sm}
 use Rattle.calculus.specs.Words.{word, put, size}
 use Rattle.calculus.specs.Kinds.{Sort, type, term, Tree, Trees, putTree, putTrees, table, rowIn}
 use Rattle.calculus.specs.Reading.{opens, refuses, later, acted, walk}
@@ -55,16 +55,16 @@ unfolding view view-ml seen
 scoped-ml (var i) Γ = free-iff (lambdaAt Γ i ml)
 scoped-ml (num n) Γ = (λ h. (refl, tt), λ x. tt)
 scoped-ml (lam t b) Γ = (λ h. (refl, (tt, (h, tt))), λ x. x .1 .1 .0)
-scoped-ml (op2 apply a b) Γ = (λ h. (refl, (h .0, (h .1, tt))), λ x. (x .1 .0, x .1 .1 .0))
-scoped-ml (op1 fixpoint a) Γ = (λ h. (refl, (h, tt)), λ x. x .1 .0)
-scoped-ml (op2 plus a b) Γ = (λ h. (refl, (h .0, (h .1, tt))), λ x. (x .1 .0, x .1 .1 .0))
-scoped-ml (op2 minus a b) Γ = (λ h. (refl, (h .0, (h .1, tt))), λ x. (x .1 .0, x .1 .1 .0))
+scoped-ml (op2 APP a b) Γ = (λ h. (refl, (h .0, (h .1, tt))), λ x. (x .1 .0, x .1 .1 .0))
+scoped-ml (op1 FIX a) Γ = (λ h. (refl, (h, tt)), λ x. x .1 .0)
+scoped-ml (op2 ADD a b) Γ = (λ h. (refl, (h .0, (h .1, tt))), λ x. (x .1 .0, x .1 .1 .0))
+scoped-ml (op2 SUB a b) Γ = (λ h. (refl, (h .0, (h .1, tt))), λ x. (x .1 .0, x .1 .1 .0))
 scoped-ml (if0 a b c) Γ = (λ h. (refl, (h .0, (h .1, (h .2, tt)))), λ x. (x .1 .0, x .1 .1 .0, x .1 .1 .1 .0))
 scoped-ml (nil t) Γ = (λ h. (refl, (tt, tt)), λ x. tt)
-scoped-ml (op2 pair a b) Γ = (λ h. (refl, (h .0, (h .1, tt))), λ x. (x .1 .0, x .1 .1 .0))
-scoped-ml (op1 head a) Γ = (λ h. (refl, (h, tt)), λ x. x .1 .0)
-scoped-ml (op1 tail a) Γ = (λ h. (refl, (h, tt)), λ x. x .1 .0)
-scoped-ml (op1 empty a) Γ = (λ h. (refl, (h, tt)), λ x. x .1 .0)
+scoped-ml (op2 CONS a b) Γ = (λ h. (refl, (h .0, (h .1, tt))), λ x. (x .1 .0, x .1 .1 .0))
+scoped-ml (op1 HD a) Γ = (λ h. (refl, (h, tt)), λ x. x .1 .0)
+scoped-ml (op1 TL a) Γ = (λ h. (refl, (h, tt)), λ x. x .1 .0)
+scoped-ml (op1 NULL? a) Γ = (λ h. (refl, (h, tt)), λ x. x .1 .0)
 scoped-ml (wrong c t) Γ = (λ h. (refl, (tt, tt)), λ x. tt)
 scoped-ml (ms t a) Γ = (λ h. (refl, (tt, (h, tt))), λ x. x .1 .1 .0)
 
@@ -73,18 +73,18 @@ unfolding view view-sc seen
 scoped-sc (var i) Γ = free-iff (lambdaAt Γ i sc)
 scoped-sc (num n) Γ = (λ h. (refl, tt), λ x. tt)
 scoped-sc (lam t b) Γ = (λ h. (refl, (h, tt)), λ x. x .1 .0)
-scoped-sc (op2 apply a b) Γ = (λ h. (refl, (h .0, (h .1, tt))), λ x. (x .1 .0, x .1 .1 .0))
-scoped-sc (op2 plus a b) Γ = (λ h. (refl, (h .0, (h .1, tt))), λ x. (x .1 .0, x .1 .1 .0))
-scoped-sc (op2 minus a b) Γ = (λ h. (refl, (h .0, (h .1, tt))), λ x. (x .1 .0, x .1 .1 .0))
+scoped-sc (op2 APP a b) Γ = (λ h. (refl, (h .0, (h .1, tt))), λ x. (x .1 .0, x .1 .1 .0))
+scoped-sc (op2 ADD a b) Γ = (λ h. (refl, (h .0, (h .1, tt))), λ x. (x .1 .0, x .1 .1 .0))
+scoped-sc (op2 SUB a b) Γ = (λ h. (refl, (h .0, (h .1, tt))), λ x. (x .1 .0, x .1 .1 .0))
 scoped-sc (if0 a b c) Γ = (λ h. (refl, (h .0, (h .1, (h .2, tt)))), λ x. (x .1 .0, x .1 .1 .0, x .1 .1 .1 .0))
 scoped-sc (nil t) Γ = (λ h. (refl, tt), λ x. tt)
-scoped-sc (op2 pair a b) Γ = (λ h. (refl, (h .0, (h .1, tt))), λ x. (x .1 .0, x .1 .1 .0))
-scoped-sc (op1 head a) Γ = (λ h. (refl, (h, tt)), λ x. x .1 .0)
-scoped-sc (op1 tail a) Γ = (λ h. (refl, (h, tt)), λ x. x .1 .0)
-scoped-sc (op1 (testing isFun) a) Γ = (λ h. (refl, (h, tt)), λ x. x .1 .0)
-scoped-sc (op1 (testing isList) a) Γ = (λ h. (refl, (h, tt)), λ x. x .1 .0)
-scoped-sc (op1 (testing isNull) a) Γ = (λ h. (refl, (h, tt)), λ x. x .1 .0)
-scoped-sc (op1 (testing isNum) a) Γ = (λ h. (refl, (h, tt)), λ x. x .1 .0)
+scoped-sc (op2 CONS a b) Γ = (λ h. (refl, (h .0, (h .1, tt))), λ x. (x .1 .0, x .1 .1 .0))
+scoped-sc (op1 HD a) Γ = (λ h. (refl, (h, tt)), λ x. x .1 .0)
+scoped-sc (op1 TL a) Γ = (λ h. (refl, (h, tt)), λ x. x .1 .0)
+scoped-sc (op1 (TEST isFun) a) Γ = (λ h. (refl, (h, tt)), λ x. x .1 .0)
+scoped-sc (op1 (TEST isList) a) Γ = (λ h. (refl, (h, tt)), λ x. x .1 .0)
+scoped-sc (op1 (TEST isNull) a) Γ = (λ h. (refl, (h, tt)), λ x. x .1 .0)
+scoped-sc (op1 (TEST isNum) a) Γ = (λ h. (refl, (h, tt)), λ x. x .1 .0)
 scoped-sc (wrong c t) Γ = (λ h. (refl, tt), λ x. tt)
 scoped-sc (sm t a) Γ = (λ h. (refl, (tt, (h, tt))), λ x. x .1 .1 .0)
 

@@ -4,10 +4,10 @@ use mathlib.Core.Bool.{Bool, true, false, cond}
 use mathlib.Core.List.{[], _∷_}
 use mathlib.Core.Path.{_≡_, refl, _∙_}
 use lib.Dec.{eqb, leb}
-use Rattle.calculus.specs.Trees.{Ty, N, L, list, _to_, Lang, ml, sc, Static, numbers, lists, functions, Op1, head, tail, fixpoint, empty, testing, Op2, apply, plus, minus, pair, Term, var, num, lam, op1, op2, if0, nil, wrong, ms, sm, cons, fix}
+use Rattle.calculus.specs.Trees.{Ty, N, L, list, _to_, Lang, ml, sc, Static, numbers, lists, functions, Op1, HD, TL, FIX, NULL?, TEST, Op2, APP, ADD, SUB, CONS, Term, var, num, lam, op1, op2, if0, nil, wrong, ms, sm, cons, fix}
 use Rattle.calculus.specs.Words.{largest}
 use Rattle.calculus.specs.Typing.{of, Rule1, Rule2, Typed}
-use Rattle.calculus.specs.Reduction.{isLump, isPair, Form, number, lambda, noItem, items, sealed, other, form, Became, becomes, raises, nothing, onNumber, onLambda, onList, onLump, amiss, third, contract1, onNumbers, contract2, toML, toScheme, contract, Frame, under, first, second, tested, intoML, intoScheme, plug, Context, fill, Turn, done, at, into, own, turn, Outcome, value, raised, next, stuck, outcome, stepped, step}
+use Rattle.calculus.specs.Reduction.{isLump, isCons, Form, number, lambda, nilForm, consForm, sealed, other, form, Became, becomes, raises, nothing, onNumber, onLambda, onList, onLump, amiss, third, contract1, onNumbers, contract2, toML, toScheme, contract, Frame, under, first, second, tested, intoML, intoScheme, plug, Context, fill, Turn, done, at, into, own, turn, Outcome, value, raised, next, stuck, outcome, stepped, step}
 use Rattle.calculus.proofs.Forms.{class, on-number, on-lambda, on-list, on-lump}
 use Rattle.calculus.proofs.Typing.{weaken, substitute-typed}
 
@@ -15,8 +15,8 @@ use Rattle.calculus.proofs.Typing.{weaken, substitute-typed}
 abbrev FormTyped : {l : Lang} → Form l → Static l → Type 0
 FormTyped (number {l} n) τ = τ ≡ numbers l
 FormTyped (lambda t b) τ = Typed [] (lam t b) τ
-FormTyped (noItem {l} t) τ = τ ≡ lists l t
-FormTyped (items v w) τ = Typed [] (cons v w) τ
+FormTyped (nilForm {l} t) τ = τ ≡ lists l t
+FormTyped (consForm v w) τ = Typed [] (cons v w) τ
 FormTyped (sealed v) τ = Typed [] (ms L v) τ
 FormTyped other τ = ⊥
 
@@ -30,8 +30,8 @@ classTy L = 3
 canonical : (f : Form ml) (τ : Ty) → FormTyped f τ → class f ≡ classTy τ
 canonical (number n) τ h = rw h
 canonical (lambda t b) τ h = rw (h .2)
-canonical (noItem t) τ h = rw h
-canonical (items v w) τ h = rw (h .4 .1)
+canonical (nilForm t) τ h = rw h
+canonical (consForm v w) τ h = rw (h .4 .1)
 canonical (sealed v) τ h = rw (h .1)
 canonical other τ h = absurd h
 
@@ -113,13 +113,13 @@ cond-typed τ false x y h k = k
 contract1-typed : {l : Lang} (o : Op1 l) (v : Term l) (t τ : Static l) → Typed [] v t → Rule1 o t τ → FormTyped (form v) t
     → Preserved τ (contract1 o v)
 unfolding contract1
-contract1-typed (head {l}) v t τ h r f = by-list τ (form v) _ (amiss-typed l τ 3) τ _ _ (rw r at f) refl (λ a b p q. p)
-contract1-typed (tail {l}) v t τ h r f =
+contract1-typed (HD {l}) v t τ h r f = by-list τ (form v) _ (amiss-typed l τ 3) τ _ _ (rw r at f) refl (λ a b p q. p)
+contract1-typed (TL {l}) v t τ h r f =
     by-list τ (form v) _ (amiss-typed l τ 3) (r .0) _ _ (rw (r .1) at f) (r .2) (λ a b p q. rw (r .2) q)
-contract1-typed fixpoint v t τ h r f =
+contract1-typed FIX v t τ h r f =
     by-lambda {l = ml} τ (form v) _ tt τ τ _ (rw r at f) (λ b p. substitute-typed (fix v) τ (t, h, r) [] b τ p)
-contract1-typed empty v t τ h r f = by-list {l = ml} τ (form v) _ tt (r .0) _ _ (rw (r .1) at f) (r .2) (λ a b p q. r .2)
-contract1-typed (testing k) v t τ h r f = refl
+contract1-typed NULL? v t τ h r f = by-list {l = ml} τ (form v) _ tt (r .0) _ _ (rw (r .1) at f) (r .2) (λ a b p q. r .2)
+contract1-typed (TEST k) v t τ h r f = refl
 
 numbers-typed : (l : Lang) (τ : Static l) (v w : Term l) (k : ℕ → ℕ → Became l) → FormTyped (form v) (numbers l) → FormTyped (form w) (numbers l)
     → ((n m : ℕ) → Preserved τ (k n m)) → Preserved τ (onNumbers l v w k)
@@ -151,17 +151,17 @@ into-placed f a e σ τ done r h p q = q h
 into-placed f a e σ τ (at m F n) r h p q = (h .0, h .1, λ x t. p (fill F x) (h .2 x t))
 
 op2-placed : (l : Lang) (o : Op2) (a b : Term l) (τ t u : Static l) → Typed [] a t → Typed [] b u → Rule2 l o t u τ
-    → FormTyped (form a) t → FormTyped (form b) u → Placed (op2 o a b) τ (own (isPair o) (op2 o a b))
+    → FormTyped (form a) t → FormTyped (form b) u → Placed (op2 o a b) τ (own (isCons o) (op2 o a b))
 unfolding form contract contract2
-op2-placed l apply a b τ t u h k r f g =
-    own-placed (op2 apply a b) τ (by-lambda τ (form a) _ (amiss-typed l τ 2) u τ _ (rw r at f) (λ c p. substitute-typed b u k [] c τ p))
-op2-placed l plus a b τ t u h k r f g =
-    own-placed (op2 plus a b) τ
+op2-placed l APP a b τ t u h k r f g =
+    own-placed (op2 APP a b) τ (by-lambda τ (form a) _ (amiss-typed l τ 2) u τ _ (rw r at f) (λ c p. substitute-typed b u k [] c τ p))
+op2-placed l ADD a b τ t u h k r f g =
+    own-placed (op2 ADD a b) τ
     (numbers-typed l τ a b _ (rw (r .0) at f) (rw (r .1) at g)
     (λ n m. cond-typed τ (leb (n + m) largest) (num (n + m)) (wrong 5 (numbers l)) (r .2) (r .2)))
-op2-placed l minus a b τ t u h k r f g =
-    own-placed (op2 minus a b) τ (numbers-typed l τ a b _ (rw (r .0) at f) (rw (r .1) at g) (λ n m. r .2))
-op2-placed l pair a b τ t u h k r f g = (t, u, h, k, r)
+op2-placed l SUB a b τ t u h k r f g =
+    own-placed (op2 SUB a b) τ (numbers-typed l τ a b _ (rw (r .0) at f) (rw (r .1) at g) (λ n m. r .2))
+op2-placed l CONS a b τ t u h k r f g = (t, u, h, k, r)
 
 ms-placed : (t : Ty) (a : Term sc) → Typed [] a tt → FormTyped (form a) tt → Placed (ms t a) t (own (isLump t) (ms t a))
 unfolding form contract toML

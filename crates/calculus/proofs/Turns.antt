@@ -5,10 +5,10 @@ use mathlib.Core.Logic.{_↔_}
 use mathlib.Core.Path.{_≡_, refl, ap, subst}
 use lib.Dec.{T}
 use Rattle.calculus.specs.Trees.{Lang, Term, var, num, lam, op1, op2, if0, nil, wrong, ms, sm}
-use Rattle.calculus.specs.Reduction.{isLump, isPair, isValue, Frame, under, first, second, tested, intoML, intoScheme, plug, Context, here, within, fill, Turn, done, at, into, own, turn}
+use Rattle.calculus.specs.Reduction.{isLump, isCons, isValue, Frame, under, first, second, tested, intoML, intoScheme, plug, Context, here, within, fill, Turn, done, at, into, own, turn}
 use Rattle.calculus.specs.Rules.{Value, lamV, numV, nilV}
 use Rattle.calculus.specs.Evaluation.{Taken, Evaluated}
-use Rattle.calculus.proofs.Values.{pair-value, lump-value, value-iff, value-turn}
+use Rattle.calculus.proofs.Values.{cons-value, lump-value, value-iff, value-turn}
 use Rattle.calculus.proofs.Contraction.{Ready}
 
 -- What a turn tells of its term: that it is a value, or where the ready node stands in it.
@@ -38,9 +38,9 @@ turn-found (num n) = numV
 turn-found (lam t b) = lamV
 turn-found (op1 o a) = into-found (under o) a (turn a) (own false (op1 o a)) tt (turn-found a) (ready-found (op1 o a))
 turn-found (op2 o a b) =
-    into-found (first o b) a (turn a) (into (second o a) (turn b) (own (isPair o) (op2 o a b))) tt (turn-found a) λ v.
-    into-found (second o a) b (turn b) (own (isPair o) (op2 o a b)) v (turn-found b) λ w.
-    own-found (op2 o a b) (isPair o) (λ h. pair-value o h v w) (λ q. (q, v, w))
+    into-found (first o b) a (turn a) (into (second o a) (turn b) (own (isCons o) (op2 o a b))) tt (turn-found a) λ v.
+    into-found (second o a) b (turn b) (own (isCons o) (op2 o a b)) v (turn-found b) λ w.
+    own-found (op2 o a b) (isCons o) (λ h. cons-value o h v w) (λ q. (q, v, w))
 turn-found (if0 a b c) = into-found (tested b c) a (turn a) (own false (if0 a b c)) tt (turn-found a) (ready-found (if0 a b c))
 turn-found (nil t) = nilV
 turn-found (wrong c t) = ready-found (wrong c t) tt

@@ -4,16 +4,16 @@ use mathlib.Core.Logic.{_↔_}
 use mathlib.Core.Path.{_≡_, refl}
 use lib.Dec.{T}
 use mir.Facts.{and-yes}
-use Rattle.calculus.specs.Trees.{Ty, N, L, list, _to_, Lang, ml, sc, Op2, apply, plus, minus, pair, Term, var, num, lam, op1, op2, if0, nil, wrong, ms, sm}
-use Rattle.calculus.specs.Reduction.{isLump, isPair, isValue, done, turn}
+use Rattle.calculus.specs.Trees.{Ty, N, L, list, _to_, Lang, ml, sc, Op2, APP, ADD, SUB, CONS, Term, var, num, lam, op1, op2, if0, nil, wrong, ms, sm}
+use Rattle.calculus.specs.Reduction.{isLump, isCons, isValue, done, turn}
 use Rattle.calculus.specs.Rules.{Value, lamV, numV, nilV, consV, lumpV}
 
 -- An operator's node with values for parts is a value if the operator is cons; ms of a value, if the type is L.
-pub pair-value : {l : Lang} (o : Op2) {a b : Term l} → T (isPair o) → Value l a → Value l b → Value l (op2 o a b)
-pair-value apply h v w = absurd h
-pair-value plus h v w = absurd h
-pair-value minus h v w = absurd h
-pair-value pair h v w = consV v w
+pub cons-value : {l : Lang} (o : Op2) {a b : Term l} → T (isCons o) → Value l a → Value l b → Value l (op2 o a b)
+cons-value APP h v w = absurd h
+cons-value ADD h v w = absurd h
+cons-value SUB h v w = absurd h
+cons-value CONS h v w = consV v w
 
 pub lump-value : (t : Ty) {a : Term sc} → T (isLump t) → Value sc a → Value ml (ms t a)
 lump-value N h v = absurd h
@@ -28,9 +28,9 @@ tested-value (num n) h = numV
 tested-value (lam t b) h = lamV
 tested-value (op1 o a) h = absurd h
 tested-value (op2 o a b) h =
-    let p = and-yes (isPair o && isValue a) (isValue b) h in
-    let q = and-yes (isPair o) (isValue a) (p .0) in
-    pair-value o (q .0) (tested-value a (q .1)) (tested-value b (p .1))
+    let p = and-yes (isCons o && isValue a) (isValue b) h in
+    let q = and-yes (isCons o) (isValue a) (p .0) in
+    cons-value o (q .0) (tested-value a (q .1)) (tested-value b (p .1))
 tested-value (if0 a b c) h = absurd h
 tested-value (nil t) h = nilV
 tested-value (wrong c t) h = absurd h

@@ -7,7 +7,7 @@ use mathlib.Core.Path.{_≡_, refl, sym, ap, _∙_}
 use lib.Dec.{T, ltb, ltb→lt}
 use lib.ListN.{length}
 use native.Mathlib.Omega.{arith}
-use Rattle.calculus.specs.Trees.{Ty, N, L, list, _to_, ml, sc, isFun, isList, isNull, isNum, head, tail, fixpoint, empty, testing, apply, plus, minus, pair, Term, var, num, lam, op1, op2, if0, nil, wrong, ms, sm}
+use Rattle.calculus.specs.Trees.{Ty, N, L, list, _to_, ml, sc, isFun, isList, isNull, isNum, HD, TL, FIX, NULL?, TEST, APP, ADD, SUB, CONS, Term, var, num, lam, op1, op2, if0, nil, wrong, ms, sm}
 use Rattle.calculus.specs.Words.{word, put, putTy}
 use Rattle.calculus.specs.Limits.{InRange}
 use Rattle.calculus.specs.Kinds.{Sort, type, term, Tree, Trees, putTree, putTrees, Row, table, rowIn, sortOfKind, sortOf}
@@ -60,16 +60,16 @@ unfolding put InRange
 view-ml (var i) = seen 16 i tt refl tt refl (λ ks. refl) (λ h. (omega arith, h, tt))
 view-ml (num n) = seen 17 n tt refl tt refl (λ ks. refl) (λ h. (omega arith, h, tt))
 view-ml (lam t b) = seen 18 0 (t, (b, tt)) refl tt refl (λ ks. refl) (λ h. fixed (tt, (h, tt)))
-view-ml (op2 apply a b) = seen 19 0 (a, (b, tt)) refl tt refl (λ ks. refl) (λ h. fixed (h .0, (h .1, tt)))
-view-ml (op1 fixpoint a) = seen 20 0 (a, tt) refl tt refl (λ ks. refl) (λ h. fixed (h, tt))
-view-ml (op2 plus a b) = seen 21 0 (a, (b, tt)) refl tt refl (λ ks. refl) (λ h. fixed (h .0, (h .1, tt)))
-view-ml (op2 minus a b) = seen 22 0 (a, (b, tt)) refl tt refl (λ ks. refl) (λ h. fixed (h .0, (h .1, tt)))
+view-ml (op2 APP a b) = seen 19 0 (a, (b, tt)) refl tt refl (λ ks. refl) (λ h. fixed (h .0, (h .1, tt)))
+view-ml (op1 FIX a) = seen 20 0 (a, tt) refl tt refl (λ ks. refl) (λ h. fixed (h, tt))
+view-ml (op2 ADD a b) = seen 21 0 (a, (b, tt)) refl tt refl (λ ks. refl) (λ h. fixed (h .0, (h .1, tt)))
+view-ml (op2 SUB a b) = seen 22 0 (a, (b, tt)) refl tt refl (λ ks. refl) (λ h. fixed (h .0, (h .1, tt)))
 view-ml (if0 a b c) = seen 23 0 (a, (b, (c, tt))) refl tt refl (λ ks. refl) (λ h. fixed (h .0, (h .1, (h .2, tt))))
 view-ml (nil t) = seen 24 0 (t, tt) refl tt refl (λ ks. refl) (λ h. fixed (tt, tt))
-view-ml (op2 pair a b) = seen 25 0 (a, (b, tt)) refl tt refl (λ ks. refl) (λ h. fixed (h .0, (h .1, tt)))
-view-ml (op1 head a) = seen 26 0 (a, tt) refl tt refl (λ ks. refl) (λ h. fixed (h, tt))
-view-ml (op1 tail a) = seen 27 0 (a, tt) refl tt refl (λ ks. refl) (λ h. fixed (h, tt))
-view-ml (op1 empty a) = seen 28 0 (a, tt) refl tt refl (λ ks. refl) (λ h. fixed (h, tt))
+view-ml (op2 CONS a b) = seen 25 0 (a, (b, tt)) refl tt refl (λ ks. refl) (λ h. fixed (h .0, (h .1, tt)))
+view-ml (op1 HD a) = seen 26 0 (a, tt) refl tt refl (λ ks. refl) (λ h. fixed (h, tt))
+view-ml (op1 TL a) = seen 27 0 (a, tt) refl tt refl (λ ks. refl) (λ h. fixed (h, tt))
+view-ml (op1 NULL? a) = seen 28 0 (a, tt) refl tt refl (λ ks. refl) (λ h. fixed (h, tt))
 view-ml (wrong c t) = seen 29 c (t, tt) refl tt refl (λ ks. refl) (λ h. (h .0, h .1, (tt, tt)))
 view-ml (ms t a) = seen 30 0 (t, (a, tt)) refl tt refl (λ ks. refl) (λ h. fixed (tt, (h, tt)))
 
@@ -78,18 +78,18 @@ unfolding put InRange
 view-sc (var i) = seen 32 i tt refl tt refl (λ ks. refl) (λ h. (omega arith, h, tt))
 view-sc (num n) = seen 33 n tt refl tt refl (λ ks. refl) (λ h. (omega arith, h, tt))
 view-sc (lam t b) = seen 34 0 (b, tt) refl tt refl (λ ks. refl) (λ h. fixed (h, tt))
-view-sc (op2 apply a b) = seen 35 0 (a, (b, tt)) refl tt refl (λ ks. refl) (λ h. fixed (h .0, (h .1, tt)))
-view-sc (op2 plus a b) = seen 36 0 (a, (b, tt)) refl tt refl (λ ks. refl) (λ h. fixed (h .0, (h .1, tt)))
-view-sc (op2 minus a b) = seen 37 0 (a, (b, tt)) refl tt refl (λ ks. refl) (λ h. fixed (h .0, (h .1, tt)))
+view-sc (op2 APP a b) = seen 35 0 (a, (b, tt)) refl tt refl (λ ks. refl) (λ h. fixed (h .0, (h .1, tt)))
+view-sc (op2 ADD a b) = seen 36 0 (a, (b, tt)) refl tt refl (λ ks. refl) (λ h. fixed (h .0, (h .1, tt)))
+view-sc (op2 SUB a b) = seen 37 0 (a, (b, tt)) refl tt refl (λ ks. refl) (λ h. fixed (h .0, (h .1, tt)))
 view-sc (if0 a b c) = seen 38 0 (a, (b, (c, tt))) refl tt refl (λ ks. refl) (λ h. fixed (h .0, (h .1, (h .2, tt))))
 view-sc (nil t) = seen 39 0 tt refl tt refl (λ ks. refl) (λ h. fixed tt)
-view-sc (op2 pair a b) = seen 40 0 (a, (b, tt)) refl tt refl (λ ks. refl) (λ h. fixed (h .0, (h .1, tt)))
-view-sc (op1 head a) = seen 41 0 (a, tt) refl tt refl (λ ks. refl) (λ h. fixed (h, tt))
-view-sc (op1 tail a) = seen 42 0 (a, tt) refl tt refl (λ ks. refl) (λ h. fixed (h, tt))
-view-sc (op1 (testing isFun) a) = seen 43 0 (a, tt) refl tt refl (λ ks. refl) (λ h. (omega arith, omega arith, (h, tt)))
-view-sc (op1 (testing isList) a) = seen 43 1 (a, tt) refl tt refl (λ ks. refl) (λ h. (omega arith, omega arith, (h, tt)))
-view-sc (op1 (testing isNull) a) = seen 43 2 (a, tt) refl tt refl (λ ks. refl) (λ h. (omega arith, omega arith, (h, tt)))
-view-sc (op1 (testing isNum) a) = seen 43 3 (a, tt) refl tt refl (λ ks. refl) (λ h. (omega arith, omega arith, (h, tt)))
+view-sc (op2 CONS a b) = seen 40 0 (a, (b, tt)) refl tt refl (λ ks. refl) (λ h. fixed (h .0, (h .1, tt)))
+view-sc (op1 HD a) = seen 41 0 (a, tt) refl tt refl (λ ks. refl) (λ h. fixed (h, tt))
+view-sc (op1 TL a) = seen 42 0 (a, tt) refl tt refl (λ ks. refl) (λ h. fixed (h, tt))
+view-sc (op1 (TEST isFun) a) = seen 43 0 (a, tt) refl tt refl (λ ks. refl) (λ h. (omega arith, omega arith, (h, tt)))
+view-sc (op1 (TEST isList) a) = seen 43 1 (a, tt) refl tt refl (λ ks. refl) (λ h. (omega arith, omega arith, (h, tt)))
+view-sc (op1 (TEST isNull) a) = seen 43 2 (a, tt) refl tt refl (λ ks. refl) (λ h. (omega arith, omega arith, (h, tt)))
+view-sc (op1 (TEST isNum) a) = seen 43 3 (a, tt) refl tt refl (λ ks. refl) (λ h. (omega arith, omega arith, (h, tt)))
 view-sc (wrong c t) = seen 44 c tt refl tt refl (λ ks. refl) (λ h. (h .0, h .1, tt))
 view-sc (sm t a) = seen 45 0 (t, (a, tt)) refl tt refl (λ ks. refl) (λ h. fixed (tt, (h, tt)))
 

@@ -24,8 +24,8 @@ Data (t to u) = ⊥
 pub data Fits : Ty → Term sc → Type 0 where
   number : {n : ℕ} → Fits N (num n)
   anything : {v : Term sc} → Value sc v → Fits L v
-  empty : {t : Ty} → Fits (list t) (nil tt)
-  items : {t : Ty} {v w : Term sc} → Fits t v → Fits (list t) w → Fits (list t) (cons v w)
+  fits-nil : {t : Ty} → Fits (list t) (nil tt)
+  fits-cons : {t : Ty} {v w : Term sc} → Fits t v → Fits (list t) w → Fits (list t) (cons v w)
   function : {t u : Ty} {b : Term sc} → Fits (t to u) (lam tt b)
 
 -- The first code of two.

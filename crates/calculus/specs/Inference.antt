@@ -5,7 +5,7 @@ use mathlib.Core.List.{[], _∷_}
 use mathlib.Core.Logic.{_↔_}
 use mathlib.Core.Option.{Option, none, some}
 use mathlib.Core.Path.{_≡_}
-use Rattle.calculus.specs.Trees.{Ty, N, L, list, _to_, Ty-discrete, Lang, ml, sc, Static, numbers, lists, functions, Op1, head, tail, fixpoint, empty, testing, Op2, apply, plus, minus, pair, Term, var, num, lam, op1, op2, if0, nil, wrong, ms, sm}
+use Rattle.calculus.specs.Trees.{Ty, N, L, list, _to_, Ty-discrete, Lang, ml, sc, Static, numbers, lists, functions, Op1, HD, TL, FIX, NULL?, TEST, Op2, APP, ADD, SUB, CONS, Term, var, num, lam, op1, op2, if0, nil, wrong, ms, sm}
 use Rattle.calculus.specs.Words.{wordsTy}
 use Rattle.calculus.specs.Verdicts.{found}
 use Rattle.calculus.specs.Typing.{Entry, of, Lambdas}
@@ -51,20 +51,20 @@ sides ml (t to u) = some (t, u)
 sides sc t = some (tt, tt)
 
 abbrev pub result1 : {l : Lang} → Op1 l → Static l → Option (Static l)
-result1 (head {l}) t = element l t
-result1 (tail {l}) t = found (element l t) none (λ u. some (lists l u))
-result1 fixpoint t = found (sides ml t) none (λ x. cond (sameType ml (x .0) (x .1)) (some (x .0)) none)
-result1 empty t = found (element ml t) none (λ u. some N)
-result1 (testing k) t = some tt
+result1 (HD {l}) t = element l t
+result1 (TL {l}) t = found (element l t) none (λ u. some (lists l u))
+result1 FIX t = found (sides ml t) none (λ x. cond (sameType ml (x .0) (x .1)) (some (x .0)) none)
+result1 NULL? t = found (element ml t) none (λ u. some N)
+result1 (TEST k) t = some tt
 
 abbrev pub sumType : (l : Lang) → Static l → Static l → Option (Static l)
 sumType l t u = cond (sameType l t (numbers l)) (cond (sameType l u (numbers l)) (some (numbers l)) none) none
 
 abbrev pub result2 : (l : Lang) → Op2 → Static l → Static l → Option (Static l)
-result2 l apply t u = found (sides l t) none (λ x. cond (sameType l (x .0) u) (some (x .1)) none)
-result2 l plus t u = sumType l t u
-result2 l minus t u = sumType l t u
-result2 l pair t u = cond (sameType l u (lists l t)) (some (lists l t)) none
+result2 l APP t u = found (sides l t) none (λ x. cond (sameType l (x .0) u) (some (x .1)) none)
+result2 l ADD t u = sumType l t u
+result2 l SUB t u = sumType l t u
+result2 l CONS t u = cond (sameType l u (lists l t)) (some (lists l t)) none
 
 abbrev pub result3 : (l : Lang) → Static l → Static l → Static l → Option (Static l)
 result3 l t u v = cond (sameType l t (numbers l)) (cond (sameType l u v) (some u) none) none

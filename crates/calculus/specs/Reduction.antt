@@ -2,7 +2,7 @@
 use Prim.Native.Nat.{ℕ, suc, _+_, _-_}
 use mathlib.Core.Bool.{Bool, true, false, cond, _&&_}
 use lib.Dec.{eqb, leb}
-use Rattle.calculus.specs.Trees.{Ty, N, L, list, _to_, Lang, ml, sc, Static, numbers, lists, Test, isFun, isList, isNull, isNum, Op1, head, tail, fixpoint, empty, testing, Op2, apply, plus, minus, pair, Term, var, num, lam, op1, op2, if0, nil, wrong, ms, sm, app, cons, fix}
+use Rattle.calculus.specs.Trees.{Ty, N, L, list, _to_, Lang, ml, sc, Static, numbers, lists, Test, isFun, isList, isNull, isNum, Op1, HD, TL, FIX, NULL?, TEST, Op2, APP, ADD, SUB, CONS, Term, var, num, lam, op1, op2, if0, nil, wrong, ms, sm, app, cons, fix}
 use Rattle.calculus.specs.Words.{largest}
 
 -- "the body with that value for the variable": k lambdas have been passed on the way in. What is put there is closed, so that no other
@@ -32,18 +32,18 @@ isLump L = true
 isLump (list t) = false
 isLump (t to u) = false
 
-abbrev pub isPair : Op2 → Bool
-isPair apply = false
-isPair plus = false
-isPair minus = false
-isPair pair = true
+abbrev pub isCons : Op2 → Bool
+isCons APP = false
+isCons ADD = false
+isCons SUB = false
+isCons CONS = true
 
 unfoldable pub isValue : {l : Lang} → Term l → Bool
 isValue (var i) = false
 isValue (num n) = true
 isValue (lam t b) = true
 isValue (op1 o a) = false
-isValue (op2 o a b) = isPair o && isValue a && isValue b
+isValue (op2 o a b) = isCons o && isValue a && isValue b
 isValue (if0 a b c) = false
 isValue (nil t) = true
 isValue (wrong c t) = false
@@ -54,33 +54,33 @@ isValue (sm t a) = false
 pub data Form : Lang → Type 0 where
   number : {l : Lang} → ℕ → Form l
   lambda : {l : Lang} → Static l → Term l → Form l
-  noItem : {l : Lang} → Static l → Form l
-  items : {l : Lang} → Term l → Term l → Form l
+  nilForm : {l : Lang} → Static l → Form l
+  consForm : {l : Lang} → Term l → Term l → Form l
   sealed : Term sc → Form ml
   other : {l : Lang} → Form l
 
-abbrev pub pairForm : {l : Lang} → Op2 → Term l → Term l → Form l
-pairForm apply a b = other
-pairForm plus a b = other
-pairForm minus a b = other
-pairForm pair a b = items a b
+abbrev pub op2Form : {l : Lang} → Op2 → Term l → Term l → Form l
+op2Form APP a b = other
+op2Form ADD a b = other
+op2Form SUB a b = other
+op2Form CONS a b = consForm a b
 
-abbrev pub lumpForm : Ty → Term sc → Form ml
-lumpForm N a = other
-lumpForm L a = sealed a
-lumpForm (list t) a = other
-lumpForm (t to u) a = other
+abbrev pub msForm : Ty → Term sc → Form ml
+msForm N a = other
+msForm L a = sealed a
+msForm (list t) a = other
+msForm (t to u) a = other
 
 unfoldable pub form : {l : Lang} → Term l → Form l
 form (var i) = other
 form (num n) = number n
 form (lam t b) = lambda t b
 form (op1 o a) = other
-form (op2 o a b) = pairForm o a b
+form (op2 o a b) = op2Form o a b
 form (if0 a b c) = other
-form (nil t) = noItem t
+form (nil t) = nilForm t
 form (wrong c t) = other
-form (ms t a) = lumpForm t a
+form (ms t a) = msForm t a
 form (sm t a) = other
 
 -- What a node becomes whose turn it is: another term; an error, if it is a wrong; nothing, if no rule fits.
@@ -93,32 +93,32 @@ pub data Became (l : Lang) : Type 0 where
 unfoldable pub onNumber : {l m : Lang} → Form l → Became m → (ℕ → Became m) → Became m
 onNumber (number n) o k = k n
 onNumber (lambda t b) o k = o
-onNumber (noItem t) o k = o
-onNumber (items v w) o k = o
+onNumber (nilForm t) o k = o
+onNumber (consForm v w) o k = o
 onNumber (sealed v) o k = o
 onNumber other o k = o
 
 unfoldable pub onLambda : {l m : Lang} → Form l → Became m → (Static l → Term l → Became m) → Became m
 onLambda (number n) o k = o
 onLambda (lambda t b) o k = k t b
-onLambda (noItem t) o k = o
-onLambda (items v w) o k = o
+onLambda (nilForm t) o k = o
+onLambda (consForm v w) o k = o
 onLambda (sealed v) o k = o
 onLambda other o k = o
 
 unfoldable pub onList : {l m : Lang} → Form l → Became m → (Static l → Became m) → (Term l → Term l → Became m) → Became m
 onList (number n) o e k = o
 onList (lambda t b) o e k = o
-onList (noItem t) o e k = e t
-onList (items v w) o e k = k v w
+onList (nilForm t) o e k = e t
+onList (consForm v w) o e k = k v w
 onList (sealed v) o e k = o
 onList other o e k = o
 
 unfoldable pub onLump : {m : Lang} → Form ml → Became m → (Term sc → Became m) → Became m
 onLump (number n) o k = o
 onLump (lambda t b) o k = o
-onLump (noItem t) o k = o
-onLump (items v w) o k = o
+onLump (nilForm t) o k = o
+onLump (consForm v w) o k = o
 onLump (sealed v) o k = k v
 onLump other o k = o
 
@@ -136,33 +136,33 @@ third sc c = becomes c
 unfoldable pub answer : Test → Form sc → ℕ
 answer isFun (number n) = 1
 answer isFun (lambda t b) = 0
-answer isFun (noItem t) = 1
-answer isFun (items v w) = 1
+answer isFun (nilForm t) = 1
+answer isFun (consForm v w) = 1
 answer isFun other = 1
 answer isList (number n) = 1
 answer isList (lambda t b) = 1
-answer isList (noItem t) = 0
-answer isList (items v w) = 0
+answer isList (nilForm t) = 0
+answer isList (consForm v w) = 0
 answer isList other = 1
 answer isNull (number n) = 1
 answer isNull (lambda t b) = 1
-answer isNull (noItem t) = 0
-answer isNull (items v w) = 1
+answer isNull (nilForm t) = 0
+answer isNull (consForm v w) = 1
 answer isNull other = 1
 answer isNum (number n) = 0
 answer isNum (lambda t b) = 1
-answer isNum (noItem t) = 1
-answer isNum (items v w) = 1
+answer isNum (nilForm t) = 1
+answer isNum (consForm v w) = 1
 answer isNum other = 1
 
 -- "hd, tl of cons: head, tail; of nil: wrong 4. Scheme, neither: wrong 3", "fix of a lambda: the body with the whole fix term for the
 -- variable".
 unfoldable pub contract1 : {l : Lang} → Op1 l → Term l → Became l
-contract1 (head {l}) v = onList (form v) (amiss l 3) (λ t. becomes (wrong 4 t)) (λ a b. becomes a)
-contract1 (tail {l}) v = onList (form v) (amiss l 3) (λ t. becomes (wrong 4 (lists l t))) (λ a b. becomes b)
-contract1 fixpoint v = onLambda (form v) nothing (λ t b. becomes (substitute (fix v) 0 b))
-contract1 empty v = onList (form v) nothing (λ t. becomes (num 0)) (λ a b. becomes (num 1))
-contract1 (testing k) v = becomes (num (answer k (form v)))
+contract1 (HD {l}) v = onList (form v) (amiss l 3) (λ t. becomes (wrong 4 t)) (λ a b. becomes a)
+contract1 (TL {l}) v = onList (form v) (amiss l 3) (λ t. becomes (wrong 4 (lists l t))) (λ a b. becomes b)
+contract1 FIX v = onLambda (form v) nothing (λ t b. becomes (substitute (fix v) 0 b))
+contract1 NULL? v = onList (form v) nothing (λ t. becomes (num 0)) (λ a b. becomes (num 1))
+contract1 (TEST k) v = becomes (num (answer k (form v)))
 
 -- "add: the sum; over 16,777,215, wrong 5. subtract: max(n − m, 0). Scheme, once both are values and either is no number: wrong 1."
 unfoldable pub onNumbers : (l : Lang) → Term l → Term l → (ℕ → ℕ → Became l) → Became l
@@ -171,10 +171,10 @@ onNumbers l v w k = onNumber (form v) (amiss l 1) (λ n. onNumber (form w) (amis
 -- "Application of a lambda to a value: the body with that value for the variable. Scheme, function value no lambda: wrong 2, once the
 -- argument is a value."
 unfoldable pub contract2 : (l : Lang) → Op2 → Term l → Term l → Became l
-contract2 l apply f v = onLambda (form f) (amiss l 2) (λ t b. becomes (substitute v 0 b))
-contract2 l plus v w = onNumbers l v w (λ n m. becomes (cond (leb (n + m) largest) (num (n + m)) (wrong 5 (numbers l))))
-contract2 l minus v w = onNumbers l v w (λ n m. becomes (num (n - m)))
-contract2 l pair v w = nothing
+contract2 l APP f v = onLambda (form f) (amiss l 2) (λ t b. becomes (substitute v 0 b))
+contract2 l ADD v w = onNumbers l v w (λ n m. becomes (cond (leb (n + m) largest) (num (n + m)) (wrong 5 (numbers l))))
+contract2 l SUB v w = onNumbers l v w (λ n m. becomes (num (n - m)))
+contract2 l CONS v w = nothing
 
 -- "ms N of a number becomes that number; of another value, wrong 1. ms {t} of nil becomes nil t; of cons v w, cons of ms t v and
 -- ms {t} w; of another value, wrong 3. ms at t to u of a lambda becomes a new ML lambda with type t, whose body is ms u of the old lambda
@@ -255,7 +255,7 @@ turn (var i) = own false (var i)
 turn (num n) = done
 turn (lam t b) = done
 turn (op1 o a) = into (under o) (turn a) (own false (op1 o a))
-turn (op2 o a b) = into (first o b) (turn a) (into (second o a) (turn b) (own (isPair o) (op2 o a b)))
+turn (op2 o a b) = into (first o b) (turn a) (into (second o a) (turn b) (own (isCons o) (op2 o a b)))
 turn (if0 a b c) = into (tested b c) (turn a) (own false (if0 a b c))
 turn (nil t) = done
 turn (wrong c t) = own false (wrong c t)

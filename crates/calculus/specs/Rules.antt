@@ -2,7 +2,7 @@
 -- document 002 that document 01 keeps. Nothing here is of specs/Reduction.antt, which computes; proofs/Agreement.antt says that `step` does exactly
 -- this, of every term whose variables have their lambdas.
 -- `l ⊢ e ⇒ r` is a rule of the language l; a rule that both languages have stands once, for any l.
--- Codes: 1 not a number, 2 not a function, 3 not a list, 4 empty list, 5 over the limit.
+-- Codes: 1 not a number, 2 not a function, 3 not a list, 4 nil has neither head nor tail, 5 over the limit.
 -- Where document 01 departs from the figures: fix-lambda is of documents 000 and 003; add-over is its own; if0-no-number takes the third
 -- part, where figure 2.18 has wrong 1; sm-lambda asks for a lambda, where figure 2.20 takes any value.
 use Prim.Native.Nat.{ℕ, suc, _+_, _-_, _≤_, _<_}

@@ -34,14 +34,14 @@ functions sc t u = tt
 pub data Test : Type 0 where
   isFun isList isNull isNum : Test
 
--- The operators of one part, and of two.
+-- The operators of one part, and of two, by the document's names in capitals.
 pub data Op1 : Lang → Type 0 where
-  head tail : {l : Lang} → Op1 l
-  fixpoint empty : Op1 ml
-  testing : Test → Op1 sc
+  HD TL : {l : Lang} → Op1 l
+  FIX NULL? : Op1 ml
+  TEST : Test → Op1 sc
 
 pub data Op2 : Type 0 where
-  apply plus minus pair : Op2
+  APP ADD SUB CONS : Op2
 
 -- Ten shapes of terms serve both languages. A variable's number counts the lambdas of both languages between it and its own.
 pub data Term : Lang → Type 0 where
@@ -55,30 +55,30 @@ pub data Term : Lang → Type 0 where
   ms : Ty → Term sc → Term ml
   sm : Ty → Term ml → Term sc
 
--- The document's names for the operators' terms.
+-- The operators' terms, by the document's names.
 abbrev pub app : {l : Lang} → Term l → Term l → Term l
-app f a = op2 apply f a
+app f a = op2 APP f a
 
 abbrev pub add : {l : Lang} → Term l → Term l → Term l
-add a b = op2 plus a b
+add a b = op2 ADD a b
 
 abbrev pub sub : {l : Lang} → Term l → Term l → Term l
-sub a b = op2 minus a b
+sub a b = op2 SUB a b
 
 abbrev pub cons : {l : Lang} → Term l → Term l → Term l
-cons a b = op2 pair a b
+cons a b = op2 CONS a b
 
 abbrev pub hd : {l : Lang} → Term l → Term l
-hd e = op1 head e
+hd e = op1 HD e
 
 abbrev pub tl : {l : Lang} → Term l → Term l
-tl e = op1 tail e
+tl e = op1 TL e
 
 abbrev pub fix : Term ml → Term ml
-fix e = op1 fixpoint e
+fix e = op1 FIX e
 
 abbrev pub null? : Term ml → Term ml
-null? e = op1 empty e
+null? e = op1 NULL? e
 
 abbrev pub test : Test → Term sc → Term sc
-test k e = op1 (testing k) e
+test k e = op1 (TEST k) e

@@ -2,7 +2,7 @@
 use Prim.Native.Nat.{ℕ, zero, suc}
 use mathlib.Core.List.{List, [], _∷_}
 use mathlib.Core.Path.{_≡_}
-use Rattle.calculus.specs.Trees.{Ty, N, list, _to_, Lang, Static, numbers, lists, functions, Op1, head, tail, fixpoint, empty, testing, Op2, apply, plus, minus, pair, Term, var, num, lam, op1, op2, if0, nil, wrong, ms, sm}
+use Rattle.calculus.specs.Trees.{Ty, N, list, _to_, Lang, Static, numbers, lists, functions, Op1, HD, TL, FIX, NULL?, TEST, Op2, APP, ADD, SUB, CONS, Term, var, num, lam, op1, op2, if0, nil, wrong, ms, sm}
 
 -- The lambdas around a place, innermost first: of which language, and the type written at it.
 pub data Entry : Type 0 where
@@ -19,18 +19,18 @@ At (x ∷ Γ) (suc i) l τ = At Γ i l τ
 
 -- "hd of a {t} has type t, tl of it {t}, null? of it N", "fix of a t to t has type t".
 abbrev pub Rule1 : {l : Lang} → Op1 l → Static l → Static l → Type 0
-Rule1 (head {l}) t τ = t ≡ lists l τ
-Rule1 (tail {l}) t τ = (u : Static l) × (t ≡ lists l u) × (τ ≡ lists l u)
-Rule1 fixpoint t τ = t ≡ τ to τ
-Rule1 empty t τ = (u : Ty) × (t ≡ list u) × (τ ≡ N)
-Rule1 (testing k) t τ = Unit {0}
+Rule1 (HD {l}) t τ = t ≡ lists l τ
+Rule1 (TL {l}) t τ = (u : Static l) × (t ≡ lists l u) × (τ ≡ lists l u)
+Rule1 FIX t τ = t ≡ τ to τ
+Rule1 NULL? t τ = (u : Ty) × (t ≡ list u) × (τ ≡ N)
+Rule1 (TEST k) t τ = Unit {0}
 
 -- "Applying a t to u to a t has type u", "add and subtract of two N have type N", "cons of a t and a {t} has type {t}".
 abbrev pub Rule2 : (l : Lang) → Op2 → Static l → Static l → Static l → Type 0
-Rule2 l apply t u τ = t ≡ functions l u τ
-Rule2 l plus t u τ = (t ≡ numbers l) × (u ≡ numbers l) × (τ ≡ numbers l)
-Rule2 l minus t u τ = (t ≡ numbers l) × (u ≡ numbers l) × (τ ≡ numbers l)
-Rule2 l pair t u τ = (u ≡ lists l t) × (τ ≡ lists l t)
+Rule2 l APP t u τ = t ≡ functions l u τ
+Rule2 l ADD t u τ = (t ≡ numbers l) × (u ≡ numbers l) × (τ ≡ numbers l)
+Rule2 l SUB t u τ = (t ≡ numbers l) × (u ≡ numbers l) × (τ ≡ numbers l)
+Rule2 l CONS t u τ = (u ≡ lists l t) × (τ ≡ lists l t)
 
 -- "A number has type N, a variable the type written at its lambda. A lambda with type t and a body of type u has type t to u. if0 of an
 -- N and two t has type t. nil t has type {t}. wrong t has type t. ms t of a well-formed Scheme term has type t. sm t of an ML term is

@@ -1,7 +1,7 @@
 -- Document 01, "Words and file": the words of a tree, in prefix order.
 use Prim.Native.Nat.{ℕ, suc, _+_, _*_}
 use mathlib.Core.List.{List, [], _∷_}
-use Rattle.calculus.specs.Trees.{Ty, N, L, list, _to_, Lang, ml, sc, Static, Test, isFun, isList, isNull, isNum, Op1, head, tail, fixpoint, empty, testing, Op2, apply, plus, minus, pair, Term, var, num, lam, op1, op2, if0, nil, wrong, ms, sm}
+use Rattle.calculus.specs.Trees.{Ty, N, L, list, _to_, Lang, ml, sc, Static, Test, isFun, isList, isNull, isNum, Op1, HD, TL, FIX, NULL?, TEST, Op2, APP, ADD, SUB, CONS, Term, var, num, lam, op1, op2, if0, nil, wrong, ms, sm}
 
 -- "A word is 32 bits: kind + 256 × operand".
 abbrev pub word : ℕ → ℕ → ℕ
@@ -27,17 +27,17 @@ testNumber isNum = 3
 
 -- The word of an operator.
 abbrev pub word1 : {l : Lang} → Op1 l → ℕ
-word1 (head {l}) = by l 26 41
-word1 (tail {l}) = by l 27 42
-word1 fixpoint = 20
-word1 empty = 28
-word1 (testing k) = word 43 (testNumber k)
+word1 (HD {l}) = by l 26 41
+word1 (TL {l}) = by l 27 42
+word1 FIX = 20
+word1 NULL? = 28
+word1 (TEST k) = word 43 (testNumber k)
 
 abbrev pub word2 : Lang → Op2 → ℕ
-word2 l apply = by l 19 35
-word2 l plus = by l 21 36
-word2 l minus = by l 22 37
-word2 l pair = by l 25 40
+word2 l APP = by l 19 35
+word2 l ADD = by l 21 36
+word2 l SUB = by l 22 37
+word2 l CONS = by l 25 40
 
 -- "A node is a word followed by its parts in order (prefix order)": the words of a type, and then k.
 unfoldable pub putTy : Ty → List ℕ → List ℕ

@@ -179,9 +179,9 @@ module _ (ws : List ℕ) (value : ℕ) (value-is : value ≡ 1 + span (drop 1 ws
   no-value l t v k end e q h =
       omega (arith, h, stands (term l) v k ws value end (stands type t (put v k) ws 1 value q value-is .after) e .end, size-some l v)
 
-  pub boundary-empty : (end : ℕ) → end ≡ value + span (drop value ws) 1 → end < value + 1 → OfBoundary ws Stuck
+  pub boundary-no-value : (end : ℕ) → end ≡ value + span (drop value ws) 1 → end < value + 1 → OfBoundary ws Stuck
   unfolding put
-  boundary-empty end e h =
+  boundary-no-value end e h =
       record {
         ms-told = λ t v k q. absurd (no-value sc t v k end e (ap (drop 1) q) h);
         sm-told = λ t v k q. absurd (no-value ml t v k end e (ap (drop 1) q) h);

@@ -7,7 +7,7 @@ use lib.Dec.{T}
 use lib.ListN.{drop}
 use lib.Seq.{drop-drop}
 use native.Mathlib.Omega.{arith}
-use Rattle.calculus.specs.Trees.{Ty, list, _to_, Lang, ml, sc, pair, Term, op2, wrong}
+use Rattle.calculus.specs.Trees.{Ty, list, _to_, Lang, ml, sc, CONS, Term, op2, wrong}
 use Rattle.calculus.specs.Words.{put, putTy, size, sizeTy}
 use Rattle.calculus.specs.Kinds.{type, term}
 use Rattle.calculus.specs.Reduction.{form, becomes, nothing, onList, toML, toScheme}
@@ -16,7 +16,7 @@ use Rattle.contraction.specs.declared.rules.Rule.the-variants.{Stuck, Le
 use Rattle.contraction.specs.Forms.{isScheme}
 use Rattle.contraction.specs.Told.{Tells, refusedRule, from, converted}
 use Rattle.contraction.specs.Chosen.{Value, AtList}
-use Rattle.contraction.proofs.Views.{Formed, is-empty, is-pair}
+use Rattle.contraction.proofs.Views.{Formed, is-nil, is-cons}
 use Rattle.contraction.proofs.Parts.{Stands, sized, stands}
 use Rattle.contraction.proofs.Looks.{no-list}
 use Rattle.contraction.proofs.Crossing.{items-words, type-stands, value-stands, value-form, inner, refused-told}
@@ -46,7 +46,7 @@ module _ (ws : List ℕ) (form-number value end : ℕ) (p : Value ws form-number
   nil-in-ml : (l : Lang) (t : Ty) (v : Term (from l)) (k : List ℕ) → drop 1 ws ≡ putTy (list t) (put v k) → false ≡ isScheme l → Formed (from l) 3 v
       → Tells ws (Led 24 2 value) (converted l (list t) v)
   unfolding toML onList form put
-  nil-in-ml ml t v k q s (is-empty u) = ap (λ (w : List ℕ). 24 ∷ w) (sym (element sc t v k q .own))
+  nil-in-ml ml t v k q s (is-nil u) = ap (λ (w : List ℕ). 24 ∷ w) (sym (element sc t v k q .own))
   nil-in-ml sc t v k q s f = absurd (subst T (sym s) tt)
 
   pub nil-ml : form-number ≡ 3 → AtList ws false (Led 24 2 value)
@@ -56,43 +56,43 @@ module _ (ws : List ℕ) (form-number value end : ℕ) (p : Value ws form-number
   nil-in-scheme : (l : Lang) (t : Ty) (v : Term (from l)) → true ≡ isScheme l → Formed (from l) 3 v → Tells ws (Led 39 0 0) (converted l (list t) v)
   unfolding toScheme onList form put
   nil-in-scheme ml t v s f = absurd (subst T s tt)
-  nil-in-scheme sc t v s (is-empty u) = refl
+  nil-in-scheme sc t v s (is-nil u) = refl
 
   pub nil-scheme : form-number ≡ 3 → AtList ws true (Led 39 0 0)
   nil-scheme h =
       record { of = λ t. record { of = λ l v k q s. nil-in-scheme l t v s (value-form ws form-number value end p (from l) (list t) v k q 3 h) } }
 
   module _ (tail : ℕ) (tail-is : tail ≡ value + 1 + span (drop (value + 1) ws) 1) (h : form-number ≡ 4) where
-    head-stands : (l : Lang) (t : Ty) (a b : Term l) (k : List ℕ) → drop 1 ws ≡ putTy (list t) (put (op2 pair a b) k)
+    head-stands : (l : Lang) (t : Ty) (a b : Term l) (k : List ℕ) → drop 1 ws ≡ putTy (list t) (put (op2 CONS a b) k)
         → Stands (term l) a (put b k) ws (value + 1) tail
     unfolding put
     head-stands l t a b k q =
         stands (term l) a (put b k) ws (value + 1) tail
-        (sym (drop-drop 1 value ws) ∙ ap (drop 1) (type-stands ws form-number value end p l (list t) (op2 pair a b) k q .after)) tail-is
+        (sym (drop-drop 1 value ws) ∙ ap (drop 1) (type-stands ws form-number value end p l (list t) (op2 CONS a b) k q .after)) tail-is
 
-    tail-stands : (l : Lang) (t : Ty) (a b : Term l) (k : List ℕ) → drop 1 ws ≡ putTy (list t) (put (op2 pair a b) k)
+    tail-stands : (l : Lang) (t : Ty) (a b : Term l) (k : List ℕ) → drop 1 ws ≡ putTy (list t) (put (op2 CONS a b) k)
         → Stands (term l) b k ws tail end
     unfolding size
     tail-stands l t a b k q =
         let z = head-stands l t a b k q in
-        sized (term l) b k ws tail end (z .after) (omega (arith, z .end, value-stands ws form-number value end p l (list t) (op2 pair a b) k q .end))
+        sized (term l) b k ws tail end (z .after) (omega (arith, z .end, value-stands ws form-number value end p l (list t) (op2 CONS a b) k q .end))
 
-    pair-order : (l : Lang) (t : Ty) (v : Term l) (k : List ℕ) → drop 1 ws ≡ putTy (list t) (put v k) → end < tail → Formed l 4 v → ⊥
-    pair-order l t v k q g (is-pair a b) = omega (arith, g, tail-stands l t a b k q .end)
+    cons-order : (l : Lang) (t : Ty) (v : Term l) (k : List ℕ) → drop 1 ws ≡ putTy (list t) (put v k) → end < tail → Formed l 4 v → ⊥
+    cons-order l t v k q g (is-cons a b) = omega (arith, g, tail-stands l t a b k q .end)
 
-    pub pair-absurd : (scheme : Bool) → end < tail → AtList ws scheme Stuck
-    pair-absurd scheme g =
+    pub cons-absurd : (scheme : Bool) → end < tail → AtList ws scheme Stuck
+    cons-absurd scheme g =
         record {
           of = λ t. record {
-            of = λ l v k q s. absurd (pair-order (from l) t v k q g (value-form ws form-number value end p (from l) (list t) v k q 4 h));
+            of = λ l v k q s. absurd (cons-order (from l) t v k q g (value-form ws form-number value end p (from l) (list t) v k q 4 h));
           };
         }
 
-    pair-in-ml : (l : Lang) (t : Ty) (v : Term (from l)) (k : List ℕ) → drop 1 ws ≡ putTy (list t) (put v k) → false ≡ isScheme l
+    cons-in-ml : (l : Lang) (t : Ty) (v : Term (from l)) (k : List ℕ) → drop 1 ws ≡ putTy (list t) (put v k) → false ≡ isScheme l
         → Formed (from l) 4 v
         → Tells ws (Items 25 30 value tail end) (converted l (list t) v)
     unfolding toML onList form put putTy
-    pair-in-ml ml t v k q s (is-pair a b) =
+    cons-in-ml ml t v k q s (is-cons a b) =
         rw (
           element sc t v k q .own,
           type-stands ws form-number value end p sc (list t) v k q .own,
@@ -100,18 +100,18 @@ module _ (ws : List ℕ) (form-number value end : ℕ) (p : Value ws form-number
           tail-stands sc t a b k q .own,
         )
         (items-words 25 30 sc t a b)
-    pair-in-ml sc t v k q s f = absurd (subst T (sym s) tt)
+    cons-in-ml sc t v k q s f = absurd (subst T (sym s) tt)
 
-    pub pair-ml : AtList ws false (Items 25 30 value tail end)
-    pair-ml =
-        record { of = λ t. record { of = λ l v k q s. pair-in-ml l t v k q s (value-form ws form-number value end p (from l) (list t) v k q 4 h) } }
+    pub cons-ml : AtList ws false (Items 25 30 value tail end)
+    cons-ml =
+        record { of = λ t. record { of = λ l v k q s. cons-in-ml l t v k q s (value-form ws form-number value end p (from l) (list t) v k q 4 h) } }
 
-    pair-in-scheme : (l : Lang) (t : Ty) (v : Term (from l)) (k : List ℕ) → drop 1 ws ≡ putTy (list t) (put v k) → true ≡ isScheme l
+    cons-in-scheme : (l : Lang) (t : Ty) (v : Term (from l)) (k : List ℕ) → drop 1 ws ≡ putTy (list t) (put v k) → true ≡ isScheme l
         → Formed (from l) 4 v
         → Tells ws (Items 40 45 value tail end) (converted l (list t) v)
     unfolding toScheme onList form put putTy
-    pair-in-scheme ml t v k q s f = absurd (subst T s tt)
-    pair-in-scheme sc t v k q s (is-pair a b) =
+    cons-in-scheme ml t v k q s f = absurd (subst T s tt)
+    cons-in-scheme sc t v k q s (is-cons a b) =
         rw (
           element ml t v k q .own,
           type-stands ws form-number value end p ml (list t) v k q .own,
@@ -120,10 +120,10 @@ module _ (ws : List ℕ) (form-number value end : ℕ) (p : Value ws form-number
         )
         (items-words 40 45 ml t a b)
 
-    pub pair-scheme : AtList ws true (Items 40 45 value tail end)
-    pair-scheme =
+    pub cons-scheme : AtList ws true (Items 40 45 value tail end)
+    cons-scheme =
         record {
           of = λ t. record {
-            of = λ l v k q s. pair-in-scheme l t v k q s (value-form ws form-number value end p (from l) (list t) v k q 4 h);
+            of = λ l v k q s. cons-in-scheme l t v k q s (value-form ws form-number value end p (from l) (list t) v k q 4 h);
           };
         }

@@ -13,15 +13,15 @@ use Rattle.calculus.specs.Reduction.{form, Became, becomes, amiss, onNumber, on
 use Rattle.contraction.specs.declared.rules.Rule.the-variants.{Stuck, Number}
 use Rattle.contraction.specs.Forms.{isScheme}
 use Rattle.contraction.specs.Told.{Tells, Placed, amissRule, nullRule, numberRule, refusedRule, overRule, sumRule}
-use Rattle.contraction.proofs.Views.{Formed, is-number, is-function, is-empty, is-pair, is-lump, is-other}
+use Rattle.contraction.proofs.Views.{Formed, is-number, is-function, is-nil, is-cons, is-lump, is-other}
 
 module _ {m : Lang} (o : Became m) where
   pub no-number : {l : Lang} {v : Term l} {n : ℕ} (k : ℕ → Became m) → Formed l n v → (n ≡ 1 → ⊥) → onNumber (form v) o k ≡ o
   unfolding onNumber form
   no-number k (is-number n) h = absurd (h refl)
   no-number k (is-function t b) h = refl
-  no-number k (is-empty t) h = refl
-  no-number k (is-pair v w) h = refl
+  no-number k (is-nil t) h = refl
+  no-number k (is-cons v w) h = refl
   no-number k (is-lump v) h = refl
   no-number k (is-other q) h = ap (λ f. onNumber f o k) q
 
@@ -29,8 +29,8 @@ module _ {m : Lang} (o : Became m) where
   unfolding onLambda form
   no-lambda k (is-number n) h = refl
   no-lambda k (is-function t b) h = absurd (h refl)
-  no-lambda k (is-empty t) h = refl
-  no-lambda k (is-pair v w) h = refl
+  no-lambda k (is-nil t) h = refl
+  no-lambda k (is-cons v w) h = refl
   no-lambda k (is-lump v) h = refl
   no-lambda k (is-other q) h = ap (λ f. onLambda f o k) q
 
@@ -39,8 +39,8 @@ module _ {m : Lang} (o : Became m) where
   unfolding onList form
   no-list e k (is-number n) h g = refl
   no-list e k (is-function t b) h g = refl
-  no-list e k (is-empty t) h g = absurd (h refl)
-  no-list e k (is-pair v w) h g = absurd (g refl)
+  no-list e k (is-nil t) h g = absurd (h refl)
+  no-list e k (is-cons v w) h g = absurd (g refl)
   no-list e k (is-lump v) h g = refl
   no-list e k (is-other q) h g = ap (λ f. onList f o e k) q
 
@@ -48,8 +48,8 @@ pub no-lump : {m : Lang} (o : Became m) {v : Term ml} {n : ℕ} (k : Term _ → 
 unfolding onLump form
 no-lump o k (is-number n) h = refl
 no-lump o k (is-function t b) h = refl
-no-lump o k (is-empty t) h = refl
-no-lump o k (is-pair v w) h = refl
+no-lump o k (is-nil t) h = refl
+no-lump o k (is-cons v w) h = refl
 no-lump o k (is-lump v) h = absurd (h refl)
 no-lump o k (is-other q) h = ap (λ f. onLump f o k) q
 

@@ -7,11 +7,11 @@ use lib.Dec.{T, eqb, leb}
 use lib.ListN.{getD, drop}
 use lib.Seq.{drop-drop}
 use native.Mathlib.Omega.{arith}
-use Rattle.calculus.specs.Trees.{Lang, ml, sc, Test, isFun, isList, isNull, isNum, Op1, head, tail, fixpoint, empty, testing, pair, Term, lam}
+use Rattle.calculus.specs.Trees.{Lang, ml, sc, Test, isFun, isList, isNull, isNum, Op1, HD, TL, FIX, NULL?, TEST, CONS, Term, lam}
 use Rattle.calculus.specs.Trees.{op1, op2, fix}
 use Rattle.calculus.specs.Words.{word, word1, put, putTy, size, testNumber}
 use Rattle.calculus.specs.Kinds.{type, term}
-use Rattle.calculus.specs.Reduction.{Form, number, lambda, noItem, items, other, form, nothing, amiss, answer, onLambda, onList, contract1}
+use Rattle.calculus.specs.Reduction.{Form, number, lambda, nilForm, consForm, other, form, nothing, amiss, answer, onLambda, onList, contract1}
 use Rattle.writing.specs.Spans.{span}
 use Rattle.writing.proofs.Measures.{span-tree}
 use Rattle.contraction.specs.declared.rules.Rule.{Rule}
@@ -19,17 +19,17 @@ use Rattle.contraction.specs.declared.rules.Rule.the-variants.{Stuck, Nu
 use Rattle.contraction.specs.Forms.{formNumber, isScheme, answerBy, operator1}
 use Rattle.contraction.specs.Told.{Tells, amissRule, nullRule, part}
 use Rattle.contraction.specs.Chosen.{FirstPart, OfFix, OfList, OfOne}
-use Rattle.contraction.proofs.Views.{Formed, is-number, is-function, is-empty, is-pair, is-lump, is-other, by-form, form-at, size-some}
+use Rattle.contraction.proofs.Views.{Formed, is-number, is-function, is-nil, is-cons, is-lump, is-other, by-form, form-at, size-some}
 use Rattle.contraction.proofs.Parts.{Stands, sized, stands}
 use Rattle.contraction.proofs.Looks.{no-lambda, no-list, amiss-told}
 
 -- null? of ML, by the form.
-null-told : (ws : List ℕ) (a : Term ml) (n : ℕ) → Formed ml n a → Tells ws (nullRule n) (contract1 empty a)
+null-told : (ws : List ℕ) (a : Term ml) (n : ℕ) → Formed ml n a → Tells ws (nullRule n) (contract1 NULL? a)
 unfolding contract1 onList form put
 null-told ws a n (is-number m) = refl
 null-told ws a n (is-function t b) = refl
-null-told ws a n (is-empty t) = refl
-null-told ws a n (is-pair v w) = refl
+null-told ws a n (is-nil t) = refl
+null-told ws a n (is-cons v w) = refl
 null-told ws a n (is-lump v) = refl
 null-told ws a n (is-other q) = rw q refl
 
@@ -38,56 +38,56 @@ answer-by : (t : Test) (f : Form sc) → answerBy (testNumber t) (formNumber f) 
 unfolding answer
 answer-by isFun (number n) = refl
 answer-by isFun (lambda t b) = refl
-answer-by isFun (noItem t) = refl
-answer-by isFun (items v w) = refl
+answer-by isFun (nilForm t) = refl
+answer-by isFun (consForm v w) = refl
 answer-by isFun other = refl
 answer-by isList (number n) = refl
 answer-by isList (lambda t b) = refl
-answer-by isList (noItem t) = refl
-answer-by isList (items v w) = refl
+answer-by isList (nilForm t) = refl
+answer-by isList (consForm v w) = refl
 answer-by isList other = refl
 answer-by isNull (number n) = refl
 answer-by isNull (lambda t b) = refl
-answer-by isNull (noItem t) = refl
-answer-by isNull (items v w) = refl
+answer-by isNull (nilForm t) = refl
+answer-by isNull (consForm v w) = refl
 answer-by isNull other = refl
 answer-by isNum (number n) = refl
 answer-by isNum (lambda t b) = refl
-answer-by isNum (noItem t) = refl
-answer-by isNum (items v w) = refl
+answer-by isNum (nilForm t) = refl
+answer-by isNum (consForm v w) = refl
 answer-by isNum other = refl
 
 -- The operators of one part, by the code's number.
 data Unary : (l : Lang) → ℕ → Op1 l → Type 0 where
-  is-head : {l : Lang} → Unary l 0 head
-  is-tail : {l : Lang} → Unary l 1 tail
-  is-fix : Unary ml 2 fixpoint
-  is-null : Unary ml 3 empty
-  is-test : (t : Test) → Unary sc 4 (testing t)
+  is-head : {l : Lang} → Unary l 0 HD
+  is-tail : {l : Lang} → Unary l 1 TL
+  is-fix : Unary ml 2 FIX
+  is-null : Unary ml 3 NULL?
+  is-test : (t : Test) → Unary sc 4 (TEST t)
 
 unary : (l : Lang) (o : Op1 l) → Unary l (operator1 (word1 o)) o
-unary ml head = is-head
-unary sc head = is-head
-unary ml tail = is-tail
-unary sc tail = is-tail
-unary ml fixpoint = is-fix
-unary ml empty = is-null
-unary sc (testing isFun) = is-test isFun
-unary sc (testing isList) = is-test isList
-unary sc (testing isNull) = is-test isNull
-unary sc (testing isNum) = is-test isNum
+unary ml HD = is-head
+unary sc HD = is-head
+unary ml TL = is-tail
+unary sc TL = is-tail
+unary ml FIX = is-fix
+unary ml NULL? = is-null
+unary sc (TEST isFun) = is-test isFun
+unary sc (TEST isList) = is-test isList
+unary sc (TEST isNull) = is-test isNull
+unary sc (TEST isNum) = is-test isNum
 
 scheme-1 : (l : Lang) (o : Op1 l) → leb 32 (word1 o) ≡ isScheme l
-scheme-1 ml head = refl
-scheme-1 sc head = refl
-scheme-1 ml tail = refl
-scheme-1 sc tail = refl
-scheme-1 ml fixpoint = refl
-scheme-1 ml empty = refl
-scheme-1 sc (testing isFun) = refl
-scheme-1 sc (testing isList) = refl
-scheme-1 sc (testing isNull) = refl
-scheme-1 sc (testing isNum) = refl
+scheme-1 ml HD = refl
+scheme-1 sc HD = refl
+scheme-1 ml TL = refl
+scheme-1 sc TL = refl
+scheme-1 ml FIX = refl
+scheme-1 ml NULL? = refl
+scheme-1 sc (TEST isFun) = refl
+scheme-1 sc (TEST isList) = refl
+scheme-1 sc (TEST isNull) = refl
+scheme-1 sc (TEST isNum) = refl
 
 hd-or-tl : (ws : List ℕ) (r : Rule) (l : Lang) (o : Op1 l) (a : Term l) (n : ℕ) → Unary l n o → (n ≡ 2 → ⊥) → (n ≡ 3 → ⊥) → (n ≡ 4 → ⊥)
     → Tells ws r (contract1 (part (eqb n 0)) a) → Tells ws r (contract1 o a)
@@ -111,7 +111,7 @@ module _ (ws : List ℕ) (form-number end : ℕ) (f : FirstPart ws form-number e
       record { of = λ a k q. subst (Tells ws Stuck) (sym (no-lambda nothing _ (part-form ml a k (ap (drop 1) q) form-number refl) h)) refl }
 
   fix-told : (body : ℕ) → body ≡ 2 + span (drop 2 ws) 1 → (a : Term ml) (k : List ℕ) → ws ≡ put (fix a) k → end ≡ 1 + size a → Formed ml 2 a
-      → Tells ws (Substituted 16 body 0 end) (contract1 fixpoint a)
+      → Tells ws (Substituted 16 body 0 end) (contract1 FIX a)
   unfolding contract1 onLambda form put size
   fix-told body e a k q h (is-function t b) = (
     fix (lam t b),
@@ -141,27 +141,27 @@ module _ (ws : List ℕ) (form-number end : ℕ) (f : FirstPart ws form-number e
 
   nil-scheme : (first : Bool) (l : Lang) (a : Term l) → true ≡ isScheme l → Formed l 3 a → Tells ws (Led 1068 0 0) (contract1 (part first) a)
   unfolding contract1 onList form put
-  nil-scheme true ml a s (is-empty t) = absurd (subst T s tt)
-  nil-scheme false ml a s (is-empty t) = absurd (subst T s tt)
-  nil-scheme true sc a s (is-empty t) = refl
-  nil-scheme false sc a s (is-empty t) = refl
+  nil-scheme true ml a s (is-nil t) = absurd (subst T s tt)
+  nil-scheme false ml a s (is-nil t) = absurd (subst T s tt)
+  nil-scheme true sc a s (is-nil t) = refl
+  nil-scheme false sc a s (is-nil t) = refl
 
   pub list-nil-scheme : (first : Bool) → form-number ≡ 3 → OfList ws first true (Led 1068 0 0)
   list-nil-scheme first h = record { of = λ l a k q s. nil-scheme first l a s (part-form l a k q 3 h) }
 
   nil-head : (l : Lang) (a : Term l) (k : List ℕ) → drop 1 ws ≡ put a k → end ≡ 1 + size a → false ≡ isScheme l → Formed l 3 a
-      → Tells ws (Led 1053 2 end) (contract1 head a)
+      → Tells ws (Led 1053 2 end) (contract1 HD a)
   unfolding contract1 onList form put size
-  nil-head ml a k q e s (is-empty t) =
+  nil-head ml a k q e s (is-nil t) =
       ap (λ (v : List ℕ). 1053 ∷ v) (sym (sized type t k ws 2 end (sym (drop-drop 1 1 ws) ∙ ap (drop 1) q) (omega arith) .own))
-  nil-head sc a k q e s (is-empty t) = absurd (subst T (sym s) tt)
+  nil-head sc a k q e s (is-nil t) = absurd (subst T (sym s) tt)
 
   nil-tail : (l : Lang) (a : Term l) (k : List ℕ) → drop 1 ws ≡ put a k → end ≡ 1 + size a → false ≡ isScheme l → Formed l 3 a
-      → Tells ws (Led2 1053 3 2 end) (contract1 tail a)
+      → Tells ws (Led2 1053 3 2 end) (contract1 TL a)
   unfolding contract1 onList form put putTy size
-  nil-tail ml a k q e s (is-empty t) =
+  nil-tail ml a k q e s (is-nil t) =
       ap (λ (v : List ℕ). 1053 ∷ 3 ∷ v) (sym (sized type t k ws 2 end (sym (drop-drop 1 1 ws) ∙ ap (drop 1) q) (omega arith) .own))
-  nil-tail sc a k q e s (is-empty t) = absurd (subst T (sym s) tt)
+  nil-tail sc a k q e s (is-nil t) = absurd (subst T (sym s) tt)
 
   pub list-nil-head : form-number ≡ 3 → OfList ws true false (Led 1053 2 end)
   list-nil-head h = record { of = λ l a k q s. nil-head l a k q (part-end l a k q) s (part-form l a k q 3 h) }
@@ -171,32 +171,32 @@ module _ (ws : List ℕ) (form-number end : ℕ) (f : FirstPart ws form-number e
 
   module _ (middle : ℕ) (e : middle ≡ 2 + span (drop 2 ws) 1) (h : form-number ≡ 4) where
     -- the head of a cons, up to its tail
-    head-stands : (l : Lang) (v w : Term l) (k : List ℕ) → drop 1 ws ≡ put (op2 pair v w) k → Stands (term l) v (put w k) ws 2 middle
+    head-stands : (l : Lang) (v w : Term l) (k : List ℕ) → drop 1 ws ≡ put (op2 CONS v w) k → Stands (term l) v (put w k) ws 2 middle
     unfolding put
     head-stands l v w k q = stands (term l) v (put w k) ws 2 middle (sym (drop-drop 1 1 ws) ∙ ap (drop 1) q) e
 
-    pair-before : (l : Lang) (a : Term l) (k : List ℕ) → drop 1 ws ≡ put a k → end ≡ 1 + size a → end < middle → Formed l 4 a → ⊥
+    cons-before : (l : Lang) (a : Term l) (k : List ℕ) → drop 1 ws ≡ put a k → end ≡ 1 + size a → end < middle → Formed l 4 a → ⊥
     unfolding size
-    pair-before l a k q i g (is-pair v w) = omega (arith, i, g, head-stands l v w k q .end)
+    cons-before l a k q i g (is-cons v w) = omega (arith, i, g, head-stands l v w k q .end)
 
     pub list-absurd : (first scheme : Bool) → end < middle → OfList ws first scheme Stuck
-    list-absurd first scheme g = record { of = λ l a k q s. absurd (pair-before l a k q (part-end l a k q) g (part-form l a k q 4 h)) }
+    list-absurd first scheme g = record { of = λ l a k q s. absurd (cons-before l a k q (part-end l a k q) g (part-form l a k q 4 h)) }
 
-    pair-head : (l : Lang) (a : Term l) (k : List ℕ) → drop 1 ws ≡ put a k → Formed l 4 a → Tells ws (Part 2 middle) (contract1 head a)
+    cons-head : (l : Lang) (a : Term l) (k : List ℕ) → drop 1 ws ≡ put a k → Formed l 4 a → Tells ws (Part 2 middle) (contract1 HD a)
     unfolding contract1 onList form
-    pair-head l a k q (is-pair v w) = sym (head-stands l v w k q .own)
+    cons-head l a k q (is-cons v w) = sym (head-stands l v w k q .own)
 
     pub list-head : (scheme : Bool) → OfList ws true scheme (Part 2 middle)
-    list-head scheme = record { of = λ l a k q s. pair-head l a k q (part-form l a k q 4 h) }
+    list-head scheme = record { of = λ l a k q s. cons-head l a k q (part-form l a k q 4 h) }
 
-    pair-tail : (l : Lang) (a : Term l) (k : List ℕ) → drop 1 ws ≡ put a k → end ≡ 1 + size a → Formed l 4 a
-        → Tells ws (Part middle end) (contract1 tail a)
+    cons-tail : (l : Lang) (a : Term l) (k : List ℕ) → drop 1 ws ≡ put a k → end ≡ 1 + size a → Formed l 4 a
+        → Tells ws (Part middle end) (contract1 TL a)
     unfolding contract1 onList form size
-    pair-tail l a k q i (is-pair v w) =
+    cons-tail l a k q i (is-cons v w) =
         let z = head-stands l v w k q in sym (sized (term l) w k ws middle end (z .after) (omega (arith, i, z .end)) .own)
 
     pub list-tail : (scheme : Bool) → OfList ws false scheme (Part middle end)
-    list-tail scheme = record { of = λ l a k q s. pair-tail l a k q (part-end l a k q) (part-form l a k q 4 h) }
+    list-tail scheme = record { of = λ l a k q s. cons-tail l a k q (part-end l a k q) (part-form l a k q 4 h) }
 
   -- The operator's rule.
   module _ (op : ℕ) (op-is : op ≡ operator1 (getD ws 0 0)) where

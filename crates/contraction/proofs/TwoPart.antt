@@ -7,7 +7,7 @@ use lib.Dec.{T, leb}
 use lib.ListN.{getD, drop}
 use lib.Seq.{drop-drop}
 use native.Mathlib.Omega.{arith}
-use Rattle.calculus.specs.Trees.{Lang, ml, sc, Op2, apply, plus, minus, pair, Term, num, lam, op2, wrong, numbers}
+use Rattle.calculus.specs.Trees.{Lang, ml, sc, Op2, APP, ADD, SUB, CONS, Term, num, lam, op2, wrong, numbers}
 use Rattle.calculus.specs.Words.{word2, largest, put, putTy}
 use Rattle.calculus.specs.Kinds.{type, term}
 use Rattle.calculus.specs.Reduction.{form, Became, becomes, amiss, onNumber, onLambda, onNumbers, contract2}
@@ -24,30 +24,30 @@ use Rattle.contraction.proofs.Looks.{no-lambda, no-number, amiss-told, 
 
 -- The operators of two parts, by the code's number.
 data Binary : ℕ → Op2 → Type 0 where
-  is-apply : Binary 0 apply
-  is-cons : Binary 1 pair
-  is-plus : Binary 2 plus
-  is-minus : Binary 3 minus
+  is-apply : Binary 0 APP
+  op-cons : Binary 1 CONS
+  is-plus : Binary 2 ADD
+  is-minus : Binary 3 SUB
 
 binary : (l : Lang) (o : Op2) → Binary (operator2 (word2 l o)) o
-binary ml apply = is-apply
-binary sc apply = is-apply
-binary ml pair = is-cons
-binary sc pair = is-cons
-binary ml plus = is-plus
-binary sc plus = is-plus
-binary ml minus = is-minus
-binary sc minus = is-minus
+binary ml APP = is-apply
+binary sc APP = is-apply
+binary ml CONS = op-cons
+binary sc CONS = op-cons
+binary ml ADD = is-plus
+binary sc ADD = is-plus
+binary ml SUB = is-minus
+binary sc SUB = is-minus
 
 scheme-2 : (l : Lang) (o : Op2) → leb 32 (word2 l o) ≡ isScheme l
-scheme-2 ml apply = refl
-scheme-2 sc apply = refl
-scheme-2 ml pair = refl
-scheme-2 sc pair = refl
-scheme-2 ml plus = refl
-scheme-2 sc plus = refl
-scheme-2 ml minus = refl
-scheme-2 sc minus = refl
+scheme-2 ml APP = refl
+scheme-2 sc APP = refl
+scheme-2 ml CONS = refl
+scheme-2 sc CONS = refl
+scheme-2 ml ADD = refl
+scheme-2 sc ADD = refl
+scheme-2 ml SUB = refl
+scheme-2 sc SUB = refl
 
 over-told : (ws : List ℕ) (l : Lang) (n : ℕ) (b : Bool)
     → Tells {l = l} ws (cond b (numberRule (isScheme l) n) (overRule (isScheme l))) (becomes (cond b (num n) (wrong 5 (numbers l))))
@@ -61,7 +61,7 @@ number-op : (ws : List ℕ) (r : Rule) (l : Lang) (o : Op2) (a b : Term l) (n : 
     → ((f : ℕ → ℕ → Became l) → Tells ws r (onNumbers l a b f)) → Tells ws r (contract2 l o a b)
 unfolding contract2
 number-op ws r l o a b n is-apply h i g = absurd (h refl)
-number-op ws r l o a b n is-cons h i g = absurd (i refl)
+number-op ws r l o a b n op-cons h i g = absurd (i refl)
 number-op ws r l o a b n is-plus h i g = g _
 number-op ws r l o a b n is-minus h i g = g _
 
@@ -86,7 +86,7 @@ module _ (ws : List ℕ) (form-number middle end : ℕ) (p : TwoParts ws form-nu
       }
 
   apply-sc : (l : Lang) (f v : Term l) (k : List ℕ) → drop 1 ws ≡ put f (put v k) → true ≡ isScheme l → Formed l 2 f
-      → Tells ws (Substituted 32 2 middle end) (contract2 l apply f v)
+      → Tells ws (Substituted 32 2 middle end) (contract2 l APP f v)
   unfolding contract2 onLambda form put
   apply-sc ml f v k q s (is-function t b) = absurd (subst T s tt)
   apply-sc sc f v k q s (is-function t b) =
@@ -96,7 +96,7 @@ module _ (ws : List ℕ) (form-number middle end : ℕ) (p : TwoParts ws form-nu
   apply-scheme h = record { of = λ l f v k q s. apply-sc l f v k q s (first-form l f (put v k) q 2 h) }
 
   apply-in-ml : (body : ℕ) → body ≡ 2 + span (drop 2 ws) 1 → (l : Lang) (f v : Term l) (k : List ℕ) → drop 1 ws ≡ put f (put v k)
-      → false ≡ isScheme l → Formed l 2 f → Tells ws (Substituted 16 body middle end) (contract2 l apply f v)
+      → false ≡ isScheme l → Formed l 2 f → Tells ws (Substituted 16 body middle end) (contract2 l APP f v)
   unfolding contract2 onLambda form put
   apply-in-ml body e ml f v k q s (is-function t b) =
       let at-2 = sym (drop-drop 1 1 ws) ∙ ap (drop 1) q in
@@ -123,14 +123,14 @@ module _ (ws : List ℕ) (form-number middle end : ℕ) (p : TwoParts ws form-nu
 
     two-of-apply : (r : Rule) → OfApply ws (leb 32 (getD ws 0 0)) r → (l : Lang) (o : Op2) (a b : Term l) (k : List ℕ)
         → ws ≡ put (op2 o a b) k → Binary 0 o → Tells ws r (contract2 l o a b)
-    two-of-apply r g l o a b k q is-apply = g .of l a b k (tail-of l apply a b k q) (lang-of l apply a b k q)
+    two-of-apply r g l o a b k q is-apply = g .of l a b k (tail-of l APP a b k q) (lang-of l APP a b k q)
 
     pub two-apply : (r : Rule) → op ≡ 0 → OfApply ws (leb 32 (getD ws 0 0)) r → OfTwo ws r
     two-apply r e g = record { of = λ l o a b k q. two-of-apply r g l o a b k q (op-of l o a b k q 0 e) }
 
     two-of-cons : (l : Lang) (o : Op2) (a b : Term l) → Binary 1 o → Tells ws Stuck (contract2 l o a b)
     unfolding contract2
-    two-of-cons l o a b is-cons = refl
+    two-of-cons l o a b op-cons = refl
 
     pub two-cons : op ≡ 1 → OfTwo ws Stuck
     two-cons e = record { of = λ l o a b k q. two-of-cons l o a b (op-of l o a b k q 1 e) }
@@ -173,7 +173,7 @@ module _ (ws : List ℕ) (form-number middle end : ℕ) (p : TwoParts ws form-nu
               → Tells ws (sumRule (isScheme l) x y) (contract2 l o a b)
           unfolding contract2 onNumbers onNumber form
           plus-told l o a b k q is-plus (is-number n) (is-number m) =
-              let t = tail-of l plus a b k q in
+              let t = tail-of l ADD a b k q in
               rw (x-is ∙ number-of l n (put (num m) k) (drop 1 ws) t, y-is ∙ number-of l m k (drop middle ws) (first-stands l a b k t .after))
               (over-told ws l (n + m) (leb (n + m) largest))
 
@@ -190,10 +190,10 @@ module _ (ws : List ℕ) (form-number middle end : ℕ) (p : TwoParts ws form-nu
               → (n ≡ 2 → ⊥) → Formed l 1 a → Formed l 1 b → Tells ws (numberRule (isScheme l) (x - y)) (contract2 l o a b)
           unfolding contract2 onNumbers onNumber form
           minus-told l o a b k q n is-apply i j u v w = absurd (i refl)
-          minus-told l o a b k q n is-cons i j u v w = absurd (j refl)
+          minus-told l o a b k q n op-cons i j u v w = absurd (j refl)
           minus-told l o a b k q n is-plus i j u v w = absurd (u refl)
           minus-told l o a b k q n is-minus i j u (is-number v) (is-number w) =
-              let t = tail-of l minus a b k q in
+              let t = tail-of l SUB a b k q in
               rw (x-is ∙ number-of l v (put (num w) k) (drop 1 ws) t, y-is ∙ number-of l w k (drop middle ws) (first-stands l a b k t .after))
               (number-told ws l (v - w))
 

@@ -5,8 +5,8 @@ use mathlib.Core.Path.{_≡_, refl, sym, ap, _∙_, subst}
 use lib.ListN.{length, getD}
 use borrow.Author.Tests.{ne-eqb}
 use native.Mathlib.Omega.{arith}
-use Rattle.calculus.specs.Trees.{N, L, list, _to_, Lang, ml, sc, Static, isFun, isList, isNull, isNum, head, tail, fixpoint, empty, testing, apply}
-use Rattle.calculus.specs.Trees.{plus, minus, pair, Term, var, num, lam, op1, op2, if0, nil, wrong, ms, sm}
+use Rattle.calculus.specs.Trees.{N, L, list, _to_, Lang, ml, sc, Static, isFun, isList, isNull, isNum, HD, TL, FIX, NULL?, TEST, APP}
+use Rattle.calculus.specs.Trees.{ADD, SUB, CONS, Term, var, num, lam, op1, op2, if0, nil, wrong, ms, sm}
 use Rattle.calculus.specs.Words.{word, put, putTy, size}
 use Rattle.calculus.specs.Kinds.{term}
 use Rattle.calculus.specs.Reduction.{other, form}
@@ -19,8 +19,8 @@ use Rattle.contraction.specs.Forms.{formNumber, formBy, formAt}
 pub data Formed : (l : Lang) → ℕ → Term l → Type 0 where
   is-number : {l : Lang} (n : ℕ) → Formed l 1 (num n)
   is-function : {l : Lang} (t : Static l) (b : Term l) → Formed l 2 (lam t b)
-  is-empty : {l : Lang} (t : Static l) → Formed l 3 (nil t)
-  is-pair : {l : Lang} (v w : Term l) → Formed l 4 (op2 pair v w)
+  is-nil : {l : Lang} (t : Static l) → Formed l 3 (nil t)
+  is-cons : {l : Lang} (v w : Term l) → Formed l 4 (op2 CONS v w)
   is-lump : (v : Term sc) → Formed ml 5 (ms L v)
   is-other : {l : Lang} {e : Term l} → form e ≡ other → Formed l 0 e
 
@@ -30,12 +30,12 @@ formed l (var i) = is-other refl
 formed l (num n) = is-number n
 formed l (lam t b) = is-function t b
 formed l (op1 o a) = is-other refl
-formed l (op2 apply a b) = is-other refl
-formed l (op2 plus a b) = is-other refl
-formed l (op2 minus a b) = is-other refl
-formed l (op2 pair a b) = is-pair a b
+formed l (op2 APP a b) = is-other refl
+formed l (op2 ADD a b) = is-other refl
+formed l (op2 SUB a b) = is-other refl
+formed l (op2 CONS a b) = is-cons a b
 formed l (if0 a b c) = is-other refl
-formed l (nil t) = is-empty t
+formed l (nil t) = is-nil t
 formed l (wrong c t) = is-other refl
 formed ml (ms N a) = is-other refl
 formed ml (ms L a) = is-lump a
@@ -52,24 +52,24 @@ form-by sc (var i) k =
     rw (ne-eqb (word 32 i) 25 (λ e. omega (arith, e)), ne-eqb (word 32 i) 40 (λ e. omega (arith, e)), ne-eqb (word 32 i) 30 (λ e. omega (arith, e)))
 form-by l (num n) k = refl
 form-by l (lam t b) k = refl
-form-by ml (op1 head a) k = refl
-form-by ml (op1 tail a) k = refl
-form-by ml (op1 fixpoint a) k = refl
-form-by ml (op1 empty a) k = refl
-form-by sc (op1 head a) k = refl
-form-by sc (op1 tail a) k = refl
-form-by sc (op1 (testing isFun) a) k = refl
-form-by sc (op1 (testing isList) a) k = refl
-form-by sc (op1 (testing isNull) a) k = refl
-form-by sc (op1 (testing isNum) a) k = refl
-form-by ml (op2 apply a b) k = refl
-form-by ml (op2 plus a b) k = refl
-form-by ml (op2 minus a b) k = refl
-form-by ml (op2 pair a b) k = refl
-form-by sc (op2 apply a b) k = refl
-form-by sc (op2 plus a b) k = refl
-form-by sc (op2 minus a b) k = refl
-form-by sc (op2 pair a b) k = refl
+form-by ml (op1 HD a) k = refl
+form-by ml (op1 TL a) k = refl
+form-by ml (op1 FIX a) k = refl
+form-by ml (op1 NULL? a) k = refl
+form-by sc (op1 HD a) k = refl
+form-by sc (op1 TL a) k = refl
+form-by sc (op1 (TEST isFun) a) k = refl
+form-by sc (op1 (TEST isList) a) k = refl
+form-by sc (op1 (TEST isNull) a) k = refl
+form-by sc (op1 (TEST isNum) a) k = refl
+form-by ml (op2 APP a b) k = refl
+form-by ml (op2 ADD a b) k = refl
+form-by ml (op2 SUB a b) k = refl
+form-by ml (op2 CONS a b) k = refl
+form-by sc (op2 APP a b) k = refl
+form-by sc (op2 ADD a b) k = refl
+form-by sc (op2 SUB a b) k = refl
+form-by sc (op2 CONS a b) k = refl
 form-by ml (if0 a b c) k = refl
 form-by sc (if0 a b c) k = refl
 form-by l (nil t) k = refl

@@ -4,7 +4,7 @@ use mathlib.Core.Bool.{Bool}
 use mathlib.Core.List.{List}
 use mathlib.Core.Path.{_≡_}
 use lib.ListN.{length, drop}
-use Rattle.calculus.specs.Trees.{Ty, list, _to_, Lang, ml, sc, Op1, fixpoint, Op2, apply, Term, op1, op2, if0, ms, sm, fix}
+use Rattle.calculus.specs.Trees.{Ty, list, _to_, Lang, ml, sc, Op1, FIX, Op2, APP, Term, op1, op2, if0, ms, sm, fix}
 use Rattle.calculus.specs.Words.{put, putTy, words}
 use Rattle.calculus.specs.Reduction.{contract, contract1, contract2, toML, toScheme}
 use Rattle.writing.specs.Spans.{span}
@@ -26,7 +26,7 @@ pub record FirstPart (ws : List ℕ) (form end : ℕ) : Type 0 where
   pub most : end ≤ length ws
 
 pub record OfFix (ws : List ℕ) (r : Rule) : Type 0 where
-  pub of : (a : Term ml) (k : List ℕ) → ws ≡ put (fix a) k → Tells ws r (contract1 fixpoint a)
+  pub of : (a : Term ml) (k : List ℕ) → ws ≡ put (fix a) k → Tells ws r (contract1 FIX a)
 
 pub record OfList (ws : List ℕ) (first scheme : Bool) (r : Rule) : Type 0 where
   pub of : (l : Lang) (a : Term l) (k : List ℕ) → drop 1 ws ≡ put a k → scheme ≡ isScheme l → Tells ws r (contract1 (part first) a)
@@ -44,7 +44,7 @@ pub record TwoParts (ws : List ℕ) (form middle end : ℕ) : Type 0 where
   pub most : end ≤ length ws
 
 pub record OfApply (ws : List ℕ) (scheme : Bool) (r : Rule) : Type 0 where
-  pub of : (l : Lang) (f v : Term l) (k : List ℕ) → drop 1 ws ≡ put f (put v k) → scheme ≡ isScheme l → Tells ws r (contract2 l apply f v)
+  pub of : (l : Lang) (f v : Term l) (k : List ℕ) → drop 1 ws ≡ put f (put v k) → scheme ≡ isScheme l → Tells ws r (contract2 l APP f v)
 
 pub record OfTwo (ws : List ℕ) (r : Rule) : Type 0 where
   pub of : (l : Lang) (o : Op2) (a b : Term l) (k : List ℕ) → ws ≡ put (op2 o a b) k → Tells ws r (contract2 l o a b)

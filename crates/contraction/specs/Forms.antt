@@ -5,15 +5,15 @@ use mathlib.Core.List.{List}
 use lib.Dec.{eqb}
 use lib.ListN.{getD}
 use Rattle.calculus.specs.Trees.{Lang, ml, sc}
-use Rattle.calculus.specs.Reduction.{Form, number, lambda, noItem, items, sealed, other}
+use Rattle.calculus.specs.Reduction.{Form, number, lambda, nilForm, consForm, sealed, other}
 use Rattle.nodes.specs.Table.{rowOf}
 
 -- The forms in code.
 abbrev pub formNumber : {l : Lang} → Form l → ℕ
 formNumber (number n) = 1
 formNumber (lambda t b) = 2
-formNumber (noItem t) = 3
-formNumber (items v w) = 4
+formNumber (nilForm t) = 3
+formNumber (consForm v w) = 4
 formNumber (sealed v) = 5
 formNumber other = 0
 

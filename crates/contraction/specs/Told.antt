@@ -5,7 +5,7 @@ use mathlib.Core.List.{List, [], _∷_, _++_}
 use mathlib.Core.Path.{_≡_}
 use lib.Dec.{eqb, leb}
 use lib.ListN.{take, drop}
-use Rattle.calculus.specs.Trees.{Ty, Lang, ml, sc, Op1, head, tail, Term}
+use Rattle.calculus.specs.Trees.{Ty, Lang, ml, sc, Op1, HD, TL, Term}
 use Rattle.calculus.specs.Words.{word, by, put, words}
 use Rattle.calculus.specs.Reduction.{Became, becomes, raises, nothing, substitute, toML, toScheme}
 use Rattle.contraction.specs.declared.rules.Rule.{Rule}
@@ -84,8 +84,8 @@ nullRule form = cond (eqb form 3) (Number 17 0) (cond (eqb form 4) (Number 17 1)
 
 -- hd or tl.
 abbrev pub part : {l : Lang} → Bool → Op1 l
-part true = head
-part false = tail
+part true = HD
+part false = TL
 
 -- ms into ML, sm into Scheme: the language that a value comes from, and what it becomes at a type.
 abbrev pub from : Lang → Lang

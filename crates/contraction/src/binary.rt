@@ -5,9 +5,9 @@ use crate::numbers::number_at;
 use crate::rules::Rule;
 use crate::rules::amiss;
 use crate::rules::numbered;
-use crate::words::ml_wrong;
-use crate::words::scheme_wrong;
 use nodes::kinds::Kinds;
+use nodes::words::ml_wrong;
+use nodes::words::scheme_wrong;
 use writing::spans::skip;
 ghost use mathlib.Core.Path.{_≡_};
 ghost use Prim.Native.Nat.{_≤_, _-_};
@@ -17,33 +17,33 @@ ghost use Rattle.contraction.specs.Forms.{operator2};
 ghost use Rattle.contraction.specs.Told.{Placed, sumRule};
 ghost use Rattle.contraction.specs.Chosen.{Ends, TwoParts, OfApply, OfTwo, OfIf};
 
-const APPLY: u64 = 0;
+const APP: u64 = 0;
 
-const PAIR: u64 = 1;
+const CONS: u64 = 1;
 
-const PLUS: u64 = 2;
+const ADD: u64 = 2;
 
 // The operator, by its word. 3 is subtract.
 fn operator(w: u32) -> u64
     ensures { λ r. ⌜ r ≡ operator2 w ⌝ }
 {
-    if w == crate::words::ML_APPLICATION {
-        return APPLY;
+    if w == nodes::words::ML_APPLICATION {
+        return APP;
     }
-    if w == crate::words::SCHEME_APPLICATION {
-        return APPLY;
+    if w == nodes::words::SCHEME_APPLICATION {
+        return APP;
     }
-    if w == crate::words::ML_CONS {
-        return PAIR;
+    if w == nodes::words::ML_CONS {
+        return CONS;
     }
-    if w == crate::words::SCHEME_CONS {
-        return PAIR;
+    if w == nodes::words::SCHEME_CONS {
+        return CONS;
     }
-    if w == crate::words::ML_ADD {
-        return PLUS;
+    if w == nodes::words::ML_ADD {
+        return ADD;
     }
-    if w == crate::words::SCHEME_ADD {
-        return PLUS;
+    if w == nodes::words::SCHEME_ADD {
+        return ADD;
     }
     3
 }
@@ -53,13 +53,13 @@ fn sum(scheme: bool, a: u32, b: u32) -> Rule
     requires { ⌜ (a ≤ 16777215) × (b ≤ 16777215) ⌝ }
     ensures { λ r. ⌜ r ≡ sumRule scheme a b ⌝ }
 {
-    if a + b <= crate::words::LARGEST {
+    if a + b <= crate::codes::LARGEST {
         return numbered(scheme, a + b);
     }
     if scheme {
-        return Rule::Led(scheme_wrong(crate::words::OVER), 0, 0);
+        return Rule::Led(scheme_wrong(crate::codes::OVER), 0, 0);
     }
-    Rule::Led2(ml_wrong(crate::words::OVER), crate::words::N, 0, 0)
+    Rule::Led2(ml_wrong(crate::codes::OVER), nodes::words::N, 0, 0)
 }
 
 // How much more a is than b, or 0.
@@ -86,13 +86,13 @@ fn of_apply(
     ensures told { λ r. ⌜ OfApply (now (words .entry)) scheme r ⌝ }
 {
     if form != crate::forms::FUNCTION {
-        return amiss(scheme, crate::words::NO_FUNCTION);
+        return amiss(scheme, crate::codes::NO_FUNCTION);
     }
     if scheme {
-        return Rule::Substituted(crate::words::SCHEME_VARIABLE, 2, middle, end);
+        return Rule::Substituted(nodes::words::SCHEME_VARIABLE, 2, middle, end);
     }
     let body = 2 + skip(table, &words[2..], 1);
-    Rule::Substituted(crate::words::ML_VARIABLE, body, middle, end)
+    Rule::Substituted(nodes::words::ML_VARIABLE, body, middle, end)
 }
 
 // The operators of two parts. The node's words end at `end`.
@@ -108,22 +108,22 @@ pub fn of_two(table: &Kinds, words: &[u32], end: usize) -> Rule
     let form = form_at(table, &words[1..]);
     let w = words[0];
     let op = operator(w);
-    let scheme = crate::words::FIRST_SCHEME <= w;
-    if op == APPLY {
+    let scheme = nodes::words::FIRST_SCHEME <= w;
+    if op == APP {
         return of_apply(table, words, scheme, form, middle, end);
     }
-    if op == PAIR {
+    if op == CONS {
         return Rule::Stuck;
     }
     if form != crate::forms::NUMBER {
-        return amiss(scheme, crate::words::NO_NUMBER);
+        return amiss(scheme, crate::codes::NO_NUMBER);
     }
     if form_at(table, &words[middle..]) != crate::forms::NUMBER {
-        return amiss(scheme, crate::words::NO_NUMBER);
+        return amiss(scheme, crate::codes::NO_NUMBER);
     }
     let a = number_at(&words[1..]);
     let b = number_at(&words[middle..]);
-    if op == PLUS {
+    if op == ADD {
         return sum(scheme, a, b);
     }
     numbered(scheme, difference(a, b))
@@ -138,7 +138,7 @@ pub fn of_if(table: &Kinds, words: &[u32], end: usize) -> Rule
     let second = 1 + skip(table, &words[1..], 1);
     let third = second + skip(table, &words[second..], 1);
     if form_at(table, &words[1..]) != crate::forms::NUMBER {
-        if words[0] == crate::words::SCHEME_IF0 {
+        if words[0] == nodes::words::SCHEME_IF0 {
             return Rule::Part(third, end);
         }
         return Rule::Stuck;

@@ -4,8 +4,8 @@ use crate::forms::form_at;
 use crate::numbers::number_at;
 use crate::rules::Rule;
 use crate::rules::numbered;
-use crate::words::ml_wrong;
 use nodes::kinds::Kinds;
+use nodes::words::ml_wrong;
 use writing::spans::skip;
 ghost use mathlib.Core.Path.{_≡_};
 ghost use Prim.Native.Nat.{_≤_};
@@ -33,7 +33,7 @@ fn at_number(words: &[u32], scheme: bool, form: u64, value: usize, end: usize) -
     ensures told { λ r. ⌜ AtType (now (words .entry)) scheme r N ⌝ }
 {
     if form != crate::forms::NUMBER {
-        return refused(scheme, crate::words::NO_NUMBER, value);
+        return refused(scheme, crate::codes::NO_NUMBER, value);
     }
     numbered(scheme, number_at(&words[value..]))
 }
@@ -62,14 +62,14 @@ fn at_list(table: &Kinds, words: &[u32], scheme: bool, form: u64, value: usize, 
     ensures placed { λ r. ⌜ Placed (length (now (words .entry))) r ⌝ }
     ensures told { λ r. ⌜ AtList (now (words .entry)) scheme r ⌝ }
 {
-    if form == crate::forms::EMPTY {
+    if form == crate::forms::NIL {
         if scheme {
-            return Rule::Led(crate::words::SCHEME_NIL, 0, 0);
+            return Rule::Led(nodes::words::SCHEME_NIL, 0, 0);
         }
-        return Rule::Led(crate::words::ML_NIL, 2, value);
+        return Rule::Led(nodes::words::ML_NIL, 2, value);
     }
-    if form != crate::forms::PAIR {
-        return refused(scheme, crate::words::NO_LIST, value);
+    if form != crate::forms::CONS {
+        return refused(scheme, crate::codes::NO_LIST, value);
     }
     let tail = value + 1 + skip(table, &words[value + 1..], 1);
     if end < tail {
@@ -77,14 +77,14 @@ fn at_list(table: &Kinds, words: &[u32], scheme: bool, form: u64, value: usize, 
     }
     if scheme {
         return Rule::Items(
-            crate::words::SCHEME_CONS,
-            crate::words::SM,
+            nodes::words::SCHEME_CONS,
+            nodes::words::SM,
             value,
             tail,
             end,
         );
     }
-    Rule::Items(crate::words::ML_CONS, crate::words::MS, value, tail, end)
+    Rule::Items(nodes::words::ML_CONS, nodes::words::MS, value, tail, end)
 }
 
 // At a type t to u.
@@ -101,7 +101,7 @@ fn at_function(
     ensures told { λ r. ⌜ AtFunction (now (words .entry)) scheme r ⌝ }
 {
     if form != crate::forms::FUNCTION {
-        return refused(scheme, crate::words::NO_FUNCTION, value);
+        return refused(scheme, crate::codes::NO_FUNCTION, value);
     }
     let second = 2 + skip(table, &words[2..], 1);
     if value < second {
@@ -127,15 +127,15 @@ pub fn of_boundary(table: &Kinds, words: &[u32], end: usize) -> Rule
         return Rule::Stuck;
     }
     let form = form_at(table, &words[value..]);
-    let scheme = words[0] == crate::words::SM;
+    let scheme = words[0] == nodes::words::SM;
     let t = words[1];
-    if t == crate::words::N {
+    if t == nodes::words::N {
         return at_number(words, scheme, form, value, end);
     }
-    if t == crate::words::L {
+    if t == nodes::words::L {
         return at_lump(words, scheme, form, value, end);
     }
-    if t == crate::words::LIST {
+    if t == nodes::words::LIST {
         return at_list(table, words, scheme, form, value, end);
     }
     at_function(table, words, scheme, form, value, end)

@@ -12,9 +12,9 @@ pub const NUMBER: u64 = 1;
 
 pub const FUNCTION: u64 = 2;
 
-pub const EMPTY: u64 = 3;
+pub const NIL: u64 = 3;
 
-pub const PAIR: u64 = 4;
+pub const CONS: u64 = 4;
 
 pub const LUMP: u64 = 5;
 
@@ -35,21 +35,21 @@ pub fn form_at(table: &Kinds, words: &[u32]) -> u64
         return FUNCTION;
     }
     if shape == nodes::kinds::NIL {
-        return EMPTY;
+        return NIL;
     }
-    if w == crate::words::ML_CONS {
-        return PAIR;
+    if w == nodes::words::ML_CONS {
+        return CONS;
     }
-    if w == crate::words::SCHEME_CONS {
-        return PAIR;
+    if w == nodes::words::SCHEME_CONS {
+        return CONS;
     }
-    if w != crate::words::MS {
+    if w != nodes::words::MS {
         return OTHER;
     }
     if words.len() < 2 {
         return OTHER;
     }
-    if words[1] == crate::words::L {
+    if words[1] == nodes::words::L {
         return LUMP;
     }
     OTHER

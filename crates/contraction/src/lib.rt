@@ -2,10 +2,10 @@
 
 pub mod binary;
 pub mod choices;
+pub mod codes;
 pub mod conversions;
 pub mod forms;
 pub mod numbers;
 pub mod pieces;
 pub mod rules;
 pub mod unary;
-pub mod words;

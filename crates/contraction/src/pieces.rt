@@ -64,18 +64,18 @@ fn into_ml(
     ensures { λ r. ⌜ Wrote (now (target .entry)) n (intoMLWords second value end (now (words .entry))) r (now (target .exit)) ⌝ }
     ensures bound { λ r. ⌜ (n ≤ r) × (r ≤ n + 8388608) ⌝ }
 {
-    let a = lead(crate::words::ML_LAMBDA, words, 2, second, target, n);
-    let b = lead(crate::words::MS, words, second, value, target, a);
+    let a = lead(nodes::words::ML_LAMBDA, words, 2, second, target, n);
+    let b = lead(nodes::words::MS, words, second, value, target, a);
     let c = lead(
-        crate::words::SCHEME_APPLICATION,
+        nodes::words::SCHEME_APPLICATION,
         words,
         value,
         end,
         target,
         b,
     );
-    let d = lead(crate::words::SM, words, 2, second, target, c);
-    put(target, d, crate::words::ML_VARIABLE)
+    let d = lead(nodes::words::SM, words, 2, second, target, c);
+    put(target, d, nodes::words::ML_VARIABLE)
 }
 
 // The Scheme lambda that stands for an ML lambda.
@@ -92,11 +92,11 @@ fn into_scheme(
     ensures { λ r. ⌜ Wrote (now (target .entry)) n (intoSchemeWords second value end (now (words .entry))) r (now (target .exit)) ⌝ }
     ensures bound { λ r. ⌜ (n ≤ r) × (r ≤ n + 8388608) ⌝ }
 {
-    let a = put(target, n, crate::words::SCHEME_LAMBDA);
-    let b = lead(crate::words::SM, words, second, value, target, a);
-    let c = lead(crate::words::ML_APPLICATION, words, value, end, target, b);
-    let d = lead(crate::words::MS, words, 2, second, target, c);
-    put(target, d, crate::words::SCHEME_VARIABLE)
+    let a = put(target, n, nodes::words::SCHEME_LAMBDA);
+    let b = lead(nodes::words::SM, words, second, value, target, a);
+    let c = lead(nodes::words::ML_APPLICATION, words, value, end, target, b);
+    let d = lead(nodes::words::MS, words, 2, second, target, c);
+    put(target, d, nodes::words::SCHEME_VARIABLE)
 }
 
 // Two words, and after them the words from a place to another.

@@ -1,6 +1,6 @@
 // The rules' answers: what a node becomes whose turn it is. Places are counted from the node's word on.
 
-use crate::words::scheme_wrong;
+use nodes::words::scheme_wrong;
 ghost use mathlib.Core.Path.{_≡_};
 ghost use Prim.Native.Nat.{_≤_};
 ghost use Rattle.contraction.specs.Told.{amissRule, numberRule};
@@ -42,7 +42,7 @@ pub fn numbered(scheme: bool, n: u32) -> Rule
     ensures { λ r. ⌜ r ≡ numberRule scheme n ⌝ }
 {
     if scheme {
-        return Rule::Number(crate::words::SCHEME_NUMBER, n);
+        return Rule::Number(nodes::words::SCHEME_NUMBER, n);
     }
-    Rule::Number(crate::words::ML_NUMBER, n)
+    Rule::Number(nodes::words::ML_NUMBER, n)
 }

@@ -3,9 +3,9 @@
 use crate::forms::form_at;
 use crate::rules::Rule;
 use crate::rules::amiss;
-use crate::words::ml_wrong;
-use crate::words::scheme_wrong;
 use nodes::kinds::Kinds;
+use nodes::words::ml_wrong;
+use nodes::words::scheme_wrong;
 use writing::spans::skip;
 ghost use mathlib.Core.Path.{_≡_};
 ghost use Prim.Native.Nat.{_≤_};
@@ -15,7 +15,7 @@ ghost use Rattle.contraction.specs.Forms.{answerBy, operator1};
 ghost use Rattle.contraction.specs.Told.{Placed, nullRule};
 ghost use Rattle.contraction.specs.Chosen.{Ends, FirstPart, OfFix, OfList, OfOne};
 
-const HEAD: u64 = 0;
+const HD: u64 = 0;
 
 const FIX: u64 = 2;
 
@@ -27,19 +27,19 @@ const TEST: u64 = 4;
 fn operator(w: u32) -> u64
     ensures { λ r. ⌜ r ≡ operator1 w ⌝ }
 {
-    if w == crate::words::ML_HD {
-        return HEAD;
+    if w == nodes::words::ML_HD {
+        return HD;
     }
-    if w == crate::words::SCHEME_HD {
-        return HEAD;
+    if w == nodes::words::SCHEME_HD {
+        return HD;
     }
-    if w == crate::words::FIX {
+    if w == nodes::words::FIX {
         return FIX;
     }
-    if w == crate::words::IS_NULL {
+    if w == nodes::words::IS_NULL {
         return NULL;
     }
-    if w % 256 == crate::words::TEST {
+    if w % 256 == nodes::words::TEST {
         return TEST;
     }
     1
@@ -57,16 +57,16 @@ fn answer(test: u32, form: u64) -> u32
         return 1;
     }
     if test == 1 {
-        if form == crate::forms::EMPTY {
+        if form == crate::forms::NIL {
             return 0;
         }
-        if form == crate::forms::PAIR {
+        if form == crate::forms::CONS {
             return 0;
         }
         return 1;
     }
     if test == 2 {
-        if form == crate::forms::EMPTY {
+        if form == crate::forms::NIL {
             return 0;
         }
         return 1;
@@ -81,11 +81,11 @@ fn answer(test: u32, form: u64) -> u32
 fn of_null(form: u64) -> Rule
     ensures { λ r. ⌜ r ≡ nullRule form ⌝ }
 {
-    if form == crate::forms::EMPTY {
-        return Rule::Number(crate::words::ML_NUMBER, 0);
+    if form == crate::forms::NIL {
+        return Rule::Number(nodes::words::ML_NUMBER, 0);
     }
-    if form == crate::forms::PAIR {
-        return Rule::Number(crate::words::ML_NUMBER, 1);
+    if form == crate::forms::CONS {
+        return Rule::Number(nodes::words::ML_NUMBER, 1);
     }
     Rule::Stuck
 }
@@ -100,7 +100,7 @@ fn of_fix(table: &Kinds, words: &[u32], form: u64, end: usize) -> Rule
         return Rule::Stuck;
     }
     let body = 2 + skip(table, &words[2..], 1);
-    Rule::Substituted(crate::words::ML_VARIABLE, body, 0, end)
+    Rule::Substituted(nodes::words::ML_VARIABLE, body, 0, end)
 }
 
 // hd, or tl.
@@ -109,7 +109,7 @@ fn of_list(table: &Kinds, words: &[u32], first: bool, scheme: bool, form: u64, e
     ensures placed { λ r. ⌜ Placed (length (now (words .entry))) r ⌝ }
     ensures told { λ r. ⌜ OfList (now (words .entry)) first scheme r ⌝ }
 {
-    if form == crate::forms::PAIR {
+    if form == crate::forms::CONS {
         let middle = 2 + skip(table, &words[2..], 1);
         if end < middle {
             return Rule::Stuck;
@@ -119,16 +119,16 @@ fn of_list(table: &Kinds, words: &[u32], first: bool, scheme: bool, form: u64, e
         }
         return Rule::Part(middle, end);
     }
-    if form != crate::forms::EMPTY {
-        return amiss(scheme, crate::words::NO_LIST);
+    if form != crate::forms::NIL {
+        return amiss(scheme, crate::codes::NO_LIST);
     }
     if scheme {
-        return Rule::Led(scheme_wrong(crate::words::NO_ITEM), 0, 0);
+        return Rule::Led(scheme_wrong(crate::codes::OF_NIL), 0, 0);
     }
     if first {
-        return Rule::Led(ml_wrong(crate::words::NO_ITEM), 2, end);
+        return Rule::Led(ml_wrong(crate::codes::OF_NIL), 2, end);
     }
-    Rule::Led2(ml_wrong(crate::words::NO_ITEM), crate::words::LIST, 2, end)
+    Rule::Led2(ml_wrong(crate::codes::OF_NIL), nodes::words::LIST, 2, end)
 }
 
 // The operators of one part. The node's words end at `end`.
@@ -150,13 +150,13 @@ pub fn of_one(table: &Kinds, words: &[u32], end: usize) -> Rule
         return of_null(form);
     }
     if op == TEST {
-        return Rule::Number(crate::words::SCHEME_NUMBER, answer(w / 256, form));
+        return Rule::Number(nodes::words::SCHEME_NUMBER, answer(w / 256, form));
     }
     of_list(
         table,
         words,
-        op == HEAD,
-        crate::words::FIRST_SCHEME <= w,
+        op == HD,
+        nodes::words::FIRST_SCHEME <= w,
         form,
         end,
     )

@@ -6,7 +6,7 @@ use mathlib.Core.Option.{Option}
 use mathlib.Core.Path.{_≡_, refl, sym, ap, _∙_, subst}
 use lib.ListN.{length, getD, drop}
 use native.Mathlib.Omega.{arith}
-use Rattle.calculus.specs.Trees.{Ty, _to_, Lang, ml, sc, Static, Op1, head, tail, testing, Op2, apply, plus, minus, pair, Term, lam, op1, op2, if0}
+use Rattle.calculus.specs.Trees.{Ty, _to_, Lang, ml, sc, Static, Op1, HD, TL, TEST, Op2, APP, ADD, SUB, CONS, Term, lam, op1, op2, if0}
 use Rattle.calculus.specs.Words.{word1, word2, put, size, sizeTy}
 use Rattle.calculus.specs.Kinds.{term}
 use Rattle.calculus.specs.Inference.{infer, result1, result2, result3}
@@ -75,9 +75,9 @@ module _ {w ls : List ℕ} {at next : ℕ} where
     where
       by : (o : Op1 sc) (a : Static sc) → getD w at 0 ≡ word1 o → shapeAt w at ≡ 4 → Refers sc w ls at next tt a
           → Answers sc w ls at next at next (result1 o a) (whole tt next)
-      by head a q k m = (tt, refl, tt)
-      by tail a q k m = (tt, refl, tt)
-      by (testing x) a q k m = (tt, refl, tt)
+      by HD a q k m = (tt, refl, tt)
+      by TL a q k m = (tt, refl, tt)
+      by (TEST x) a q k m = (tt, refl, tt)
 
   pub scheme2 : Concluded2 sc w ls at tt tt next (whole tt next)
   unfolding Answers
@@ -85,10 +85,10 @@ module _ {w ls : List ℕ} {at next : ℕ} where
     where
       by : (o : Op2) (a b : Static sc) → getD w at 0 ≡ word2 sc o → Refers sc w ls at next tt a → Refers sc w ls at next tt b
           → Answers sc w ls at next at next (result2 sc o a b) (whole tt next)
-      by apply a b q m n = (tt, refl, tt)
-      by plus a b q m n = (tt, refl, tt)
-      by minus a b q m n = (tt, refl, tt)
-      by pair a b q m n = (tt, refl, tt)
+      by APP a b q m n = (tt, refl, tt)
+      by ADD a b q m n = (tt, refl, tt)
+      by SUB a b q m n = (tt, refl, tt)
+      by CONS a b q m n = (tt, refl, tt)
 
   pub scheme3 : Concluded3 sc w ls at tt tt tt next (whole tt next)
   unfolding Answers

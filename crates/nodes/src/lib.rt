@@ -4,3 +4,4 @@ pub mod kinds;
 pub mod refusals;
 pub mod scopes;
 pub mod walks;
+pub mod words;

@@ -8,7 +8,7 @@ use lib.Dec.{T}
 use lib.ListN.{length, drop, length-append}
 use lib.Seq.{drop-at}
 use native.Mathlib.Omega.{arith}
-use Rattle.calculus.specs.Trees.{N, L, list, _to_, Lang, ml, Op2, apply, plus, minus, pair, Term}
+use Rattle.calculus.specs.Trees.{N, L, list, _to_, Lang, ml, Op2, APP, ADD, SUB, CONS, Term}
 use Rattle.calculus.specs.Words.{put, putTy, words, size}
 use Rattle.calculus.specs.Kinds.{type, term}
 use Rattle.calculus.specs.Reduction.{Frame, under, first, second, tested, intoML, intoScheme, plug, Context, here, within, fill, turn}
@@ -193,11 +193,11 @@ unfolding size
 onward m root x r v = inr (record { none = refl; ripe = λ n b o. absurd o; value = λ _. v })
 onward m (inside (under o) A) x r v = inr (ripe-over (under o) A x refl refl (r .1) v)
 onward m (inside (first o b) A) x r v = inl (to-second o b A x (r .1) v)
-onward m (inside (second apply a) A) x r v = inr (ripe-over (second apply a) A x refl refl (r .1) (refl, r .0, v))
-onward m (inside (second plus a) A) x r v = inr (ripe-over (second plus a) A x refl refl (r .1) (refl, r .0, v))
-onward m (inside (second minus a) A) x r v = inr (ripe-over (second minus a) A x refl refl (r .1) (refl, r .0, v))
-onward m (inside (second pair a) A) x r v =
-    value-on (second pair a) A x refl refl (omega arith) (onward m A (plug (second pair a) x) (r .1) (consV (r .0) v))
+onward m (inside (second APP a) A) x r v = inr (ripe-over (second APP a) A x refl refl (r .1) (refl, r .0, v))
+onward m (inside (second ADD a) A) x r v = inr (ripe-over (second ADD a) A x refl refl (r .1) (refl, r .0, v))
+onward m (inside (second SUB a) A) x r v = inr (ripe-over (second SUB a) A x refl refl (r .1) (refl, r .0, v))
+onward m (inside (second CONS a) A) x r v =
+    value-on (second CONS a) A x refl refl (omega arith) (onward m A (plug (second CONS a) x) (r .1) (consV (r .0) v))
 onward m (inside (tested b c) A) x r v = inr (ripe-over (tested b c) A x refl refl (r .1) v)
 onward m (inside (intoML N) A) x r v = inr (ripe-over (intoML N) A x refl refl (r .1) (refl, v))
 onward m (inside (intoML L) A) x r v = value-on (intoML L) A x refl refl (omega arith) (onward ml A (plug (intoML L) x) (r .1) (lumpV v))

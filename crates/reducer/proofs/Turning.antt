@@ -7,10 +7,10 @@ use mathlib.Core.Path.{_≡_, refl, sym, ap, _∙_, subst}
 use lib.Dec.{T, eqb}
 use lib.ListN.{length, getD, drop}
 use native.Mathlib.Omega.{arith}
-use Rattle.calculus.specs.Trees.{Ty, N, L, list, _to_, Lang, ml, sc, Op2, apply, plus, minus, pair, Term, op2, ms}
+use Rattle.calculus.specs.Trees.{Ty, N, L, list, _to_, Lang, ml, sc, Op2, APP, ADD, SUB, CONS, Term, op2, ms}
 use Rattle.calculus.specs.Words.{put, putTy, size, sizeTy}
 use Rattle.calculus.specs.Kinds.{type, term}
-use Rattle.calculus.specs.Reduction.{isLump, isPair, form, under, first, tested, intoML, intoScheme}
+use Rattle.calculus.specs.Reduction.{isLump, isCons, form, under, first, tested, intoML, intoScheme}
 use Rattle.calculus.specs.Rules.{Value, lamV, numV, nilV}
 use Rattle.calculus.proofs.Contraction.{Ready}
 use Rattle.nodes.specs.Table.{rowOf}
@@ -123,12 +123,12 @@ module _ (ws : List ℕ) (shape : ℕ) (shape-is : shape ≡ rowOf (getD ws 0 0 
               value = λ _. x .1;
             }
 
-    pair-form : {l : Lang} (o : Op2) (a b : Term l) → eqb (formNumber (form (op2 o a b))) 0 ≡ not (isPair o)
+    cons-form : {l : Lang} (o : Op2) (a b : Term l) → eqb (formNumber (form (op2 o a b))) 0 ≡ not (isCons o)
     unfolding form
-    pair-form apply a b = refl
-    pair-form plus a b = refl
-    pair-form minus a b = refl
-    pair-form pair a b = refl
+    cons-form APP a b = refl
+    cons-form ADD a b = refl
+    cons-form SUB a b = refl
+    cons-form CONS a b = refl
 
     two-seen : (l : Lang) (e : Term l) (k : List ℕ) → ws ≡ put e k → Shaped l 5 e
         → Alone (taking 1 2 0 (eqb form-number 0)) e ⊎ Enters (taking 1 2 0 (eqb form-number 0)) e
@@ -142,7 +142,7 @@ module _ (ws : List ℕ) (shape : ℕ) (shape-is : shape ≡ rowOf (getD ws 0 0 
           taken = tt;
           start = refl;
           takes = refl;
-          own = own-is e k q (not (isPair o)) (pair-form o a b);
+          own = own-is e k q (not (isCons o)) (cons-form o a b);
         })
 
     pub look-two : shape ≡ 5 → Looked ws (taking 1 2 0 (eqb form-number 0))

@@ -4,7 +4,7 @@ use mathlib.Core.Bool.{Bool, true, cond, not}
 use mathlib.Core.Path.{_≡_}
 use Rattle.calculus.specs.Trees.{Lang, ml, Term}
 use Rattle.calculus.specs.Words.{words, size, sizeTy}
-use Rattle.calculus.specs.Reduction.{isLump, isPair, Frame, under, first, second, tested, intoML, intoScheme, plug}
+use Rattle.calculus.specs.Reduction.{isLump, isCons, Frame, under, first, second, tested, intoML, intoScheme, plug}
 use Rattle.calculus.specs.Evaluation.{Taken}
 use Rattle.calculus.proofs.Contraction.{Ready}
 
@@ -38,8 +38,8 @@ lengthAround (inside f A) = lengthAround A + lengthBefore f
 -- Whether a node waits for its parts to be values and has its turn then; else it is a value then.
 abbrev pub waitsFor : {m l : Lang} → Frame m l → Bool
 waitsFor (under o) = true
-waitsFor (first o b) = not (isPair o)
-waitsFor (second o a) = not (isPair o)
+waitsFor (first o b) = not (isCons o)
+waitsFor (second o a) = not (isCons o)
 waitsFor (tested b c) = true
 waitsFor (intoML t) = not (isLump t)
 waitsFor (intoScheme t) = true

@@ -6,7 +6,7 @@ use mathlib.Core.Option.{none, Option·none-ne-some}
 use mathlib.Core.Path.{_≡_, refl, sym, _∙_, subst}
 use lib.ListN.{length}
 use native.Mathlib.Omega.{arith}
-use Rattle.calculus.specs.Trees.{Ty, N, L, list, _to_, ml, pair}
+use Rattle.calculus.specs.Trees.{Ty, N, L, list, _to_, ml, CONS}
 use Rattle.calculus.specs.Inference.{sameType, element as elementType, result2}
 use Rattle.calculus.proofs.Inference.{same-iff}
 use Rattle.types.specs.References.{Means, codomainOf}
@@ -78,11 +78,11 @@ module _ (w ls : List ℕ) (t end : ℕ) (a : ArgumentEnd w t end) where
 
 -- cons: u is the second type, and e the place of its element type.
 module _ (w ls : List ℕ) (t u e : ℕ) (he : e ≡ elementOf w u) where
-  pub pair-other : e ≡ 0 → Paired w ls t u 0
+  pub cons-other : e ≡ 0 → Paired w ls t u 0
   unfolding Found
-  pair-other z s v lo hi few m mu = not-list s v (no-list w u e he z ls lo hi v mu)
+  cons-other z s v lo hi few m mu = not-list s v (no-list w u e he z ls lo hi v mu)
     where
-      not-list : (s v : Ty) → elementType ml v ≡ none → Found w ls lo hi (result2 ml pair s v) 0
+      not-list : (s v : Ty) → elementType ml v ≡ none → Found w ls lo hi (result2 ml CONS s v) 0
       not-list s N q = refl
       not-list s L q = refl
       not-list s (list v) q = absurd (Option·none-ne-some v (sym q))
@@ -91,7 +91,7 @@ module _ (w ls : List ℕ) (t u e : ℕ) (he : e ≡ elementOf w u) where
   module _ (list-type : e ≡ 0 → ⊥) (b : Bool) (same : Equality w ls e t b) where
     -- By the element type x of the second.
     by-element : (r : ℕ)
-        → ((s x : Ty) (lo hi : ℕ) → Means w ls lo hi u (list x) → b ≡ sameType ml x s → Found w ls lo hi (result2 ml pair s (list x)) r)
+        → ((s x : Ty) (lo hi : ℕ) → Means w ls lo hi u (list x) → b ≡ sameType ml x s → Found w ls lo hi (result2 ml CONS s (list x)) r)
         → Paired w ls t u r
     by-element r f s v lo hi few m mu =
         let i = is-list w u e he list-type ls lo hi v mu in
@@ -99,13 +99,13 @@ module _ (w ls : List ℕ) (t u e : ℕ) (he : e ≡ elementOf w u) where
         let me : Means w ls lo hi e (i .0) = subst (λ (j : ℕ). Means w ls lo hi j (i .0)) (sym (i .2)) (element-means w ls lo hi u (i .0) mx) in
         rw (i .1) (f s (i .0) lo hi mx (same (i .0) s lo hi lo hi few me m))
 
-    pub pair-same : b ≡ true → Paired w ls t u u
+    pub cons-same : b ≡ true → Paired w ls t u u
     unfolding Found
-    pair-same y =
+    cons-same y =
         by-element u (λ s x lo hi mx q.
         let z : x ≡ s = same-iff ml x s .0 (sym q ∙ y) in
         rw (same-lists x s, sym q ∙ y) (subst (λ (a : Ty). Means w ls lo hi u (list a)) z mx))
 
-    pub pair-differ : b ≡ false → Paired w ls t u 0
+    pub cons-differ : b ≡ false → Paired w ls t u 0
     unfolding Found
-    pair-differ y = by-element 0 (λ s x lo hi mx q. rw (same-lists x s, sym q ∙ y) refl)
+    cons-differ y = by-element 0 (λ s x lo hi mx q. rw (same-lists x s, sym q ∙ y) refl)

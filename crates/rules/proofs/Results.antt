@@ -7,7 +7,7 @@ use mathlib.Core.Path.{_≡_, refl, sym, ap, _∙_, subst}
 use borrow.Author.Tests.{eq-eqb, ne-eqb}
 use lib.Dec.{eqb}
 use native.Mathlib.Omega.{arith}
-use Rattle.calculus.specs.Trees.{Ty, list, ml, sc, Op1, head, tail, fixpoint, empty, apply, plus, minus, pair}
+use Rattle.calculus.specs.Trees.{Ty, list, ml, sc, Op1, HD, TL, FIX, NULL?, APP, ADD, SUB, CONS}
 use Rattle.calculus.specs.Inference.{sameType, result1, sumType}
 use Rattle.calculus.specs.Verdicts.{found}
 use Rattle.types.specs.References.{former, formerAt, Written, Means}
@@ -22,18 +22,18 @@ use Rattle.rules.proofs.Operations.{element-means}
 -- The operators of one part.
 module _ (w ls : List ℕ) (x at t : ℕ) where
   pub one-fix : x ≡ 20 → (r : ℕ) → Fixed w ls t r → Result1 w ls x at t r
-  one-fix e r f fixpoint s lo hi few q h m = f s lo hi few m
-  one-fix e r f empty s lo hi few q h m = absurd (omega arith)
-  one-fix e r f head s lo hi few q h m = absurd (omega arith)
-  one-fix e r f tail s lo hi few q h m = absurd (omega arith)
+  one-fix e r f FIX s lo hi few q h m = f s lo hi few m
+  one-fix e r f NULL? s lo hi few q h m = absurd (omega arith)
+  one-fix e r f HD s lo hi few q h m = absurd (omega arith)
+  one-fix e r f TL s lo hi few q h m = absurd (omega arith)
 
   module _ (n20 : x ≡ 20 → ⊥) (e : ℕ) (he : e ≡ elementOf w t) where
     pub one-other : e ≡ 0 → Result1 w ls x at t 0
     unfolding Found
-    one-other z fixpoint s lo hi few q h m = absurd (n20 q)
-    one-other z empty s lo hi few q h m = rw (no-list w t e he z ls lo hi s m) refl
-    one-other z head s lo hi few q h m = rw (no-list w t e he z ls lo hi s m) refl
-    one-other z tail s lo hi few q h m = rw (no-list w t e he z ls lo hi s m) refl
+    one-other z FIX s lo hi few q h m = absurd (n20 q)
+    one-other z NULL? s lo hi few q h m = rw (no-list w t e he z ls lo hi s m) refl
+    one-other z HD s lo hi few q h m = rw (no-list w t e he z ls lo hi s m) refl
+    one-other z TL s lo hi few q h m = rw (no-list w t e he z ls lo hi s m) refl
 
     module _ (list-type : e ≡ 0 → ⊥) where
       -- By the element type y.
@@ -45,47 +45,47 @@ module _ (w ls : List ℕ) (x at t : ℕ) where
 
       pub one-head : x ≡ 26 → Result1 w ls x at t e
       unfolding Found
-      one-head n fixpoint s lo hi few q h m = absurd (n20 q)
-      one-head n empty s lo hi few q h m = absurd (omega arith)
-      one-head n head s lo hi few q h m = by-element head e (λ y lo hi my k. rw k (element-means w ls lo hi t y my)) s lo hi m
-      one-head n tail s lo hi few q h m = absurd (omega arith)
+      one-head n FIX s lo hi few q h m = absurd (n20 q)
+      one-head n NULL? s lo hi few q h m = absurd (omega arith)
+      one-head n HD s lo hi few q h m = by-element HD e (λ y lo hi my k. rw k (element-means w ls lo hi t y my)) s lo hi m
+      one-head n TL s lo hi few q h m = absurd (omega arith)
 
       pub one-tail : x ≡ 27 → Result1 w ls x at t t
       unfolding Found
-      one-tail n fixpoint s lo hi few q h m = absurd (n20 q)
-      one-tail n empty s lo hi few q h m = absurd (omega arith)
-      one-tail n head s lo hi few q h m = absurd (omega arith)
-      one-tail n tail s lo hi few q h m = by-element tail t (λ y lo hi my k. my) s lo hi m
+      one-tail n FIX s lo hi few q h m = absurd (n20 q)
+      one-tail n NULL? s lo hi few q h m = absurd (omega arith)
+      one-tail n HD s lo hi few q h m = absurd (omega arith)
+      one-tail n TL s lo hi few q h m = by-element TL t (λ y lo hi my k. my) s lo hi m
 
       pub one-null : (x ≡ 26 → ⊥) → (x ≡ 27 → ⊥) → Result1 w ls x at t at
       unfolding Found Means former
-      one-null n26 n27 fixpoint s lo hi few q h m = absurd (n20 q)
-      one-null n26 n27 empty s lo hi few q h m = by-element empty at (λ y lo hi my k. ap former h) s lo hi m
-      one-null n26 n27 head s lo hi few q h m = absurd (n26 q)
-      one-null n26 n27 tail s lo hi few q h m = absurd (n27 q)
+      one-null n26 n27 FIX s lo hi few q h m = absurd (n20 q)
+      one-null n26 n27 NULL? s lo hi few q h m = by-element NULL? at (λ y lo hi my k. ap former h) s lo hi m
+      one-null n26 n27 HD s lo hi few q h m = absurd (n26 q)
+      one-null n26 n27 TL s lo hi few q h m = absurd (n27 q)
 
 -- The operators of two parts.
 module _ (w ls : List ℕ) (x t u : ℕ) where
   pub two-apply : x ≡ 19 → (r : ℕ) → Applied w ls t u r → Result2 w ls x t u r
-  two-apply e r f apply q = f
-  two-apply e r f plus q = absurd (omega arith)
-  two-apply e r f minus q = absurd (omega arith)
-  two-apply e r f pair q = absurd (omega arith)
+  two-apply e r f APP q = f
+  two-apply e r f ADD q = absurd (omega arith)
+  two-apply e r f SUB q = absurd (omega arith)
+  two-apply e r f CONS q = absurd (omega arith)
 
-  pub two-pair : x ≡ 25 → (r : ℕ) → Paired w ls t u r → Result2 w ls x t u r
-  two-pair e r f apply q = absurd (omega arith)
-  two-pair e r f plus q = absurd (omega arith)
-  two-pair e r f minus q = absurd (omega arith)
-  two-pair e r f pair q = f
+  pub two-consed : x ≡ 25 → (r : ℕ) → Paired w ls t u r → Result2 w ls x t u r
+  two-consed e r f APP q = absurd (omega arith)
+  two-consed e r f ADD q = absurd (omega arith)
+  two-consed e r f SUB q = absurd (omega arith)
+  two-consed e r f CONS q = f
 
   module _ (n19 : x ≡ 19 → ⊥) (n25 : x ≡ 25 → ⊥) where
     -- add and subtract have one rule.
     sum : (r : ℕ) → ((s v : Ty) (lo hi : ℕ) → Means w ls lo hi t s → Means w ls lo hi u v → Found w ls lo hi (sumType ml s v) r)
         → Result2 w ls x t u r
-    sum r f apply q = absurd (n19 q)
-    sum r f plus q = λ s v lo hi few m mu. f s v lo hi m mu
-    sum r f minus q = λ s v lo hi few m mu. f s v lo hi m mu
-    sum r f pair q = absurd (n25 q)
+    sum r f APP q = absurd (n19 q)
+    sum r f ADD q = λ s v lo hi few m mu. f s v lo hi m mu
+    sum r f SUB q = λ s v lo hi few m mu. f s v lo hi m mu
+    sum r f CONS q = absurd (n25 q)
 
     module _ (f : ℕ) (ef : f ≡ formerAt w t) where
       pub two-first : (f ≡ 10 → ⊥) → Result2 w ls x t u 0

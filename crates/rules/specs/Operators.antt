@@ -6,7 +6,7 @@ use mathlib.Core.Option.{Option, none, some}
 use mathlib.Core.Path.{_≡_}
 use lib.Dec.{eqb}
 use lib.ListN.{length}
-use Rattle.calculus.specs.Trees.{Ty, N, L, list, _to_, ml, Op1, fixpoint, Op2, apply, pair}
+use Rattle.calculus.specs.Trees.{Ty, N, L, list, _to_, ml, Op1, FIX, Op2, APP, CONS}
 use Rattle.calculus.specs.Words.{word1, word2, sizeTy}
 use Rattle.calculus.specs.Inference.{result1, result2, result3}
 use Rattle.types.specs.References.{shapeAt, formerAt, Means}
@@ -32,7 +32,7 @@ abbrev pub elementOf : List ℕ → ℕ → ℕ
 elementOf w t = cond (eqb (formerAt w t) 12) (t + 1) 0
 
 abbrev pub Fixed : List ℕ → List ℕ → ℕ → ℕ → Type 0
-Fixed w ls t r = (s : Ty) (lo hi : ℕ) → hi ≤ length w → Means w ls lo hi t s → Found w ls lo hi (result1 fixpoint s) r
+Fixed w ls t r = (s : Ty) (lo hi : ℕ) → hi ≤ length w → Means w ls lo hi t s → Found w ls lo hi (result1 FIX s) r
 
 -- Of two types: those of application and of cons.
 abbrev pub Rule : Op2 → List ℕ → List ℕ → ℕ → ℕ → ℕ → Type 0
@@ -40,10 +40,10 @@ Rule o w ls t u r =
     (s v : Ty) (lo hi : ℕ) → hi ≤ length w → Means w ls lo hi t s → Means w ls lo hi u v → Found w ls lo hi (result2 ml o s v) r
 
 abbrev pub Applied : List ℕ → List ℕ → ℕ → ℕ → ℕ → Type 0
-Applied w ls t u r = Rule apply w ls t u r
+Applied w ls t u r = Rule APP w ls t u r
 
 abbrev pub Paired : List ℕ → List ℕ → ℕ → ℕ → ℕ → Type 0
-Paired w ls t u r = Rule pair w ls t u r
+Paired w ls t u r = Rule CONS w ls t u r
 
 -- The word x is that of an operator.
 abbrev pub Result1 : List ℕ → List ℕ → ℕ → ℕ → ℕ → ℕ → Type 0

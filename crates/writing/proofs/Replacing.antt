@@ -6,8 +6,8 @@ use mathlib.Core.Path.{_≡_, refl, sym, ap, _∙_}
 use lib.Dec.{eqb}
 use borrow.Author.Tests.{eq-eqb, ne-eqb}
 use native.Mathlib.Omega.{arith}
-use Rattle.calculus.specs.Trees.{N, L, list, _to_, Lang, ml, sc, isFun, isList, isNull, isNum, head, tail, fixpoint, empty, testing, apply, plus}
-use Rattle.calculus.specs.Trees.{minus, pair, Term, var, num, lam, op1, op2, if0, nil, wrong, ms, sm}
+use Rattle.calculus.specs.Trees.{N, L, list, _to_, Lang, ml, sc, isFun, isList, isNull, isNum, HD, TL, FIX, NULL?, TEST, APP, ADD}
+use Rattle.calculus.specs.Trees.{SUB, CONS, Term, var, num, lam, op1, op2, if0, nil, wrong, ms, sm}
 use Rattle.calculus.specs.Words.{word, by, put, putTy, size}
 use Rattle.calculus.specs.Kinds.{Sort, type, term, Tree, putTree, putTrees}
 use Rattle.calculus.specs.Reduction.{substitute}
@@ -71,32 +71,32 @@ module _ {m : Lang} (v : Term m) (d : ℕ) where
   miss (term ml) (var i) h k = other-variable ml i k h
   miss (term ml) (num n) h k = refl
   miss (term ml) (lam t b) h k = refl
-  miss (term ml) (op2 apply a b) h k = refl
-  miss (term ml) (op1 fixpoint a) h k = refl
-  miss (term ml) (op2 plus a b) h k = refl
-  miss (term ml) (op2 minus a b) h k = refl
+  miss (term ml) (op2 APP a b) h k = refl
+  miss (term ml) (op1 FIX a) h k = refl
+  miss (term ml) (op2 ADD a b) h k = refl
+  miss (term ml) (op2 SUB a b) h k = refl
   miss (term ml) (if0 a b c) h k = refl
   miss (term ml) (nil t) h k = refl
-  miss (term ml) (op2 pair a b) h k = refl
-  miss (term ml) (op1 head a) h k = refl
-  miss (term ml) (op1 tail a) h k = refl
-  miss (term ml) (op1 empty a) h k = refl
+  miss (term ml) (op2 CONS a b) h k = refl
+  miss (term ml) (op1 HD a) h k = refl
+  miss (term ml) (op1 TL a) h k = refl
+  miss (term ml) (op1 NULL? a) h k = refl
   miss (term ml) (wrong c t) h k = refl
   miss (term ml) (ms t a) h k = refl
   miss (term sc) (var i) h k = other-variable sc i k h
   miss (term sc) (num n) h k = refl
   miss (term sc) (lam t b) h k = refl
-  miss (term sc) (op2 apply a b) h k = refl
-  miss (term sc) (op2 plus a b) h k = refl
-  miss (term sc) (op2 minus a b) h k = refl
+  miss (term sc) (op2 APP a b) h k = refl
+  miss (term sc) (op2 ADD a b) h k = refl
+  miss (term sc) (op2 SUB a b) h k = refl
   miss (term sc) (if0 a b c) h k = refl
   miss (term sc) (nil t) h k = refl
-  miss (term sc) (op2 pair a b) h k = refl
-  miss (term sc) (op1 head a) h k = refl
-  miss (term sc) (op1 tail a) h k = refl
-  miss (term sc) (op1 (testing isFun) a) h k = refl
-  miss (term sc) (op1 (testing isList) a) h k = refl
-  miss (term sc) (op1 (testing isNull) a) h k = refl
-  miss (term sc) (op1 (testing isNum) a) h k = refl
+  miss (term sc) (op2 CONS a b) h k = refl
+  miss (term sc) (op1 HD a) h k = refl
+  miss (term sc) (op1 TL a) h k = refl
+  miss (term sc) (op1 (TEST isFun) a) h k = refl
+  miss (term sc) (op1 (TEST isList) a) h k = refl
+  miss (term sc) (op1 (TEST isNull) a) h k = refl
+  miss (term sc) (op1 (TEST isNum) a) h k = refl
   miss (term sc) (wrong c t) h k = refl
   miss (term sc) (sm t a) h k = refl

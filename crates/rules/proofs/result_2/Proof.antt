@@ -1,6 +1,6 @@
 -- `rules::result_2` meets its contract: each way out is one law of Results. Assumes nothing.
 use borrow.Author.Needs.{needs}
-use Rattle.rules.proofs.Results.{two-apply, two-pair, two-first, two-second, two-numbers}
+use Rattle.rules.proofs.Results.{two-apply, two-consed, two-first, two-second, two-numbers}
 use Rattle.rules.proofs.result_2.Statement.{statement}
 use Rattle.rules.proofs.result_2.Tie as tie
 
@@ -18,7 +18,7 @@ paired-requires c κs = search needs
 returns-2 : tie.Need-returns-2
 returns-2 c =
     let at-then2 = c .before in
-    two-pair _ _ _ _ _ (at-then2 .if2 .taken) _ (c .paired .ensures)
+    two-consed _ _ _ _ _ (at-then2 .if2 .taken) _ (c .paired .ensures)
 
 former-at-requires : tie.Need-former-at-requires
 former-at-requires c κs = search needs

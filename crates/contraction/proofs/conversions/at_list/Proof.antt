@@ -9,7 +9,7 @@ use native.Mathlib.Omega.{arith}
 use Rattle.writing.specs.Spans.{span}
 use Rattle.contraction.proofs.Looks.{refused-placed}
 use Rattle.contraction.proofs.Crossing.{known-list}
-use Rattle.contraction.proofs.CrossingLists.{list-other, nil-ml, nil-scheme, pair-absurd, pair-ml, pair-scheme}
+use Rattle.contraction.proofs.CrossingLists.{list-other, nil-ml, nil-scheme, cons-absurd, cons-ml, cons-scheme}
 use borrow.Author.Needs.{needs}
 use Rattle.contraction.proofs.conversions.at_list.Statement.{statement}
 use Rattle.contraction.proofs.conversions.at_list.Tie as tie
@@ -70,7 +70,7 @@ add-tail-2 c = search needs
 returns-4 : tie.Need-returns-4
 returns-4 c = (
   tt,
-  pair-absurd _ _ _ _ (c .before .before .before .before .before .before .pre .2) _ (tail-is (c .before))
+  cons-absurd _ _ _ _ (c .before .before .before .before .before .before .pre .2) _ (tail-is (c .before))
       (c .before .before .before .if3 .left) _ (c .if4 .taken),
 )
 
@@ -78,14 +78,14 @@ returns-5 : tie.Need-returns-5
 returns-5 c =
     let p = c .before .before .before .before .before .before .before .pre .2 in (
       (p .least, omega arith, omega (arith, c .before .if4 .left), p .most),
-      known-list (c .if5 .taken) (pair-scheme _ _ _ _ p _ (tail-is (c .before .before)) (c .before .before .before .before .if3 .left)),
+      known-list (c .if5 .taken) (cons-scheme _ _ _ _ p _ (tail-is (c .before .before)) (c .before .before .before .before .if3 .left)),
     )
 
 returns-6 : tie.Need-returns-6
 returns-6 c =
     let p = c .before .before .before .before .before .before .before .pre .2 in (
       (p .least, omega arith, omega (arith, c .before .if4 .left), p .most),
-      known-list (c .if5 .left) (pair-ml _ _ _ _ p _ (tail-is (c .before .before)) (c .before .before .before .before .if3 .left)),
+      known-list (c .if5 .left) (cons-ml _ _ _ _ p _ (tail-is (c .before .before)) (c .before .before .before .before .if3 .left)),
     )
 
 pub at-list-spec : {M : Type 1} → statement M

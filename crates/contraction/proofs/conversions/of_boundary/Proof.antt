@@ -12,7 +12,7 @@ use Rattle.writing.specs.Spans.{span}
 use Rattle.writing.proofs.Lengths.{span-next}
 use Rattle.contraction.specs.Forms.{formAt}
 use Rattle.contraction.specs.Chosen.{Value}
-use Rattle.contraction.proofs.CrossingFunctions.{at-N, at-L, at-list, at-function, boundary-none, boundary-empty}
+use Rattle.contraction.proofs.CrossingFunctions.{at-N, at-L, at-list, at-function, boundary-none, boundary-no-value}
 use Rattle.contraction.proofs.conversions.of_boundary.Statement.{statement}
 use Rattle.contraction.proofs.conversions.of_boundary.Tie as tie
 
@@ -70,7 +70,7 @@ add-if2 : tie.Need-add-if2
 add-if2 c = search needs
 
 returns-2 : tie.Need-returns-2
-returns-2 c = (tt, boundary-empty _ _ (value-is (c .before .before)) _ (end-is (c .before .before)) (c .if2 .taken))
+returns-2 c = (tt, boundary-no-value _ _ (value-is (c .before .before)) _ (end-is (c .before .before)) (c .if2 .taken))
 
 mul-form-at : tie.Need-mul-form-at
 mul-form-at c = search needs

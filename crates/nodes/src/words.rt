@@ -1,10 +1,10 @@
-// Words by the names of their kinds.
+// Words by the names of their kinds, which stand in the table beside this.
 
 ghost use mathlib.Core.Path.{_≡_};
 ghost use Prim.Native.Nat.{_≤_};
 ghost use Rattle.calculus.specs.Words.{word};
 
-// The kinds that the rules look for and write. A word of operand 0 is its kind.
+// The kinds that code looks for and writes. A word of operand 0 is its kind.
 pub const N: u32 = 1;
 
 pub const L: u32 = 2;
@@ -28,6 +28,8 @@ pub const ML_NIL: u32 = 24;
 pub const ML_CONS: u32 = 25;
 
 pub const ML_HD: u32 = 26;
+
+pub const ML_TL: u32 = 27;
 
 pub const IS_NULL: u32 = 28;
 
@@ -60,20 +62,6 @@ pub const TEST: u32 = 43;
 const SCHEME_WRONG: u32 = 44;
 
 pub const SM: u32 = 45;
-
-// The codes of the wrongs that the rules make.
-pub const NO_NUMBER: u32 = 1;
-
-pub const NO_FUNCTION: u32 = 2;
-
-pub const NO_LIST: u32 = 3;
-
-pub const NO_ITEM: u32 = 4;
-
-pub const OVER: u32 = 5;
-
-// The greatest number.
-pub const LARGEST: u32 = 16777215;
 
 // The words of wrongs.
 pub fn ml_wrong(code: u32) -> u32
