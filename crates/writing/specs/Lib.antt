@@ -1,4 +1,4 @@
 pub mod Wrote
 pub mod Spans
 pub mod Substituted
-pub mod Pieces
+pub mod Stretches

@@ -5,7 +5,7 @@ ghost use mathlib.Core.List.{[], _∷_};
 ghost use Prim.Native.Nat.{_+_, _-_, _<_, _≤_, _^_, min};
 ghost use lib.ListN.{length};
 ghost use Rattle.writing.specs.Wrote.{Wrote};
-ghost use Rattle.writing.specs.Pieces.{Ready, Emitted};
+ghost use Rattle.writing.specs.Stretches.{stretch, Within};
 
 pub mod spans;
 pub mod substitution;
@@ -71,14 +71,10 @@ fn copy_long(source: &[u32], target: &mut [u32], n: usize) -> usize
     copy(&source[k..], target, m)
 }
 
-// A piece of the next term, from the place n on: the words of src from a to e; or, where it is there already, up to the place a, nothing.
-// Returns the place after it.
-pub fn piece(src: &[u32], a: usize, e: usize, there: u32, buf: &mut [u32], n: usize) -> usize
-    requires { ⌜ Ready there (now src) a e n ⌝ }
-    ensures { λ r. ⌜ Emitted there (now (src .entry)) a e (now (buf .entry)) n r (now (buf .exit)) ⌝ }
+// The words of src from a to e, from the place n on. Returns the place after them.
+pub fn stretch(src: &[u32], a: usize, e: usize, buf: &mut [u32], n: usize) -> usize
+    requires { ⌜ Within (now src) a e n ⌝ }
+    ensures { λ r. ⌜ Wrote (now (buf .entry)) n (stretch a e (now (src .entry))) r (now (buf .exit)) ⌝ }
 {
-    if there == 0 {
-        return copy_long(&src[a..e], buf, n);
-    }
-    a
+    copy_long(&src[a..e], buf, n)
 }

@@ -1,0 +1,15 @@
+-- A stretch of the words of a term.
+use Prim.Native.Nat.{ℕ, _-_, _≤_}
+use mathlib.Core.List.{List}
+use lib.ListN.{length, take, drop}
+
+-- The words from a place to another.
+abbrev pub stretch : ℕ → ℕ → List ℕ → List ℕ
+stretch a e ws = take (e - a) (drop a ws)
+
+-- They are within the words, which may be 2^20, and no place that they are written to is far.
+pub record Within (ws : List ℕ) (a e n : ℕ) : Type 0 where
+  pub few : length ws ≤ 1048576
+  pub order : a ≤ e
+  pub most : e ≤ length ws
+  pub near : n ≤ 4398046511104
