@@ -11,21 +11,9 @@ use Rattle.calculus.specs.Trees.{Ty, N, L, list, _to_, Lang, ml, sc, Sta
 use Rattle.calculus.specs.Words.{largest}
 use Rattle.calculus.specs.Scope.{Scoped}
 use Rattle.calculus.specs.Reduction.{substitute, isLump, isCons, Form, number, lambda, nilForm, consForm, sealed, other, form, Became, becomes, raises, nothing, onNumber, onLambda, onList, onLump, amiss, third, answer, contract1, onNumbers, contract2, toML, toScheme, contract}
+use Rattle.calculus.specs.Evaluation.{Ready}
 use Rattle.calculus.specs.Rules.{Value, lamV, numV, nilV, consV, lumpV, Lambda, Number, Nil, Cons, _⊢_⇒_, app-lambda, app-no-lambda, fix-lambda, add-numbers, add-over, add-no-number, sub-numbers, sub-no-number, if0-zero, if0-other, if0-no-number, hd-cons, hd-nil, hd-no-list, tl-cons, tl-nil, tl-no-list, null-nil, null-cons, fun?-lambda, fun?-other, list?-nil, list?-cons, list?-other, null?-nil, null?-other, num?-number, num?-other, ms-number, ms-no-number, ms-nil, ms-cons, ms-no-list, ms-lambda, ms-no-lambda, sm-number, sm-lump, sm-nil, sm-cons, sm-lambda}
 use Rattle.calculus.proofs.Substitution.{closed-shift, substitute-ordinary}
-
--- The node is no value, and the parts of it that evaluation takes are values: nothing stands before its own turn.
-abbrev pub Ready : {l : Lang} → Term l → Type 0
-Ready (var i) = Unit {0}
-Ready (num n) = ⊥
-Ready (lam t b) = ⊥
-Ready (op1 {l} o a) = Value l a
-Ready (op2 {l} o a b) = (isCons o ≡ false) × Value l a × Value l b
-Ready (if0 {l} a b c) = Value l a
-Ready (nil t) = ⊥
-Ready (wrong c t) = Unit {0}
-Ready (ms t a) = (isLump t ≡ false) × Value sc a
-Ready (sm t a) = Value ml a
 
 abbrev tag : {l : Lang} → Form l → ℕ
 tag (number n) = 0

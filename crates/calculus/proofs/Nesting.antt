@@ -11,11 +11,11 @@ use borrow.Author.Tests.{eqb-true, eq-eqb, ne-eqb}
 use native.Mathlib.Omega.{arith}
 use Rattle.calculus.specs.Verdicts.{found, Verdict, refused, passed}
 use Rattle.calculus.specs.Words.{word}
-use Rattle.calculus.specs.Kinds.{Sort, Tree, Trees, putTree, putTrees, Row, rowFor}
+use Rattle.calculus.specs.Kinds.{Sort, Tree, Trees, putTree, putTrees, Row, rowFor, sizeTree, sizeTrees}
 use Rattle.calculus.specs.Reading.{opens, refuses, later, acted, walk, levels, levelled, nestedDue, noneLeft, inOrder}
 use Rattle.calculus.proofs.Verdicts.{not-both, passed-injective}
 use Rattle.calculus.proofs.Walks.{later-zero, later-later, later-passed, walk-done}
-use Rattle.calculus.proofs.Sizes.{sizeTree, sizeTrees, tree-length}
+use Rattle.calculus.proofs.Sizes.{tree-length}
 use Rattle.calculus.proofs.Rows.{TreeInRange, TreesInRange, nestingTree, deepest, word-due, due-word, due-made, law-at}
 use Rattle.calculus.proofs.Views.{View, view, Holds, OfParts, induction, sized}
 

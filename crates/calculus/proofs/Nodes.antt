@@ -10,10 +10,10 @@ use lib.ListN.{length, getD, take, drop}
 use borrow.Author.Tests.{ne-eqb}
 use native.Mathlib.Omega.{arith}
 use Rattle.calculus.specs.Verdicts.{found, Verdict, refused, passed}
-use Rattle.calculus.specs.Kinds.{Sort, Tree, putTree, Row, rowFor, sortOf}
+use Rattle.calculus.specs.Kinds.{Sort, Tree, putTree, Row, rowFor, sortOf, sizeTree}
 use Rattle.calculus.specs.Reading.{opens, refuses, later, acted, walk, kindDue, levelled, nestedDue, taken, nodeSize, nodeAt}
 use Rattle.calculus.proofs.Walks.{walk-done}
-use Rattle.calculus.proofs.Sizes.{sizeTree, take-tree}
+use Rattle.calculus.proofs.Sizes.{take-tree}
 use Rattle.calculus.proofs.Rows.{TreeInRange, nestingTree}
 use Rattle.calculus.proofs.Views.{view, sort-of}
 use Rattle.calculus.proofs.Nesting.{tree-taken, walk-stands}

@@ -8,7 +8,7 @@ use native.Mathlib.Nat.{add-zero}
 use native.Mathlib.Omega.{arith}
 use Rattle.calculus.specs.Trees.{Ty, N, L, list, _to_, Lang, ml, sc, Static, Term, var, num, lam, op1, op2, if0, nil, wrong, ms, sm}
 use Rattle.calculus.specs.Words.{put, putTy, putStatic, size, sizeTy, sizeStatic}
-use Rattle.calculus.specs.Kinds.{Sort, type, term, Tree, Trees, putTree, putTrees}
+use Rattle.calculus.specs.Kinds.{Sort, type, term, Tree, Trees, putTree, putTrees, sizeTree, sizeTrees}
 
 -- What follows a tree's words may be cut anywhere.
 pub putTy-append : (t : Ty) (j k : List ℕ) → putTy t (j ++ k) ≡ putTy t j ++ k
@@ -61,14 +61,6 @@ length-put (ms t a) k = omega (arith, length-putTy t (put a k), length-put a k)
 length-put (sm t a) k = omega (arith, length-putTy t (put a k), length-put a k)
 
 -- The same of a tree of any sort, and of trees in a row.
-abbrev pub sizeTree : (s : Sort) → Tree s → ℕ
-sizeTree type t = sizeTy t
-sizeTree (term l) e = size e
-
-abbrev pub sizeTrees : (ss : List Sort) → Trees ss → ℕ
-sizeTrees [] ts = 0
-sizeTrees (s ∷ ss) ts = sizeTree s (ts .0) + sizeTrees ss (ts .1)
-
 pub tree-append : (s : Sort) (t : Tree s) (j k : List ℕ) → putTree s t (j ++ k) ≡ putTree s t j ++ k
 tree-append type t j k = putTy-append t j k
 tree-append (term l) e j k = put-append e j k

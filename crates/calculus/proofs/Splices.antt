@@ -3,35 +3,11 @@ use Prim.Native.Nat.{ℕ}
 use mathlib.Core.List.{List, [], _∷_, _++_, append-assoc, append-nil}
 use mathlib.Core.Path.{_≡_, refl, sym, ap, _∙_, subst}
 use Rattle.calculus.specs.Trees.{Lang, Term}
-use Rattle.calculus.specs.Words.{by, word1, word2, put, wordsTy, words}
+use Rattle.calculus.specs.Words.{put, words}
 use Rattle.calculus.specs.Reduction.{Became, becomes, raises, nothing, contract, Frame, under, first, second, tested, intoML, intoScheme, plug, Context, here, within, fill, at, turn, Outcome, value, raised, next, stuck, outcome, step}
+use Rattle.calculus.specs.Splices.{before, after, wordsBefore, wordsAfter, Splice}
 use Rattle.calculus.proofs.Sizes.{putTy-append, put-append}
 use Rattle.calculus.proofs.Places.{step-by}
-
--- The words of a node before and after its open part, and those of a term before and after a place.
-abbrev before : {m l : Lang} → Frame m l → List ℕ
-before (under o) = word1 o ∷ []
-before (first {l} o b) = word2 l o ∷ []
-before (second {l} o a) = word2 l o ∷ words a
-before (tested {l} b c) = by l 23 38 ∷ []
-before (intoML t) = 30 ∷ wordsTy t
-before (intoScheme t) = 45 ∷ wordsTy t
-
-abbrev after : {m l : Lang} → Frame m l → List ℕ
-after (under o) = []
-after (first o b) = words b
-after (second o a) = []
-after (tested b c) = put b (words c)
-after (intoML t) = []
-after (intoScheme t) = []
-
-unfoldable pub wordsBefore : {m l : Lang} → Context m l → List ℕ
-wordsBefore here = []
-wordsBefore (within f F) = before f ++ wordsBefore F
-
-unfoldable pub wordsAfter : {m l : Lang} → Context m l → List ℕ
-wordsAfter here = []
-wordsAfter (within f F) = wordsAfter F ++ after f
 
 put-plug : {m l : Lang} (f : Frame m l) (x : Term m) (k : List ℕ) → put (plug f x) k ≡ before f ++ put x (after f ++ k)
 unfolding put
@@ -50,17 +26,6 @@ put-fill (within f F) x k = put-plug f (fill F x) k ∙ rw (put-fill F x (after 
 
 words-fill : {m l : Lang} (F : Context m l) (x : Term m) → words (fill F x) ≡ wordsBefore F ++ (words x ++ wordsAfter F)
 words-fill F x = put-fill F x [] ∙ rw (append-nil, put-append x [] (wordsAfter F))
-
--- The step from e to r: the node whose turn it is, its place, what it becomes, and both terms in words.
-pub record Splice {l : Lang} (e r : Term l) : Type 0 where
-  pub lang : Lang
-  pub place : Context lang l
-  pub node : Term lang
-  pub became : Term lang
-  pub turns : turn e ≡ at lang place node
-  pub contracts : contract node ≡ becomes became
-  pub was : words e ≡ wordsBefore place ++ (words node ++ wordsAfter place)
-  pub is : words r ≡ wordsBefore place ++ (words became ++ wordsAfter place)
 
 abbrev Spliced : {l : Lang} → Term l → Outcome l → Type 0
 Spliced e value = Unit {0}

@@ -7,9 +7,8 @@ use lib.Dec.{T}
 use Rattle.calculus.specs.Trees.{Lang, Term, var, num, lam, op1, op2, if0, nil, wrong, ms, sm}
 use Rattle.calculus.specs.Reduction.{isLump, isCons, isValue, Frame, under, first, second, tested, intoML, intoScheme, plug, Context, here, within, fill, Turn, done, at, into, own, turn}
 use Rattle.calculus.specs.Rules.{Value, lamV, numV, nilV}
-use Rattle.calculus.specs.Evaluation.{Taken, Evaluated}
+use Rattle.calculus.specs.Evaluation.{Taken, Evaluated, Ready}
 use Rattle.calculus.proofs.Values.{cons-value, lump-value, value-iff, value-turn}
-use Rattle.calculus.proofs.Contraction.{Ready}
 
 -- What a turn tells of its term: that it is a value, or where the ready node stands in it.
 abbrev pub Found : {l : Lang} → Term l → Turn l → Type 0

@@ -10,8 +10,8 @@ use native.Mathlib.Omega.{arith}
 use Rattle.calculus.specs.Trees.{Ty, N, L, list, _to_, ml, sc, isFun, isList, isNull, isNum, HD, TL, FIX, NULL?, TEST, APP, ADD, SUB, CONS, Term, var, num, lam, op1, op2, if0, nil, wrong, ms, sm}
 use Rattle.calculus.specs.Words.{word, put, putTy}
 use Rattle.calculus.specs.Limits.{InRange}
-use Rattle.calculus.specs.Kinds.{Sort, type, term, Tree, Trees, putTree, putTrees, Row, table, rowIn, sortOfKind, sortOf}
-use Rattle.calculus.proofs.Sizes.{sizeTree, sizeTrees, tree-length, trees-length}
+use Rattle.calculus.specs.Kinds.{Sort, type, term, Tree, Trees, putTree, putTrees, Row, table, rowIn, sortOfKind, sortOf, sizeTree, sizeTrees}
+use Rattle.calculus.proofs.Sizes.{tree-length, trees-length}
 use Rattle.calculus.proofs.Rows.{TreeInRange, TreesInRange, law-at}
 
 pub record View (s : Sort) (t : Tree s) : Type 0 where

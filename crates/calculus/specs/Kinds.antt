@@ -1,11 +1,11 @@
 -- Document 01, "One constant table gives each kind's parts and operand range": the table of kinds.
-use Prim.Native.Nat.{ℕ, zero, suc, _/_, _%_}
+use Prim.Native.Nat.{ℕ, zero, suc, _+_, _/_, _%_}
 use mathlib.Core.Bool.{cond, _&&_}
 use mathlib.Core.List.{List, [], _∷_}
 use mathlib.Core.Option.{Option, none, some}
 use lib.Dec.{eqb, leb}
 use Rattle.calculus.specs.Trees.{Ty, N, L, list, _to_, Lang, ml, sc, Test, isFun, isList, isNull, isNum, Term, var, num, lam, if0, nil, wrong, ms, sm, app, add, sub, cons, hd, tl, fix, null?, test}
-use Rattle.calculus.specs.Words.{largest, lastCode, put, putTy}
+use Rattle.calculus.specs.Words.{largest, lastCode, put, putTy, size, sizeTy}
 use Rattle.calculus.specs.Verdicts.{found}
 
 -- What may be due at a word: a type, or a term of a language.
@@ -29,6 +29,15 @@ putTree (term l) e k = put e k
 abbrev pub putTrees : (ss : List Sort) → Trees ss → List ℕ → List ℕ
 putTrees [] ts k = k
 putTrees (s ∷ ss) ts k = putTree s (ts .0) (putTrees ss (ts .1) k)
+
+-- How many words they have.
+abbrev pub sizeTree : (s : Sort) → Tree s → ℕ
+sizeTree type t = sizeTy t
+sizeTree (term l) e = size e
+
+abbrev pub sizeTrees : (ss : List Sort) → Trees ss → ℕ
+sizeTrees [] ts = 0
+sizeTrees (s ∷ ss) ts = sizeTree s (ts .0) + sizeTrees ss (ts .1)
 
 -- A row of the table: a kind, its parts' sorts in order, the least and the greatest operand, and the tree that the word makes of
 -- its operand and its parts.

@@ -13,6 +13,7 @@ pub mod Reduction
 pub mod Substitution
 pub mod Rules
 pub mod Evaluation
+pub mod Splices
 pub mod Run
 pub mod Endings
 pub mod Conversions

@@ -6,8 +6,8 @@ use lib.ListN.{length, getD, take, drop}
 use lib.Seq.{drop-drop}
 use native.Mathlib.Omega.{arith}
 use Rattle.calculus.specs.Scope.{partCount}
-use Rattle.calculus.specs.Kinds.{Sort, Tree, putTree}
-use Rattle.calculus.proofs.Sizes.{sizeTree, take-tree, drop-tree}
+use Rattle.calculus.specs.Kinds.{Sort, Tree, putTree, sizeTree}
+use Rattle.calculus.proofs.Sizes.{take-tree, drop-tree}
 use Rattle.writing.specs.Spans.{span}
 use Rattle.writing.proofs.Measures.{span-tree}
 use Rattle.writing.proofs.Lengths.{span-parts, span-within}

@@ -27,7 +27,7 @@ use Rattle.file.proofs.Padding.{padded-none, padded-take}
 use Rattle.engine.specs.declared.ends.Report.{Report}
 use Rattle.engine.specs.declared.runs.Answer.{Answer}
 use Rattle.engine.specs.declared.runs.Answer.the-variants.{Refused, Ended}
-use Rattle.engine.specs.Ran.{Line, lineOf, endOf, told}
+use Rattle.engine.specs.Results.{Line, lineOf, endOf, told}
 use Rattle.engine.specs.Answered.{spoken, Answered}
 use Rattle.demands.specs.Demanded.{Lent, Given, room, Finishes, refuses, ends, Reduces, Fitting, Over, RefusedBy, Exact, Once, Same}
 

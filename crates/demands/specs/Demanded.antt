@@ -20,7 +20,7 @@ use Rattle.checker.specs.declared.Checked.the-variants as checked
 use Rattle.engine.specs.declared.ends.Report.{Report}
 use Rattle.engine.specs.declared.runs.Answer.{Answer}
 use Rattle.engine.specs.declared.runs.Answer.the-variants.{Refused, Ended}
-use Rattle.engine.specs.Ran.{lineOf, endOf, told}
+use Rattle.engine.specs.Results.{lineOf, endOf, told}
 
 -- "Lent: the file, a step limit, two word buffers": the bytes, the limit, and what both buffers hold.
 pub record Lent : Type 0 where

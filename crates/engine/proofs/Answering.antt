@@ -23,7 +23,8 @@ use Rattle.engine.specs.declared.runs.Answer.{Answer}
 use Rattle.engine.specs.declared.runs.Answer.the-variants as a
 use Rattle.engine.specs.Buffered.{Settled}
 use Rattle.calculus.specs.File.{padded}
-use Rattle.engine.specs.Ran.{lineOf, told, Reduced}
+use Rattle.engine.specs.Ran.{Reduced}
+use Rattle.engine.specs.Results.{lineOf, told}
 use Rattle.engine.specs.Answered.{Answered, Begun}
 
 -- A refusal, with both buffers wiped.

@@ -16,19 +16,20 @@ use Rattle.calculus.proofs.Sizes.{tree-length}
 use Rattle.calculus.proofs.Soundness.{Kept, sound}
 use Rattle.calculus.proofs.Ranges.{OutcomeInRange, step-in-range}
 use Rattle.reducer.specs.declared.turns.From.{From}
+use Rattle.reducer.specs.declared.steps.Change.{Change}
 use Rattle.reducer.specs.declared.steps.Move.{Move}
-use Rattle.reducer.specs.declared.steps.Move.the-variants as move
 use Rattle.reducer.specs.Around.{root, Standing}
 use Rattle.reducer.specs.Placed.{beginning}
 use Rattle.reducer.specs.Moves.{Few}
 use Rattle.engine.specs.declared.ends.Counts.{Counts}
 use Rattle.engine.specs.declared.ends.Report.{Report}
 use Rattle.engine.specs.declared.ends.Choice.the-variants.{Stop, Go}
-use Rattle.engine.specs.declared.turns.Halt.{Halt}
+use Rattle.engine.specs.declared.reductions.Halt.{Halt}
 use Rattle.calculus.specs.File.{padded}
 use Rattle.engine.specs.Buffered.{held, Settled}
 use Rattle.engine.specs.Decided.{chosen}
-use Rattle.engine.specs.Ran.{lineOf, countsOf, told, Good, resumed, Advanced, Ran, Reduced}
+use Rattle.engine.specs.Ran.{Good, Advanced, Ran, Reduced}
+use Rattle.engine.specs.Results.{lineOf, countsOf, told}
 use Rattle.engine.proofs.Bridge.{moved}
 use Rattle.engine.proofs.Moving.{Moved, run-by, stops, goes, go-fits, end-short}
 
@@ -81,12 +82,6 @@ running-start first second count cap limit h =
       few = omega arith;
     }
 
-few-resumed : (r : Move) → Few r → resumed r .due ≤ 1 + 3 * resumed r .place
-few-resumed move.Value h = omega arith
-few-resumed (move.Raised c) h = omega arith
-few-resumed (move.Next x) h = h
-few-resumed move.Stuck h = omega arith
-
 -- The buffer lengths after a step: one stays as it is, the other keeps its length.
 module _ {first₀ second₀ first second first′ second′ : List ℕ} {count cap limit n : ℕ} {made : Counts} {front : Bool} {from : From} {r : Move}
     (i : Running first₀ second₀ count cap limit first second n made front from) (s : Advanced front n from first second r first′ second′)
@@ -112,23 +107,21 @@ module _ {first₀ second₀ first second first′ second′ : List ℕ} {count 
     outcome : Moved (step (a .term)) (held (not front) first second) r (held (not front) first′ second′)
     outcome = moved (s .stepped) (a .term) (a .words-are) (a .standing)
 
-    at-next : (m : ℕ) (more : Counts) → chosen r n cap made limit ≡ Go m more
-        → At whole limit cap more m (resumed r) (held (not front) first′ second′)
-    at-next m more q =
-        let g = goes (a .term) n cap limit made size-of (i .left) (limit - made .steps) (step (a .term)) _ _ r m more refl outcome q in
+    at-next : (y : Change) (more : Counts) → chosen r n cap made limit ≡ Go y more
+        → At whole limit cap more (y .size) (y .back) (held (not front) first′ second′)
+    at-next y more q =
+        let g = goes (a .term) n cap limit made size-of (i .left) (limit - made .steps) (step (a .term)) _ _ r y more refl outcome q in
         let u = g .term in
-        let f = go-fits n cap limit made (i .left) r m more q in
-        let l : m ≡ length (words u) = g .size-is ∙ sym (size-words u) in
-        let o : Moved (next u) (held (not front) first second) r (held (not front) first′ second′) =
-        subst (λ o. Moved o (held (not front) first second) r (held (not front) first′ second′)) (g .outcome-is) outcome in
+        let f = go-fits n cap limit made (i .left) r y more q in
+        let l : y .size ≡ length (words u) = g .size-is ∙ sym (size-words u) in
         record {
           term = u;
           good = good-next (a .term) u (a .good) (g .outcome-is);
-          words-are = ap (take m) (g .put ∙ sets-eq (words u) (held (not front) first second) 0 (omega (arith, other-long, f .0, l)))
-              ∙ take-at (words u) (drop (0 + length (words u)) (held (not front) first second)) m (sym l);
+          words-are = ap (take (y .size)) (g .put ∙ sets-eq (words u) (held (not front) first second) 0 (omega (arith, other-long, f .1, l)))
+              ∙ take-at (words u) (drop (0 + length (words u)) (held (not front) first second)) (y .size) (sym l);
           same = a .same ∙ run-by (limit - made .steps) cap (countsOf made) (a .term) ∙ g .same
               ∙ ap (λ (c : Counts). spec.run (limit - c .steps) cap (countsOf c) u) (sym (g .counted));
-          standing = subst (λ (f : From). Standing u (f .place) (f .due)) (sym (ap resumed (o .1))) (o .4);
+          standing = g .standing;
         }
 
     at-end : (x : Report) → chosen r n cap made limit ≡ Stop x
@@ -143,17 +136,17 @@ module _ {first₀ second₀ first second first′ second′ : List ℕ} {count 
               ∙ f .left-is ∙ ap (λ (y : spec.Result). y .left) w,
         )
 
-  pub running-next : (m : ℕ) (more : Counts) → chosen r n cap made limit ≡ Go m more → length first′ ≡ length first → length second′ ≡ length second
-      → Running first₀ second₀ count cap limit first′ second′ m more (not front) (resumed r)
-  running-next m more q p o =
-      let f = go-fits n cap limit made (i .left) r m more q in
+  pub running-next : (y : Change) (more : Counts) → chosen r n cap made limit ≡ Go y more → length first′ ≡ length first
+      → length second′ ≡ length second → Running first₀ second₀ count cap limit first′ second′ (y .size) more (not front) (y .back)
+  running-next y more q p o =
+      let f = go-fits n cap limit made (i .left) r y more q in
       record {
         first-length = p ∙ i .first-length;
         second-length = o ∙ i .second-length;
-        room = f .0;
-        left = omega (arith, f);
-        at = λ e w g. at-next (i .at e w g) m more q;
-        few = few-resumed r (s .few);
+        room = f .1;
+        left = omega (arith, f .2, f .3);
+        at = λ e w g. at-next (i .at e w g) y more q;
+        few = subst Few (f .0) (s .few);
       }
 
   pub running-end : (x : Report) → chosen r n cap made limit ≡ Stop x

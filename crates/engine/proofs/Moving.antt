@@ -24,7 +24,7 @@ use Rattle.engine.specs.declared.ends.End.the-variants as ends
 use Rattle.engine.specs.declared.ends.Report.{Report}
 use Rattle.engine.specs.declared.ends.Choice.the-variants.{Stop, Go}
 use Rattle.engine.specs.Decided.{stopped, oneMore, chosen}
-use Rattle.engine.specs.Ran.{lineOf, endOf, countsOf, told}
+use Rattle.engine.specs.Results.{lineOf, endOf, countsOf, told}
 
 -- A move is that of an outcome; the next term is put into the buffer b, which is b′ then, and the next walk may begin where it is said to.
 abbrev pub Moved : Outcome ml → List ℕ → Move → List ℕ → Type 0
@@ -40,15 +40,16 @@ pub record Finished (r : spec.Result) (ws : List ℕ) (x : Report) : Type 0 wher
   pub short : x .left ≤ length ws
 
 -- The run goes on from the next term.
-pub record Going (r : spec.Result) (o : Outcome ml) (b b′ : List ℕ) (cap limit : ℕ) (made : Counts) (n : ℕ) (more : Counts) : Type 0 where
+pub record Going (r : spec.Result) (o : Outcome ml) (b b′ : List ℕ) (cap limit : ℕ) (made : Counts) (x : Change) (more : Counts) : Type 0 where
   pub term : Term ml
   pub outcome-is : o ≡ next term
-  pub size-is : n ≡ size term
+  pub size-is : x .size ≡ size term
   pub put : b′ ≡ sets b 0 (words term)
   pub counted : more ≡ oneMore made
   pub same : r ≡ spec.run (limit - (made .steps + 1)) cap (countsOf (oneMore made)) term
+  pub standing : Standing term (x .back .place) (x .back .due)
 
-no-both : {n : ℕ} {more : Counts} {x : Report} → Go n more ≡ Stop x → ⊥
+no-both : {y : Change} {more : Counts} {x : Report} → Go y more ≡ Stop x → ⊥
 no-both q = let z : _≡_ {A = ℕ} 0 1 = cc in omega arith
 
 -- The run of a term with k steps left, by the outcome of its step.
@@ -76,11 +77,11 @@ module _ (e : Term ml) (n cap limit : ℕ) (made : Counts) (size-is : n ≡ leng
       subst (Finished (spec.ended spec.error c (spec.counted (countsOf made)) [] 0) (words e)) z
       (record { told-is = rw (add-one (made .steps)); left-is = refl; short = omega arith })
 
-  fills : (b : Bool) (u : Term ml) (g : Term ml → spec.Result) (y : Report)
-      → cond b (Go (size u) (oneMore made)) (stopped ends.Full 0 made n (size u))
+  fills : (b : Bool) (u : Term ml) (g : Term ml → spec.Result) (x : Change) (y : Report)
+      → cond b (Go x (oneMore made)) (stopped ends.Full 0 made n (size u))
       ≡ Stop y → Finished (spec.ifFits b (countsOf made) e u g) (words e) y
-  fills true u g y q = absurd (no-both q)
-  fills false u g y q = leaves ends.Full (size u) y q
+  fills true u g x y q = absurd (no-both q)
+  fills false u g x y q = leaves ends.Full (size u) y q
 
   -- the run ends here
   pub stops : (k : ℕ) (o : Outcome ml) (b b′ : List ℕ) (r : Move) (x : Report) → k ≡ limit - made .steps → Moved o b r b′
@@ -92,64 +93,71 @@ module _ (e : Term ml) (n cap limit : ℕ) (made : Counts) (size-is : n ≡ leng
   stops (suc k) (raised c) b b′ r x i h q = errs c x (rw (h, ne-eqb (made .steps) limit (λ z. omega arith)) at q)
   stops zero (next u) b b′ r x i h q = leaves ends.Spent 0 x (rw (h .1, eq-eqb (made .steps) limit (omega arith)) at q)
   stops (suc k) (next u) b b′ r x i h q =
-      fills (leb (size u) cap) u (λ v. spec.run k cap (spec.counted (countsOf made)) v) x
+      fills (leb (size u) cap) u (λ v. spec.run k cap (spec.counted (countsOf made)) v) (h .0) x
       (rw (h .1, ne-eqb (made .steps) limit (λ z. omega arith), h .2) at q)
   stops zero stuck b b′ r x i h q = leaves ends.Spent 0 x (rw h at q)
   stops (suc k) stuck b b′ r x i h q = leaves ends.Spent 0 x (rw h at q)
 
-  fits : (b : Bool) (u : Term ml) (g : Term ml → spec.Result) (j : ℕ) (more : Counts)
-      → cond b (Go (size u) (oneMore made)) (stopped ends.Full 0 made n (size u)) ≡ Go j more
-      → (spec.ifFits b (countsOf made) e u g ≡ g u) × (j ≡ size u) × (more ≡ oneMore made)
-  fits true u g j more q = (refl, cc, cc)
-  fits false u g j more q = absurd (no-both (sym q))
+  fits : (b : Bool) (u : Term ml) (g : Term ml → spec.Result) (x y : Change) (more : Counts)
+      → cond b (Go x (oneMore made)) (stopped ends.Full 0 made n (size u)) ≡ Go y more
+      → (spec.ifFits b (countsOf made) e u g ≡ g u) × (x ≡ y) × (more ≡ oneMore made)
+  fits true u g x y more q = (refl, cc, cc)
+  fits false u g x y more q = absurd (no-both (sym q))
 
   -- the run goes on
-  pub goes : (k : ℕ) (o : Outcome ml) (b b′ : List ℕ) (r : Move) (j : ℕ) (more : Counts) → k ≡ limit - made .steps → Moved o b r b′
-      → chosen r n cap made limit ≡ Go j more → Going (by-outcome k cap (countsOf made) e o) o b b′ cap limit made j more
-  goes zero value b b′ r j more i h q = absurd (no-both (sym (rw h at q)))
-  goes (suc k) value b b′ r j more i h q = absurd (no-both (sym (rw h at q)))
-  goes zero (raised c) b b′ r j more i h q = absurd (no-both (sym (rw (h, eq-eqb (made .steps) limit (omega arith)) at q)))
-  goes (suc k) (raised c) b b′ r j more i h q = absurd (no-both (sym (rw (h, ne-eqb (made .steps) limit (λ z. omega arith)) at q)))
-  goes zero (next u) b b′ r j more i h q = absurd (no-both (sym (rw (h .1, eq-eqb (made .steps) limit (omega arith)) at q)))
-  goes (suc k) (next u) b b′ r j more i h q =
-      let f = fits (leb (size u) cap) u (λ v. spec.run k cap (spec.counted (countsOf made)) v) j more
+  pub goes : (k : ℕ) (o : Outcome ml) (b b′ : List ℕ) (r : Move) (y : Change) (more : Counts) → k ≡ limit - made .steps → Moved o b r b′
+      → chosen r n cap made limit ≡ Go y more → Going (by-outcome k cap (countsOf made) e o) o b b′ cap limit made y more
+  goes zero value b b′ r y more i h q = absurd (no-both (sym (rw h at q)))
+  goes (suc k) value b b′ r y more i h q = absurd (no-both (sym (rw h at q)))
+  goes zero (raised c) b b′ r y more i h q = absurd (no-both (sym (rw (h, eq-eqb (made .steps) limit (omega arith)) at q)))
+  goes (suc k) (raised c) b b′ r y more i h q = absurd (no-both (sym (rw (h, ne-eqb (made .steps) limit (λ z. omega arith)) at q)))
+  goes zero (next u) b b′ r y more i h q = absurd (no-both (sym (rw (h .1, eq-eqb (made .steps) limit (omega arith)) at q)))
+  goes (suc k) (next u) b b′ r y more i h q =
+      let f = fits (leb (size u) cap) u (λ v. spec.run k cap (spec.counted (countsOf made)) v) (h .0) y more
       (rw (h .1, ne-eqb (made .steps) limit (λ z. omega arith), h .2) at q) in
       let d : k ≡ limit - (made .steps + 1) = omega arith in
       record {
         term = u;
         outcome-is = refl;
-        size-is = f .1;
+        size-is = ap (λ (x : Change). x .size) (sym (f .1)) ∙ h .2;
         put = h .3;
         counted = f .2;
         same = f .0 ∙ ap (λ (i : ℕ). spec.run i cap (spec.counted (countsOf made)) u) d ∙ rw (add-one (made .steps));
+        standing = subst (λ (x : Change). Standing u (x .back .place) (x .back .due)) (f .1) (h .4);
       }
-  goes zero stuck b b′ r j more i h q = absurd (no-both (sym (rw h at q)))
-  goes (suc k) stuck b b′ r j more i h q = absurd (no-both (sym (rw h at q)))
+  goes zero stuck b b′ r y more i h q = absurd (no-both (sym (rw h at q)))
+  goes (suc k) stuck b b′ r y more i h q = absurd (no-both (sym (rw h at q)))
 
 -- The numbers that the loop needs, whatever the words are.
 module _ (n cap limit : ℕ) (made : Counts) (le : made .steps ≤ limit) where
-  pub go-fits : (r : Move) (j : ℕ) (more : Counts) → chosen r n cap made limit ≡ Go j more
-      → (j ≤ cap) × (made .steps < limit) × (more .steps ≡ made .steps + 1)
-  go-fits m.Value j more q = absurd (no-both (sym q))
-  go-fits (m.Raised c) j more q = by (eqb (made .steps) limit) q
+  -- What follows a step that is made.
+  abbrev Made : Move → Change → Counts → Type 0
+  Made r y more = (r ≡ m.Next y) × (y .size ≤ cap) × (made .steps < limit) × (more .steps ≡ made .steps + 1)
+
+  pub go-fits : (r : Move) (y : Change) (more : Counts) → chosen r n cap made limit ≡ Go y more → Made r y more
+  go-fits m.Value y more q = absurd (no-both (sym q))
+  go-fits (m.Raised c) y more q = by (eqb (made .steps) limit) q
     where
-      by : (b : Bool) → cond b (stopped ends.Spent 0 made n 0) (stopped ends.Error c (oneMore made) 0 0) ≡ Go j more
-          → (j ≤ cap) × (made .steps < limit) × (more .steps ≡ made .steps + 1)
+      by : (b : Bool) → cond b (stopped ends.Spent 0 made n 0) (stopped ends.Error c (oneMore made) 0 0) ≡ Go y more → Made (m.Raised c) y more
       by true g = absurd (no-both (sym g))
       by false g = absurd (no-both (sym g))
-  go-fits (m.Next x) j more q = by (eqb (made .steps) limit) refl (leb (x .size) cap) refl q
+  go-fits (m.Next x) y more q = by (eqb (made .steps) limit) refl (leb (x .size) cap) refl q
     where
       by : (b : Bool) → eqb (made .steps) limit ≡ b → (d : Bool) → leb (x .size) cap ≡ d
-          → cond b (stopped ends.Spent 0 made n 0) (cond d (Go (x .size) (oneMore made)) (stopped ends.Full 0 made n (x .size))) ≡ Go j more
-          → (j ≤ cap) × (made .steps < limit) × (more .steps ≡ made .steps + 1)
+          → cond b (stopped ends.Spent 0 made n 0) (cond d (Go x (oneMore made)) (stopped ends.Full 0 made n (x .size))) ≡ Go y more
+          → Made (m.Next x) y more
       by true e d f g = absurd (no-both (sym g))
       by false e true f g =
-          let i : x .size ≡ j = cc in
+          let i : x ≡ y = cc in
           let k : oneMore made ≡ more = cc in
-          let l = eqb-false (made .steps) limit e in
-          (omega (arith, leb-true (x .size) cap f), omega (arith, l), sym (ap (λ (c : Counts). c .steps) k))
+          let l = eqb-false (made .steps) limit e in (
+            ap m.Next i,
+            subst (λ (z : Change). z .size ≤ cap) i (leb-true (x .size) cap f),
+            omega (arith, l),
+            sym (ap (λ (c : Counts). c .steps) k),
+          )
       by false e false f g = absurd (no-both (sym g))
-  go-fits m.Stuck j more q = absurd (no-both (sym q))
+  go-fits m.Stuck y more q = absurd (no-both (sym q))
 
   left-by : (x y : Report) → Stop x ≡ Stop y → x .left ≤ n → y .left ≤ n
   left-by x y q h = let z : x ≡ y = cc in subst (λ (r : Report). r .left ≤ n) z h
@@ -163,7 +171,7 @@ module _ (n cap limit : ℕ) (made : Counts) (le : made .steps ≤ limit) where
       by false g = left-by _ y g (omega arith)
   end-short (m.Next x) y q = by (eqb (made .steps) limit) (leb (x .size) cap) q
     where
-      by : (b d : Bool) → cond b (stopped ends.Spent 0 made n 0) (cond d (Go (x .size) (oneMore made)) (stopped ends.Full 0 made n (x .size)))
+      by : (b d : Bool) → cond b (stopped ends.Spent 0 made n 0) (cond d (Go x (oneMore made)) (stopped ends.Full 0 made n (x .size)))
           ≡ Stop y → y .left ≤ n
       by true d g = left-by _ y g (omega arith)
       by false true g = absurd (no-both g)

@@ -11,7 +11,8 @@ use Rattle.calculus.specs.File.{runIn, firstAfter, secondAfter}
 use Rattle.nodes.specs.Refusals.{refusal}
 use Rattle.engine.specs.declared.runs.Answer.{Answer}
 use Rattle.engine.specs.declared.runs.Answer.the-variants.{Refused, Ended}
-use Rattle.engine.specs.Ran.{Line, lineOf, told, Good}
+use Rattle.engine.specs.Ran.{Good}
+use Rattle.engine.specs.Results.{Line, lineOf, told}
 
 -- The number and place of a refusal, or the numbers of a result, that an answer stands for.
 abbrev pub spoken : Answer → Verdict Line

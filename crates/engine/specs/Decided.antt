@@ -2,6 +2,7 @@
 use Prim.Native.Nat.{ℕ, _+_}
 use mathlib.Core.Bool.{cond}
 use lib.Dec.{eqb, leb}
+use Rattle.reducer.specs.declared.steps.Change.{Change}
 use Rattle.reducer.specs.declared.steps.Move.{Move}
 use Rattle.reducer.specs.declared.steps.Move.the-variants as m
 use Rattle.engine.specs.declared.ends.Counts.{Counts}
@@ -22,14 +23,14 @@ abbrev pub raising : ℕ → ℕ → Counts → ℕ → Choice
 raising c n made limit = cond (eqb (made .steps) limit) (stopped e.Spent 0 made n 0) (stopped e.Error c (oneMore made) 0 0)
 
 -- "steps made equal to the limit, as spent; a next term of more words than capacity, as full; else the step is made".
-abbrev pub going : ℕ → ℕ → ℕ → Counts → ℕ → Choice
-going size n cap made limit =
+abbrev pub going : Change → ℕ → ℕ → Counts → ℕ → Choice
+going x n cap made limit =
     cond (eqb (made .steps) limit) (stopped e.Spent 0 made n 0)
-    (cond (leb size cap) (Go size (oneMore made)) (stopped e.Full 0 made n size))
+    (cond (leb (x .size) cap) (Go x (oneMore made)) (stopped e.Full 0 made n (x .size)))
 
 -- "a value ends as value", and the rest in its order. No accepted recipe comes to a term that is stuck.
 abbrev pub chosen : Move → ℕ → ℕ → Counts → ℕ → Choice
 chosen m.Value n cap made limit = stopped e.Value 0 made n 0
 chosen (m.Raised c) n cap made limit = raising c n made limit
-chosen (m.Next x) n cap made limit = going (x .size) n cap made limit
+chosen (m.Next x) n cap made limit = going x n cap made limit
 chosen m.Stuck n cap made limit = stopped e.Spent 0 made n 0

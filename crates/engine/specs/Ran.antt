@@ -1,4 +1,4 @@
--- A run in two buffers: the numbers of a result, and what the loop leaves.
+-- A run in two buffers: what the loop leaves.
 use Prim.Native.Nat.{ℕ, _≤_}
 use mathlib.Core.Bool.{Bool, not}
 use mathlib.Core.List.{List, []}
@@ -11,52 +11,17 @@ use Rattle.calculus.specs.Typing.{Typed}
 use Rattle.calculus.specs.Run as spec
 use Rattle.reducer.specs.declared.turns.From.{From}
 use Rattle.reducer.specs.declared.steps.Move.{Move}
-use Rattle.reducer.specs.declared.steps.Move.the-variants as move
-use Rattle.reducer.specs.Placed.{beginning}
 use Rattle.reducer.specs.Moves.{Few, Steps}
-use Rattle.engine.specs.declared.ends.Counts.{Counts}
-use Rattle.engine.specs.declared.ends.End.{End}
-use Rattle.engine.specs.declared.ends.End.the-variants.{Value, Spent, Error, Full}
 use Rattle.engine.specs.declared.ends.Report.{Report}
-use Rattle.engine.specs.declared.turns.Halt.{Halt}
+use Rattle.engine.specs.declared.reductions.Halt.{Halt}
+use Rattle.engine.specs.Results.{lineOf, told}
 use Rattle.engine.specs.Buffered.{held, Settled}
-
--- "The result: end, code, steps made, words left, words wanted", as numbers.
-pub record Line : Type 0 where
-  pub end : spec.End
-  pub code : ℕ
-  pub made : spec.Counts
-  pub left : ℕ
-  pub wanted : ℕ
-
--- The numbers of a result, and those that a report stands for.
-abbrev pub lineOf : spec.Result → Line
-lineOf r = record { end = r .end; code = r .code; made = r .made; left = length (r .left); wanted = r .wanted }
-
-abbrev pub endOf : End → spec.End
-endOf Value = spec.valued
-endOf Spent = spec.spent
-endOf Error = spec.error
-endOf Full = spec.full
-
-abbrev pub countsOf : Counts → spec.Counts
-countsOf made = record { steps = made .steps }
-
-abbrev pub told : Report → Line
-told x = record { end = endOf (x .end); code = x .code; made = countsOf (x .made); left = x .left; wanted = x .wanted }
 
 -- A term that the engine reduces: in range, and of some type.
 pub record Good (e : Term ml) : Type 0 where
   pub ranged : InRange e
   pub type : Ty
   pub typed : Typed [] e type
-
--- Where the walk of the next step begins.
-abbrev pub resumed : Move → From
-resumed move.Value = beginning
-resumed (move.Raised c) = beginning
-resumed (move.Next x) = x .back
-resumed move.Stuck = beginning
 
 -- A step of the first n words of the buffer that holds the term, into the other.
 pub record Advanced (front : Bool) (n : ℕ) (from : From) (first second : List ℕ) (r : Move) (first′ second′ : List ℕ) : Type 0 where

@@ -1,9 +1,11 @@
 // The ends of a run, in the order in which document 01 tests them.
 
+use reducer::steps::Change;
 use reducer::steps::Move;
 ghost use mathlib.Core.Path.{_≡_};
 ghost use Prim.Native.Nat.{_≤_, _<_};
 ghost use Rattle.calculus.specs.Run.{capacity};
+ghost use Rattle.engine.specs.Results.{endNumber};
 ghost use Rattle.engine.specs.Decided.{stopped, oneMore, raising, going, chosen};
 
 pub enum End {
@@ -11,6 +13,18 @@ pub enum End {
     Spent,
     Error,
     Full,
+}
+
+// An end's number.
+pub fn number(e: End) -> u32
+    ensures { λ r. ⌜ r ≡ endNumber e ⌝ }
+{
+    match e {
+        End::Value => 0,
+        End::Spent => 1,
+        End::Error => 2,
+        End::Full => 3,
+    }
 }
 
 // What a run counts: the steps made.
@@ -27,10 +41,10 @@ pub struct Report {
     pub wanted: usize,
 }
 
-// What follows a move: the run's end, or a step to a term of so many words.
+// What follows a move: the run's end, or the step is made.
 pub enum Choice {
     Stop(Report),
-    Go(usize, Counts),
+    Go(Change, Counts),
 }
 
 // One step more, where the limit is not reached.
@@ -68,18 +82,18 @@ fn raise(code: u32, made: Counts, left: usize, limit: u32) -> Choice
 }
 
 // "steps made equal to the limit, as spent; a next term of more words than capacity, as full; else the step is made".
-fn go(size: usize, made: Counts, n: usize, cap: usize, limit: u32) -> Choice
+fn go(change: Change, made: Counts, n: usize, cap: usize, limit: u32) -> Choice
     requires { ⌜ made .steps ≤ limit ⌝ }
-    ensures { λ r. ⌜ r ≡ going size n cap made limit ⌝ }
+    ensures { λ r. ⌜ r ≡ going change n cap made limit ⌝ }
 {
     if limit == made.steps {
         return stop(End::Spent, 0, made, n, 0);
     }
-    if size <= cap {
+    if change.size <= cap {
         let more = counted(made, limit);
-        return Choice::Go(size, more);
+        return Choice::Go(change, more);
     }
-    stop(End::Full, 0, made, n, size)
+    stop(End::Full, 0, made, n, change.size)
 }
 
 // "a value ends as value", and the rest in its order: what follows a move of the term of n words.
@@ -90,7 +104,7 @@ pub fn decide(moved: Move, n: usize, cap: usize, made: Counts, limit: u32) -> Ch
     match moved {
         Move::Value => stop(End::Value, 0, made, n, 0),
         Move::Raised(code) => raise(code, made, n, limit),
-        Move::Next(change) => go(change.size, made, n, cap, limit),
+        Move::Next(change) => go(change, made, n, cap, limit),
         Move::Stuck => stop(End::Spent, 0, made, n, 0),
     }
 }

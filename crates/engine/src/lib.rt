@@ -2,5 +2,5 @@
 
 pub mod buffers;
 pub mod ends;
+pub mod reductions;
 pub mod runs;
-pub mod turns;

@@ -2,7 +2,7 @@
 
 use crate::buffers::wipe;
 use crate::ends::Report;
-use crate::turns::reduce;
+use crate::reductions::reduce;
 use checker::admit;
 use file::Opened;
 use nodes::refusals::Refusal;

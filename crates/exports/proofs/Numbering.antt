@@ -1,27 +1,21 @@
 -- The numbers of a run's answer are those of the specification's. Assumes nothing.
-use mathlib.Core.Path.{_≡_, refl, sym, ap, _∙_}
+use mathlib.Core.Path.{_≡_, sym, ap, _∙_}
 use Rattle.calculus.specs.Verdicts.{Verdict}
 use Rattle.nodes.specs.declared.refusals.Refusal.{Refusal}
 use Rattle.nodes.specs.Refusals.{refusal}
-use Rattle.engine.specs.Ran.{Line, endOf}
+use Rattle.engine.specs.Results.{Line}
 use Rattle.engine.specs.Answered.{spoken}
-use Rattle.engine.specs.declared.ends.End.{End}
-use Rattle.engine.specs.declared.ends.End.the-variants.{Value, Spent, Error, Full}
 use Rattle.engine.specs.declared.ends.Report.{Report}
 use Rattle.engine.specs.declared.runs.Answer.{Answer}
 use Rattle.engine.specs.declared.runs.Answer.the-variants.{Refused, Ended}
 use Rattle.exports.specs.declared.runs.RecipeRun.{RecipeRun}
-use Rattle.exports.specs.Numbers.{endNumber, numberOfEnd, endedNumbers, runNumbers}
-
-pub end-is : (e : End) → endNumber e ≡ numberOfEnd (endOf e)
-end-is Value = refl
-end-is Spent = refl
-end-is Error = refl
-end-is Full = refl
+use Rattle.exports.specs.Numbers.{endedNumbers, runNumbers}
 
 -- Either case of an answer.
-pub answer-refused : (v : Verdict Line) (a : Answer) (r : Refusal) (x : RecipeRun) → spoken a ≡ v → a ≡ Refused r → x ≡ runNumbers (refusal r) → x ≡ runNumbers v
+pub answer-refused : (v : Verdict Line) (a : Answer) (r : Refusal) (x : RecipeRun) → spoken a ≡ v → a ≡ Refused r → x ≡ runNumbers (refusal r)
+    → x ≡ runNumbers v
 answer-refused v a r x s q e = e ∙ ap runNumbers (sym (ap spoken q) ∙ s)
 
-pub answer-ended : (v : Verdict Line) (a : Answer) (y : Report) (x : RecipeRun) → spoken a ≡ v → a ≡ Ended y → x ≡ endedNumbers y → x ≡ runNumbers v
+pub answer-ended : (v : Verdict Line) (a : Answer) (y : Report) (x : RecipeRun) → spoken a ≡ v → a ≡ Ended y → x ≡ endedNumbers y
+    → x ≡ runNumbers v
 answer-ended v a y x s q e = e ∙ ap runNumbers (sym (ap spoken q) ∙ s)

@@ -23,7 +23,7 @@ use Rattle.checker.specs.declared.Checked.the-variants.{Refused, Accepted}
 use Rattle.engine.specs.declared.ends.Report.{Report}
 use Rattle.engine.specs.declared.runs.Answer.{Answer}
 use Rattle.engine.specs.declared.runs.Answer.the-variants as answer
-use Rattle.engine.specs.Ran.{Line, lineOf, told}
+use Rattle.engine.specs.Results.{Line, lineOf, told}
 use Rattle.engine.specs.Answered.{spoken}
 use Rattle.exports.specs.Numbers.{checkNumber}
 

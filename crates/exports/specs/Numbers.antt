@@ -1,10 +1,7 @@
 -- What a C program gets.
 use Prim.Native.Nat.{ℕ, _+_, _*_}
 use Rattle.calculus.specs.Verdicts.{Verdict, refused, passed}
-use Rattle.calculus.specs.Run as spec
-use Rattle.engine.specs.Ran.{Line, told}
-use Rattle.engine.specs.declared.ends.End.{End}
-use Rattle.engine.specs.declared.ends.End.the-variants.{Value, Spent, Error, Full}
+use Rattle.engine.specs.Results.{numberOfEnd, Line, told}
 use Rattle.engine.specs.declared.ends.Report.{Report}
 use Rattle.exports.specs.declared.runs.RecipeRun.{RecipeRun}
 
@@ -12,19 +9,6 @@ use Rattle.exports.specs.declared.runs.RecipeRun.{RecipeRun}
 abbrev pub checkNumber : Verdict (Unit {0}) → ℕ
 checkNumber (refused n p) = n + 256 * p
 checkNumber (passed x) = 0
-
--- "end 0 value, 1 spent, 2 error, 3 full".
-abbrev pub numberOfEnd : spec.End → ℕ
-numberOfEnd spec.valued = 0
-numberOfEnd spec.spent = 1
-numberOfEnd spec.error = 2
-numberOfEnd spec.full = 3
-
-abbrev pub endNumber : End → ℕ
-endNumber Value = 0
-endNumber Spent = 1
-endNumber Error = 2
-endNumber Full = 3
 
 -- After a refusal every other number is 0.
 abbrev pub refusedNumbers : ℕ → ℕ → RecipeRun

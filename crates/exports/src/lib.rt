@@ -4,8 +4,7 @@ pub mod runs;
 
 use checker::Checked;
 use nodes::refusals::Refusal;
-use nodes::refusals::number;
-use nodes::refusals::place;
+use nodes::refusals::numbered;
 ghost use mathlib.Core.Path.{_≡_};
 ghost use Prim.Native.Nat.{_+_, _*_, _≤_};
 ghost use Rattle.calculus.specs.File.{check};
@@ -18,7 +17,8 @@ fn packed(r: Refusal) -> u64
     requires { ⌜ placeOf r ≤ 4096 ⌝ }
     ensures { λ x. ⌜ x ≡ numberOf r + 256 * placeOf r ⌝ }
 {
-    number(r) as u64 + 256 * (place(r) as u64)
+    let told = numbered(r);
+    told.number as u64 + 256 * (told.place as u64)
 }
 
 // The check of a file, for every file: 0 where it is accepted, else the refusal.

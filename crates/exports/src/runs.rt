@@ -1,20 +1,18 @@
 // A run for a C program. A place is at most 4,096, the words left are at most 16,384, and those wanted at most their square.
 
-use engine::ends::End;
 use engine::ends::Report;
 use engine::runs::Answer;
 use engine::runs::run;
 use nodes::refusals::Refusal;
-use nodes::refusals::number;
-use nodes::refusals::place;
+use nodes::refusals::numbered;
 ghost use mathlib.Core.Path.{_≡_};
 ghost use Prim.Native.Nat.{_≤_};
 ghost use lib.ListN.{length};
 ghost use Rattle.calculus.specs.Verdicts.{passed, andThen};
 ghost use Rattle.calculus.specs.File.{operate, firstAfter, secondAfter};
 ghost use Rattle.nodes.specs.Refusals.{placeOf, refusal};
-ghost use Rattle.engine.specs.Ran.{lineOf};
-ghost use Rattle.exports.specs.Numbers.{endNumber, endedNumbers, runNumbers};
+ghost use Rattle.engine.specs.Results.{lineOf};
+ghost use Rattle.exports.specs.Numbers.{endedNumbers, runNumbers};
 
 #[repr(C)]
 pub struct RecipeRun {
@@ -38,25 +36,15 @@ fn refused_by(r: Refusal) -> RecipeRun
     requires { ⌜ placeOf r ≤ 4096 ⌝ }
     ensures { λ x. ⌜ x ≡ runNumbers (refusal r) ⌝ }
 {
+    let told = numbered(r);
     RecipeRun {
-        refusal: number(r),
-        place: narrow(place(r)),
+        refusal: told.number,
+        place: narrow(told.place),
         end: 0,
         code: 0,
         steps: 0,
         left: 0,
         wanted: 0,
-    }
-}
-
-fn end_number(e: End) -> u32
-    ensures { λ r. ⌜ r ≡ endNumber e ⌝ }
-{
-    match e {
-        End::Value => 0,
-        End::Spent => 1,
-        End::Error => 2,
-        End::Full => 3,
     }
 }
 
@@ -69,7 +57,7 @@ fn ended(x: Report) -> RecipeRun
     RecipeRun {
         refusal: 0,
         place: 0,
-        end: end_number(e),
+        end: engine::ends::number(e),
         code: x.code,
         steps: made.steps,
         left: narrow(x.left),

@@ -11,7 +11,7 @@ use Rattle.calculus.specs.File.{operate, leftBy, firstAfter}
 use Rattle.calculus.proofs.Refusing.{operate-number}
 use Rattle.calculus.proofs.Bounds.{operate-bounded}
 use Rattle.file.proofs.Padding.{padded-take, padded-length}
-use Rattle.engine.specs.Ran.{lineOf}
+use Rattle.engine.specs.Results.{lineOf}
 use Rattle.exports.specs.Numbers.{numberOfEnd, runNumbers}
 use Rattle.exports.specs.declared.runs.RecipeRun.{RecipeRun}
 use Rattle.text.specs.Characters.{characters}

@@ -1,28 +1,28 @@
 -- Document 01, "A refusal carries its number and a place": the number and the place of each case.
 use Prim.Native.Nat.{ℕ}
 use Rattle.calculus.specs.Verdicts.{Verdict, refused}
+use Rattle.nodes.specs.declared.refusals.Numbers.{Numbers}
 use Rattle.nodes.specs.declared.refusals.Refusal.{Refusal}
 use Rattle.nodes.specs.declared.refusals.Refusal.the-variants.{Bytes, Header, Word, Nesting, Variable, Untyped, Mistyped, Capacity}
 
+abbrev at : ℕ → ℕ → Numbers
+at n p = record { number = n; place = p }
+
+abbrev pub numbered : Refusal → Numbers
+numbered Bytes = at 1 0
+numbered Header = at 2 0
+numbered (Word p) = at 3 p
+numbered (Nesting p) = at 4 p
+numbered (Variable p) = at 5 p
+numbered (Untyped p) = at 6 p
+numbered (Mistyped p) = at 7 p
+numbered Capacity = at 8 0
+
 abbrev pub numberOf : Refusal → ℕ
-numberOf Bytes = 1
-numberOf Header = 2
-numberOf (Word p) = 3
-numberOf (Nesting p) = 4
-numberOf (Variable p) = 5
-numberOf (Untyped p) = 6
-numberOf (Mistyped p) = 7
-numberOf Capacity = 8
+numberOf r = numbered r .number
 
 abbrev pub placeOf : Refusal → ℕ
-placeOf Bytes = 0
-placeOf Header = 0
-placeOf (Word p) = p
-placeOf (Nesting p) = p
-placeOf (Variable p) = p
-placeOf (Untyped p) = p
-placeOf (Mistyped p) = p
-placeOf Capacity = 0
+placeOf r = numbered r .place
 
 abbrev pub refusal : {A : Type 0} → Refusal → Verdict A
 refusal r = refused (numberOf r) (placeOf r)

@@ -1,5 +1,5 @@
 ghost use mathlib.Core.Path.{_≡_};
-ghost use Rattle.nodes.specs.Refusals.{numberOf, placeOf};
+ghost use Rattle.nodes.specs.Refusals.{numbered, numberOf, placeOf};
 
 // Why a recipe is refused, in the order of document 01's table; specs/Refusals.antt gives each its number and its place in the file.
 // Untyped and Mistyped carry their places for a later request; they are 0 until then.
@@ -15,7 +15,12 @@ pub enum Refusal {
 }
 
 // A refusal's number, and its place in the file.
-pub fn number(r: Refusal) -> u32
+pub struct Numbers {
+    pub number: u32,
+    pub place: usize,
+}
+
+fn number(r: Refusal) -> u32
     ensures { λ x. ⌜ x ≡ numberOf r ⌝ }
 {
     match r {
@@ -30,7 +35,7 @@ pub fn number(r: Refusal) -> u32
     }
 }
 
-pub fn place(r: Refusal) -> usize
+fn place(r: Refusal) -> usize
     ensures { λ x. ⌜ x ≡ placeOf r ⌝ }
 {
     match r {
@@ -42,5 +47,14 @@ pub fn place(r: Refusal) -> usize
         Refusal::Untyped(p) => p,
         Refusal::Mistyped(p) => p,
         Refusal::Capacity => 0,
+    }
+}
+
+pub fn numbered(r: Refusal) -> Numbers
+    ensures { λ x. ⌜ x ≡ numbered r ⌝ }
+{
+    Numbers {
+        number: number(r),
+        place: place(r),
     }
 }

@@ -14,10 +14,10 @@ use Rattle.calculus.specs.Kinds.{type, term}
 use Rattle.calculus.specs.Reduction.{Frame, under, first, second, tested, intoML, intoScheme, plug, Context, here, within, fill, turn}
 use Rattle.calculus.specs.Reduction as calculus
 use Rattle.calculus.specs.Rules.{Value, consV, lumpV}
-use Rattle.calculus.specs.Evaluation.{Evaluated}
+use Rattle.calculus.specs.Evaluation.{Evaluated, Ready}
 use Rattle.calculus.proofs.Sizes.{tree-length}
-use Rattle.calculus.proofs.Splices.{wordsBefore, wordsAfter, put-fill}
-use Rattle.calculus.proofs.Contraction.{Ready}
+use Rattle.calculus.proofs.Splices.{put-fill}
+use Rattle.calculus.specs.Splices.{wordsBefore, wordsAfter}
 use Rattle.calculus.proofs.Turns.{turn-filled}
 use Rattle.reducer.specs.declared.turns.From.{From}
 use Rattle.reducer.specs.Around.{Around, root, inside, whole, Reached, lengthBefore, lengthAround, waitsFor, follows, pending, Standing, Ripe}

@@ -14,7 +14,8 @@ use Rattle.calculus.specs.Kinds.{term}
 use Rattle.calculus.specs.Reduction.{Became, becomes, raises, nothing, contract, Context, fill, turn, stepped, outcome, step}
 use Rattle.calculus.specs.Reduction as calculus
 use Rattle.calculus.proofs.Sizes.{put-append, tree-length, drop-tree}
-use Rattle.calculus.proofs.Splices.{wordsBefore, wordsAfter, put-fill}
+use Rattle.calculus.proofs.Splices.{put-fill}
+use Rattle.calculus.specs.Splices.{wordsBefore, wordsAfter}
 use Rattle.calculus.proofs.Turns as turns
 use Rattle.writing.specs.Wrote.{Wrote}
 use Rattle.writing.proofs.Measures.{span-tree}

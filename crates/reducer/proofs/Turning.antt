@@ -12,7 +12,7 @@ use Rattle.calculus.specs.Words.{put, putTy, size, sizeTy}
 use Rattle.calculus.specs.Kinds.{type, term}
 use Rattle.calculus.specs.Reduction.{isLump, isCons, form, under, first, tested, intoML, intoScheme}
 use Rattle.calculus.specs.Rules.{Value, lamV, numV, nilV}
-use Rattle.calculus.proofs.Contraction.{Ready}
+use Rattle.calculus.specs.Evaluation.{Ready}
 use Rattle.nodes.specs.Table.{rowOf}
 use Rattle.writing.specs.Spans.{span}
 use Rattle.writing.proofs.Measures.{span-tree, span-none}

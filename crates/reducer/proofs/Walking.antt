@@ -13,7 +13,7 @@ use Rattle.calculus.specs.Words.{words}
 use Rattle.calculus.specs.Kinds.{term}
 use Rattle.calculus.specs.Reduction.{done, turn}
 use Rattle.calculus.proofs.Sizes.{tree-length}
-use Rattle.calculus.proofs.Splices.{wordsAfter}
+use Rattle.calculus.specs.Splices.{wordsAfter}
 use Rattle.calculus.proofs.Values.{value-turn}
 use Rattle.writing.specs.Spans.{span}
 use Rattle.writing.proofs.Measures.{span-end}

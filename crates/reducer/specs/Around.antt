@@ -5,8 +5,7 @@ use mathlib.Core.Path.{_≡_}
 use Rattle.calculus.specs.Trees.{Lang, ml, Term}
 use Rattle.calculus.specs.Words.{words, size, sizeTy}
 use Rattle.calculus.specs.Reduction.{isLump, isCons, Frame, under, first, second, tested, intoML, intoScheme, plug}
-use Rattle.calculus.specs.Evaluation.{Taken}
-use Rattle.calculus.proofs.Contraction.{Ready}
+use Rattle.calculus.specs.Evaluation.{Taken, Ready}
 
 -- The frames around an open place of a term, from the place outwards; and the term, with x there.
 pub data Around : Lang → Type 0 where

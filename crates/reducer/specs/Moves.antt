@@ -6,7 +6,7 @@ use lib.ListN.{length, drop}
 use Rattle.calculus.specs.Trees.{Lang, ml, Term}
 use Rattle.calculus.specs.Words.{put, words, size}
 use Rattle.calculus.specs.Reduction.{becomes, contract, Outcome, value, raised, next, stuck, step}
-use Rattle.calculus.proofs.Splices.{wordsBefore, Splice}
+use Rattle.calculus.specs.Splices.{wordsBefore, Splice}
 use Rattle.writing.specs.Wrote.{Wrote}
 use Rattle.writing.specs.Spans.{span}
 use Rattle.contraction.specs.Told.{Placed}

@@ -9,8 +9,7 @@ use Rattle.calculus.specs.Trees.{Lang, ml, Term}
 use Rattle.calculus.specs.Words.{put, words, size}
 use Rattle.calculus.specs.Reduction.{Frame, plug, done, turn}
 use Rattle.calculus.specs.Rules.{Value}
-use Rattle.calculus.specs.Evaluation.{Taken}
-use Rattle.calculus.proofs.Contraction.{Ready}
+use Rattle.calculus.specs.Evaluation.{Taken, Ready}
 use Rattle.writing.specs.Spans.{span}
 use Rattle.reducer.specs.declared.turns.Found.{Found}
 use Rattle.reducer.specs.declared.turns.Found.the-variants.{Nothing, At}

@@ -6,8 +6,7 @@ use lib.ListN.{length, getD, drop}
 use native.Mathlib.Omega.{arith}
 use native.Mathlib.Numerals.{add-one}
 use Rattle.calculus.specs.Scope.{partCount}
-use Rattle.calculus.specs.Kinds.{Sort, Tree, Trees, putTree, putTrees}
-use Rattle.calculus.proofs.Sizes.{sizeTree, sizeTrees}
+use Rattle.calculus.specs.Kinds.{Sort, Tree, Trees, putTree, putTrees, sizeTree, sizeTrees}
 use Rattle.calculus.proofs.Views.{view, Holds, induction, sized}
 use Rattle.writing.specs.Spans.{span}
 use Rattle.writing.proofs.Trees.{headOf, count-is}

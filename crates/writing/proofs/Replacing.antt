@@ -9,9 +9,8 @@ use native.Mathlib.Omega.{arith}
 use Rattle.calculus.specs.Trees.{N, L, list, _to_, Lang, ml, sc, isFun, isList, isNull, isNum, HD, TL, FIX, NULL?, TEST, APP, ADD}
 use Rattle.calculus.specs.Trees.{SUB, CONS, Term, var, num, lam, op1, op2, if0, nil, wrong, ms, sm}
 use Rattle.calculus.specs.Words.{word, by, put, putTy, size}
-use Rattle.calculus.specs.Kinds.{Sort, type, term, Tree, putTree, putTrees}
+use Rattle.calculus.specs.Kinds.{Sort, type, term, Tree, putTree, putTrees, sizeTree}
 use Rattle.calculus.specs.Reduction.{substitute}
-use Rattle.calculus.proofs.Sizes.{sizeTree}
 use Rattle.calculus.proofs.Views.{seen, view-type, view-ml, view-sc, view}
 use Rattle.calculus.proofs.Substitution.{substitute-word}
 use Rattle.nodes.specs.Table.{shapeNumber, rowOf}

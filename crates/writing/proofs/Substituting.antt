@@ -10,8 +10,8 @@ use native.Mathlib.Omega.{arith}
 use Rattle.calculus.specs.Trees.{Lang, Term}
 use Rattle.calculus.specs.Words.{word, by, words}
 use Rattle.calculus.specs.Scope.{partCount}
-use Rattle.calculus.specs.Kinds.{Sort, Tree, Trees, putTree, putTrees}
-use Rattle.calculus.proofs.Sizes.{sizeTree, sizeTrees, tree-append, trees-length, drop-tree, put-append}
+use Rattle.calculus.specs.Kinds.{Sort, Tree, Trees, putTree, putTrees, sizeTree, sizeTrees}
+use Rattle.calculus.proofs.Sizes.{tree-append, trees-length, drop-tree, put-append}
 use Rattle.calculus.proofs.Views.{view, sized}
 use Rattle.nodes.specs.Table.{shapeNumber, rowOf}
 use Rattle.writing.specs.Wrote.{Wrote}

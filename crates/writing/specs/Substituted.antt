@@ -5,9 +5,8 @@ use mathlib.Core.Path.{_≡_}
 use lib.ListN.{length}
 use Rattle.calculus.specs.Trees.{Lang, Term}
 use Rattle.calculus.specs.Words.{word, by, words}
-use Rattle.calculus.specs.Kinds.{Sort, type, term, Tree, Trees, putTrees}
+use Rattle.calculus.specs.Kinds.{Sort, type, term, Tree, Trees, putTrees, sizeTrees}
 use Rattle.calculus.specs.Reduction.{substitute}
-use Rattle.calculus.proofs.Sizes.{sizeTrees}
 use Rattle.writing.specs.Wrote.{Wrote}
 
 -- Trees with v for the variable that has d lambdas between.

