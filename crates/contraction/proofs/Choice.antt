@@ -12,7 +12,8 @@ use Rattle.calculus.specs.Words.{put}
 use Rattle.calculus.specs.Kinds.{term}
 use Rattle.calculus.specs.Reduction.{form, onNumber, third, contract}
 use Rattle.writing.specs.Spans.{span}
-use Rattle.contraction.specs.declared.rules.Rule.the-variants.{Stuck, Part}
+use Rattle.contraction.specs.declared.became.Became.the-variants.{Nothing, Becomes}
+use Rattle.contraction.specs.declared.became.Piece.the-variants.{Part}
 use Rattle.contraction.specs.Forms.{formAt}
 use Rattle.contraction.specs.Told.{Tells}
 use Rattle.contraction.specs.Chosen.{OfIf}
@@ -37,38 +38,38 @@ module _ (ws : List ℕ) (form-number x y end : ℕ) (form-is : form-number ≡ 
     test-form n e = by-form l a (put b (put c k)) (drop 1 ws) tail-of n (sym form-is ∙ e)
 
   scheme-told : (l : Lang) (a b c : Term l) (k : List ℕ) → ws ≡ put (if0 a b c) k → getD ws 0 0 ≡ 38 → (form-number ≡ 1 → ⊥)
-      → Tells ws (Part y end) (contract (if0 a b c))
+      → Tells ws (Becomes (Part y end)) (contract (if0 a b c))
   unfolding contract third put
   scheme-told ml a b c k q w h = absurd (omega (arith, w, ap (λ (v : List ℕ). getD v 0 0) q))
   scheme-told sc a b c k q w h =
-      subst (Tells ws (Part y end)) (sym (no-number (third sc c) _ (test-form sc a b c k q form-number refl) h))
-      (sym (third-stands sc a b c k q .own))
+      subst (Tells ws (Becomes (Part y end))) (sym (no-number (third sc c) _ (test-form sc a b c k q form-number refl) h))
+      (_, refl, sym (third-stands sc a b c k q .own))
 
-  pub if-scheme : getD ws 0 0 ≡ 38 → (form-number ≡ 1 → ⊥) → OfIf ws (Part y end)
+  pub if-scheme : getD ws 0 0 ≡ 38 → (form-number ≡ 1 → ⊥) → OfIf ws (Becomes (Part y end))
   if-scheme w h = record { of = λ l a b c k q. scheme-told l a b c k q w h }
 
   ml-told : (l : Lang) (a b c : Term l) (k : List ℕ) → ws ≡ put (if0 a b c) k → (getD ws 0 0 ≡ 38 → ⊥) → (form-number ≡ 1 → ⊥)
-      → Tells ws Stuck (contract (if0 a b c))
+      → Tells ws Nothing (contract (if0 a b c))
   unfolding contract third put
-  ml-told ml a b c k q w h = subst (Tells ws Stuck) (sym (no-number (third ml c) _ (test-form ml a b c k q form-number refl) h)) refl
+  ml-told ml a b c k q w h = subst (Tells ws Nothing) (sym (no-number (third ml c) _ (test-form ml a b c k q form-number refl) h)) refl
   ml-told sc a b c k q w h = absurd (w (ap (λ (v : List ℕ). getD v 0 0) q))
 
-  pub if-ml : (getD ws 0 0 ≡ 38 → ⊥) → (form-number ≡ 1 → ⊥) → OfIf ws Stuck
+  pub if-ml : (getD ws 0 0 ≡ 38 → ⊥) → (form-number ≡ 1 → ⊥) → OfIf ws Nothing
   if-ml w h = record { of = λ l a b c k q. ml-told l a b c k q w h }
 
   module _ (h : form-number ≡ 1) (n : ℕ) (n-is : n ≡ getD (drop 1 ws) 0 0 / 256) where
     number-told : (l : Lang) (a b c : Term l) (k : List ℕ) → ws ≡ put (if0 a b c) k → Formed l 1 a → (t : Bool) → eqb n 0 ≡ t
-        → Tells ws (cond t (Part x y) (Part y end)) (contract (if0 a b c))
+        → Tells ws (cond t (Becomes (Part x y)) (Becomes (Part y end))) (contract (if0 a b c))
     unfolding contract onNumber form
     number-told l a b c k q (is-number m) true e =
         let z : m ≡ n = sym (number-of l m (put b (put c k)) (drop 1 ws) (tail-of l a b c k q)) ∙ sym n-is in
-        rw (z, e) (sym (second-stands l a b c k q .own))
+        rw (z, e) (_, refl, sym (second-stands l a b c k q .own))
     number-told l a b c k q (is-number m) false e =
         let z : m ≡ n = sym (number-of l m (put b (put c k)) (drop 1 ws) (tail-of l a b c k q)) ∙ sym n-is in
-        rw (z, e) (sym (third-stands l a b c k q .own))
+        rw (z, e) (_, refl, sym (third-stands l a b c k q .own))
 
-    pub if-zero : n ≡ 0 → OfIf ws (Part x y)
+    pub if-zero : n ≡ 0 → OfIf ws (Becomes (Part x y))
     if-zero z = record { of = λ l a b c k q. number-told l a b c k q (test-form l a b c k q 1 h) true (eq-eqb n 0 z) }
 
-    pub if-more : (n ≡ 0 → ⊥) → OfIf ws (Part y end)
+    pub if-more : (n ≡ 0 → ⊥) → OfIf ws (Becomes (Part y end))
     if-more z = record { of = λ l a b c k q. number-told l a b c k q (test-form l a b c k q 1 h) false (ne-eqb n 0 z) }

@@ -12,19 +12,20 @@ use Rattle.calculus.specs.Words.{word, put, putTy, size, sizeTy}
 use Rattle.calculus.specs.Kinds.{type, term}
 use Rattle.calculus.specs.Reduction.{form, becomes, nothing, onNumber, onLump, toML, toScheme}
 use Rattle.calculus.proofs.Sizes.{putTy-append, put-append}
-use Rattle.contraction.specs.declared.rules.Rule.{Rule}
-use Rattle.contraction.specs.declared.rules.Rule.the-variants.{Stuck, Part}
+use Rattle.contraction.specs.declared.became.Became.{Became}
+use Rattle.contraction.specs.declared.became.Became.the-variants.{Nothing, Becomes}
+use Rattle.contraction.specs.declared.became.Piece.the-variants.{Part}
 use Rattle.contraction.specs.Forms.{isScheme}
-use Rattle.contraction.specs.Told.{Tells, refusedRule, numberRule, from, converted}
+use Rattle.contraction.specs.Told.{Tells, misfitIn, numberIn, from, converted}
 use Rattle.contraction.specs.Chosen.{Value, AtType, AtList, AtFunction}
 use Rattle.contraction.proofs.Views.{Formed, is-number, is-lump, by-form}
 use Rattle.contraction.proofs.Parts.{Stands, sized, stands}
 use Rattle.contraction.proofs.Looks.{no-number, no-lump, number-told, number-of}
 
 -- The words of a list and of a function that are brought over, in a row.
-pub items-words : (q m : ℕ) (l : Lang) (t : Ty) (a b : Term l)
+pub cons-words : (q m : ℕ) (l : Lang) (t : Ty) (a b : Term l)
     → q ∷ m ∷ putTy t (put a (m ∷ 3 ∷ putTy t (put b []))) ≡ q ∷ ((m ∷ putTy t []) ++ (put a [] ++ ((m ∷ 3 ∷ putTy t []) ++ put b [])))
-items-words q m l t a b =
+cons-words q m l t a b =
     ap (λ (v : List ℕ). q ∷ m ∷ v)
     (putTy-append t [] (put a (m ∷ 3 ∷ putTy t (put b [])))
     ∙ ap (λ (v : List ℕ). putTy t [] ++ v)
@@ -53,76 +54,76 @@ module _ (ws : List ℕ) (form-number value end : ℕ) (p : Value ws form-number
   inner w k q = sym (drop-drop 1 1 ws) ∙ ap (drop 1) q
 
   -- A value that has not the type.
-  pub refused-told : (l : Lang) (t : Ty) (v : Term l) (k : List ℕ) (c : ℕ) → drop 1 ws ≡ putTy t (put v k)
-      → Tells ws (refusedRule false c value) (becomes (wrong {l = ml} c t))
+  pub misfit-told : (l : Lang) (t : Ty) (v : Term l) (k : List ℕ) (c : ℕ) → drop 1 ws ≡ putTy t (put v k)
+      → Tells ws (misfitIn false c value) (becomes (wrong {l = ml} c t))
   unfolding put
-  refused-told l t v k c q = ap (λ (w : List ℕ). word 29 c ∷ w) (sym (type-stands l t v k q .own))
+  misfit-told l t v k c q = (_, refl, ap (λ (w : List ℕ). word 29 c ∷ w) (sym (type-stands l t v k q .own)))
 
   number-amiss : (l : Lang) (v : Term (from l)) (k : List ℕ) → drop 1 ws ≡ putTy N (put v k) → (form-number ≡ 1 → ⊥)
-      → Tells ws (refusedRule (isScheme l) 1 value) (converted l N v)
+      → Tells ws (misfitIn (isScheme l) 1 value) (converted l N v)
   unfolding toML toScheme
   number-amiss ml v k q h =
-      subst (Tells ws (refusedRule false 1 value)) (sym (no-number (becomes (wrong 1 N)) _ (value-form sc N v k q form-number refl) h))
-      (refused-told sc N v k 1 q)
-  number-amiss sc v k q h = subst (Tells ws Stuck) (sym (no-number nothing _ (value-form ml N v k q form-number refl) h)) refl
+      subst (Tells ws (misfitIn false 1 value)) (sym (no-number (becomes (wrong 1 N)) _ (value-form sc N v k q form-number refl) h))
+      (misfit-told sc N v k 1 q)
+  number-amiss sc v k q h = subst (Tells ws Nothing) (sym (no-number nothing _ (value-form ml N v k q form-number refl) h)) refl
 
-  pub number-other : (scheme : Bool) → (form-number ≡ 1 → ⊥) → AtType ws scheme (refusedRule scheme 1 value) N
+  pub number-other : (scheme : Bool) → (form-number ≡ 1 → ⊥) → AtType ws scheme (misfitIn scheme 1 value) N
   number-other scheme h = record { of = λ l v k q s. rw s (number-amiss l v k q h) }
 
   module _ (n : ℕ) (n-is : n ≡ getD (drop value ws) 0 0 / 256) where
     number-at : (l : Lang) (v : Term (from l)) (k : List ℕ) → drop 1 ws ≡ putTy N (put v k) → Formed (from l) 1 v
-        → Tells ws (numberRule (isScheme l) n) (converted l N v)
+        → Tells ws (numberIn (isScheme l) n) (converted l N v)
     unfolding toML toScheme onNumber form
     number-at ml v k q (is-number m) =
         rw (n-is ∙ number-of sc m k (drop value ws) (type-stands sc N v k q .after)) (number-told ws ml m)
     number-at sc v k q (is-number m) =
         rw (n-is ∙ number-of ml m k (drop value ws) (type-stands ml N v k q .after)) (number-told ws sc m)
 
-    pub number-number : (scheme : Bool) → form-number ≡ 1 → AtType ws scheme (numberRule scheme n) N
+    pub number-number : (scheme : Bool) → form-number ≡ 1 → AtType ws scheme (numberIn scheme n) N
     number-number scheme h = record { of = λ l v k q s. rw s (number-at l v k q (value-form (from l) N v k q 1 h)) }
 
   -- At L.
-  lump-in-ml : (l : Lang) (v : Term (from l)) → false ≡ isScheme l → Tells ws Stuck (converted l L v)
+  lump-in-ml : (l : Lang) (v : Term (from l)) → false ≡ isScheme l → Tells ws Nothing (converted l L v)
   unfolding toML
   lump-in-ml ml v s = refl
   lump-in-ml sc v s = absurd (subst T (sym s) tt)
 
-  pub lump-ml : AtType ws false Stuck L
+  pub lump-ml : AtType ws false Nothing L
   lump-ml = record { of = λ l v k q s. lump-in-ml l v s }
 
   lump-amiss : (l : Lang) (v : Term (from l)) (k : List ℕ) → drop 1 ws ≡ putTy L (put v k) → true ≡ isScheme l → (form-number ≡ 5 → ⊥)
-      → Tells ws Stuck (converted l L v)
+      → Tells ws Nothing (converted l L v)
   unfolding toScheme
   lump-amiss ml v k q s h = absurd (subst T s tt)
-  lump-amiss sc v k q s h = subst (Tells ws Stuck) (sym (no-lump nothing _ (value-form ml L v k q form-number refl) h)) refl
+  lump-amiss sc v k q s h = subst (Tells ws Nothing) (sym (no-lump nothing _ (value-form ml L v k q form-number refl) h)) refl
 
-  pub lump-other : (form-number ≡ 5 → ⊥) → AtType ws true Stuck L
+  pub lump-other : (form-number ≡ 5 → ⊥) → AtType ws true Nothing L
   lump-other h = record { of = λ l v k q s. lump-amiss l v k q s h }
 
   lump-size : (l : Lang) (v : Term l) (k : List ℕ) → drop 1 ws ≡ putTy L (put v k) → end < value + 2 → Formed l 5 v → ⊥
   unfolding size sizeTy
   lump-size l v k q h (is-lump a) = omega (arith, h, value-stands ml L v k q .end)
 
-  pub lump-absurd : (scheme : Bool) → form-number ≡ 5 → end < value + 2 → AtType ws scheme Stuck L
+  pub lump-absurd : (scheme : Bool) → form-number ≡ 5 → end < value + 2 → AtType ws scheme Nothing L
   lump-absurd scheme h g = record { of = λ l v k q s. absurd (lump-size (from l) v k q g (value-form (from l) L v k q 5 h)) }
 
   lump-out : (l : Lang) (v : Term (from l)) (k : List ℕ) → drop 1 ws ≡ putTy L (put v k) → true ≡ isScheme l → Formed (from l) 5 v
-      → Tells ws (Part (value + 2) end) (converted l L v)
+      → Tells ws (Becomes (Part (value + 2) end)) (converted l L v)
   unfolding toScheme onLump form put putTy size sizeTy
   lump-out ml v k q s f = absurd (subst T s tt)
   lump-out sc v k q s (is-lump a) =
       let z = sym (drop-drop 2 value ws) ∙ ap (drop 2) (type-stands ml L v k q .after) in
-      sym (sized (term sc) a k ws (value + 2) end z (omega (arith, value-stands ml L v k q .end)) .own)
+      (_, refl, sym (sized (term sc) a k ws (value + 2) end z (omega (arith, value-stands ml L v k q .end)) .own))
 
-  pub lump-scheme : form-number ≡ 5 → AtType ws true (Part (value + 2) end) L
+  pub lump-scheme : form-number ≡ 5 → AtType ws true (Becomes (Part (value + 2) end)) L
   lump-scheme h = record { of = λ l v k q s. lump-out l v k q s (value-form (from l) L v k q 5 h) }
 
 -- The same where the code knows the language.
-pub known-type : {ws : List ℕ} {scheme s : Bool} {r : Rule} {t : Ty} → s ≡ scheme → AtType ws scheme r t → AtType ws s r t
+pub known-type : {ws : List ℕ} {scheme s : Bool} {r : Became} {t : Ty} → s ≡ scheme → AtType ws scheme r t → AtType ws s r t
 known-type e h = record { of = λ l v k q i. h .of l v k q (sym e ∙ i) }
 
-pub known-list : {ws : List ℕ} {scheme s : Bool} {r : Rule} → s ≡ scheme → AtList ws scheme r → AtList ws s r
+pub known-list : {ws : List ℕ} {scheme s : Bool} {r : Became} → s ≡ scheme → AtList ws scheme r → AtList ws s r
 known-list e h = record { of = λ t. known-type e (h .of t) }
 
-pub known-function : {ws : List ℕ} {scheme s : Bool} {r : Rule} → s ≡ scheme → AtFunction ws scheme r → AtFunction ws s r
+pub known-function : {ws : List ℕ} {scheme s : Bool} {r : Became} → s ≡ scheme → AtFunction ws scheme r → AtFunction ws s r
 known-function e h = record { of = λ t u. known-type e (h .of t u) }

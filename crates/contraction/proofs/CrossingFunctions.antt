@@ -14,29 +14,30 @@ use Rattle.calculus.proofs.Sizes.{putTy-append}
 use Rattle.calculus.proofs.Views.{view, sized}
 use Rattle.writing.specs.Spans.{span}
 use Rattle.writing.proofs.Measures.{span-tree}
-use Rattle.contraction.specs.declared.rules.Rule.{Rule}
-use Rattle.contraction.specs.declared.rules.Rule.the-variants.{Stuck, IntoML, IntoScheme}
+use Rattle.contraction.specs.declared.became.Became.{Became}
+use Rattle.contraction.specs.declared.became.Became.the-variants.{Nothing, Becomes}
+use Rattle.contraction.specs.declared.became.Piece.the-variants.{IntoML, IntoScheme}
 use Rattle.contraction.specs.Forms.{isScheme}
-use Rattle.contraction.specs.Told.{Tells, refusedRule, from, converted}
+use Rattle.contraction.specs.Told.{Tells, misfitIn, from, converted}
 use Rattle.contraction.specs.Chosen.{Value, AtType, AtList, AtFunction, OfBoundary}
 use Rattle.contraction.proofs.Views.{Formed, is-function, size-some}
 use Rattle.contraction.proofs.Parts.{Stands, stands}
 use Rattle.contraction.proofs.Parts as parts
 use Rattle.contraction.proofs.Looks.{no-lambda}
-use Rattle.contraction.proofs.Crossing.{function-words, type-stands, value-stands, value-form, inner, refused-told}
+use Rattle.contraction.proofs.Crossing.{function-words, type-stands, value-stands, value-form, inner, misfit-told}
 
 module _ (ws : List ℕ) (form-number value end : ℕ) (p : Value ws form-number value end) where
   function-amiss : (l : Lang) (t u : Ty) (v : Term (from l)) (k : List ℕ) → drop 1 ws ≡ putTy (t to u) (put v k) → (form-number ≡ 2 → ⊥)
-      → Tells ws (refusedRule (isScheme l) 2 value) (converted l (t to u) v)
+      → Tells ws (misfitIn (isScheme l) 2 value) (converted l (t to u) v)
   unfolding toML toScheme
   function-amiss ml t u v k q h =
-      subst (Tells ws (refusedRule false 2 value))
+      subst (Tells ws (misfitIn false 2 value))
       (sym (no-lambda (becomes (wrong 2 (t to u))) _ (value-form ws form-number value end p sc (t to u) v k q form-number refl) h))
-      (refused-told ws form-number value end p sc (t to u) v k 2 q)
+      (misfit-told ws form-number value end p sc (t to u) v k 2 q)
   function-amiss sc t u v k q h =
-      subst (Tells ws Stuck) (sym (no-lambda nothing _ (value-form ws form-number value end p ml (t to u) v k q form-number refl) h)) refl
+      subst (Tells ws Nothing) (sym (no-lambda nothing _ (value-form ws form-number value end p ml (t to u) v k q form-number refl) h)) refl
 
-  pub function-other : (scheme : Bool) → (form-number ≡ 2 → ⊥) → AtFunction ws scheme (refusedRule scheme 2 value)
+  pub function-other : (scheme : Bool) → (form-number ≡ 2 → ⊥) → AtFunction ws scheme (misfitIn scheme 2 value)
   function-other scheme h = record { of = λ t u. record { of = λ l v k q s. rw s (function-amiss l t u v k q h) } }
 
   module _ (second : ℕ) (second-is : second ≡ 2 + span (drop 2 ws) 1) where
@@ -53,21 +54,25 @@ module _ (ws : List ℕ) (form-number value end : ℕ) (p : Value ws form-number
         let z = from-stands l t u v k q in
         parts.sized type u (put v k) ws second value (z .after) (omega (arith, z .end, type-stands ws form-number value end p l (t to u) v k q .end))
 
-    pub function-absurd : (scheme : Bool) → value < second → AtFunction ws scheme Stuck
+    pub function-absurd : (scheme : Bool) → value < second → AtFunction ws scheme Nothing
     function-absurd scheme g =
         record { of = λ t u. record { of = λ l v k q s. absurd (omega (arith, g, to-stands (from l) t u v k q .end)) } }
 
     module _ (h : form-number ≡ 2) where
       function-in-ml : (l : Lang) (t u : Ty) (v : Term (from l)) (k : List ℕ) → drop 1 ws ≡ putTy (t to u) (put v k) → false ≡ isScheme l
           → Formed (from l) 2 v
-          → Tells ws (IntoML second value end) (converted l (t to u) v)
+          → Tells ws (Becomes (IntoML second value end)) (converted l (t to u) v)
       unfolding toML onLambda form put
       function-in-ml ml t u v k q s (is-function r b) =
-          rw (from-stands sc t u v k q .own, to-stands sc t u v k q .own, value-stands ws form-number value end p sc (t to u) v k q .own)
-          (ap (λ (w : List ℕ). 18 ∷ w) (putTy-append t [] _ ∙ ap (λ (w : List ℕ). putTy t [] ++ w) (function-words 30 35 45 sc t u v (16 ∷ []))))
+          let e = putTy-append t [] _ ∙ ap (λ (w : List ℕ). putTy t [] ++ w) (function-words 30 35 45 sc t u v (16 ∷ [])) in (
+            _,
+            refl,
+            rw (from-stands sc t u v k q .own, to-stands sc t u v k q .own, value-stands ws form-number value end p sc (t to u) v k q .own)
+                (ap (λ (w : List ℕ). 18 ∷ w) e),
+          )
       function-in-ml sc t u v k q s f = absurd (subst T (sym s) tt)
 
-      pub function-ml : AtFunction ws false (IntoML second value end)
+      pub function-ml : AtFunction ws false (Becomes (IntoML second value end))
       function-ml =
           record {
             of = λ t u. record {
@@ -77,14 +82,17 @@ module _ (ws : List ℕ) (form-number value end : ℕ) (p : Value ws form-number
 
       function-in-scheme : (l : Lang) (t u : Ty) (v : Term (from l)) (k : List ℕ) → drop 1 ws ≡ putTy (t to u) (put v k) → true ≡ isScheme l
           → Formed (from l) 2 v
-          → Tells ws (IntoScheme second value end) (converted l (t to u) v)
+          → Tells ws (Becomes (IntoScheme second value end)) (converted l (t to u) v)
       unfolding toScheme onLambda form put
       function-in-scheme ml t u v k q s f = absurd (subst T s tt)
-      function-in-scheme sc t u v k q s (is-function r b) =
-          rw (from-stands ml t u v k q .own, to-stands ml t u v k q .own, value-stands ws form-number value end p ml (t to u) v k q .own)
-          (ap (λ (w : List ℕ). 34 ∷ w) (function-words 45 19 30 ml t u v (32 ∷ [])))
+      function-in-scheme sc t u v k q s (is-function r b) = (
+        _,
+        refl,
+        rw (from-stands ml t u v k q .own, to-stands ml t u v k q .own, value-stands ws form-number value end p ml (t to u) v k q .own)
+            (ap (λ (w : List ℕ). 34 ∷ w) (function-words 45 19 30 ml t u v (32 ∷ []))),
+      )
 
-      pub function-scheme : AtFunction ws true (IntoScheme second value end)
+      pub function-scheme : AtFunction ws true (Becomes (IntoScheme second value end))
       function-scheme =
           record {
             of = λ t u. record {
@@ -107,7 +115,7 @@ type-by (list t) k = by-list t
 type-by (t to u) k = by-to t u
 
 -- Whichever type it is.
-sides : (ws : List ℕ) (r : Rule) → ((t : Ty) → TypeBy (getD (drop 1 ws) 0 0) t → AtType ws (eqb (getD ws 0 0) 45) r t) → OfBoundary ws r
+sides : (ws : List ℕ) (r : Became) → ((t : Ty) → TypeBy (getD (drop 1 ws) 0 0) t → AtType ws (eqb (getD ws 0 0) 45) r t) → OfBoundary ws r
 unfolding put
 sides ws r g =
     record {
@@ -121,7 +129,7 @@ sides ws r g =
           (ap (λ (w : List ℕ). eqb (getD w 0 0) 45) q);
     }
 
-module _ (ws : List ℕ) (r : Rule) (n : ℕ) (n-is : n ≡ getD (drop 1 ws) 0 0) where
+module _ (ws : List ℕ) (r : Became) (n : ℕ) (n-is : n ≡ getD (drop 1 ws) 0 0) where
   abbrev At : Ty → Type 0
   At t = AtType ws (eqb (getD ws 0 0) 45) r t
 
@@ -169,7 +177,7 @@ module _ (ws : List ℕ) (value : ℕ) (value-is : value ≡ 1 + span (drop 1 ws
   no-type : (l : Lang) (t : Ty) (v : Term l) (k : List ℕ) → drop 1 ws ≡ putTy t (put v k) → value < 2 → ⊥
   no-type l t v k q h = omega (arith, h, value-is, span-tree type t (put v k) (drop 1 ws) q, sized (view type t))
 
-  pub boundary-none : value < 2 → OfBoundary ws Stuck
+  pub boundary-none : value < 2 → OfBoundary ws Nothing
   unfolding put
   boundary-none h =
       record { ms-told = λ t v k q. absurd (no-type sc t v k (ap (drop 1) q) h); sm-told = λ t v k q. absurd (no-type ml t v k (ap (drop 1) q) h) }
@@ -179,7 +187,7 @@ module _ (ws : List ℕ) (value : ℕ) (value-is : value ≡ 1 + span (drop 1 ws
   no-value l t v k end e q h =
       omega (arith, h, stands (term l) v k ws value end (stands type t (put v k) ws 1 value q value-is .after) e .end, size-some l v)
 
-  pub boundary-no-value : (end : ℕ) → end ≡ value + span (drop value ws) 1 → end < value + 1 → OfBoundary ws Stuck
+  pub boundary-no-value : (end : ℕ) → end ≡ value + span (drop value ws) 1 → end < value + 1 → OfBoundary ws Nothing
   unfolding put
   boundary-no-value end e h =
       record {

@@ -12,14 +12,15 @@ use Rattle.calculus.specs.Words.{put, putTy, size, sizeTy}
 use Rattle.calculus.specs.Kinds.{type, term}
 use Rattle.calculus.specs.Reduction.{form, becomes, nothing, onList, toML, toScheme}
 use Rattle.writing.specs.Spans.{span}
-use Rattle.contraction.specs.declared.rules.Rule.the-variants.{Stuck, Led, Items}
+use Rattle.contraction.specs.declared.became.Became.the-variants.{Nothing, Becomes}
+use Rattle.contraction.specs.declared.became.Piece.the-variants.{Led, Cons}
 use Rattle.contraction.specs.Forms.{isScheme}
-use Rattle.contraction.specs.Told.{Tells, refusedRule, from, converted}
+use Rattle.contraction.specs.Told.{Tells, misfitIn, from, converted}
 use Rattle.contraction.specs.Chosen.{Value, AtList}
 use Rattle.contraction.proofs.Views.{Formed, is-nil, is-cons}
 use Rattle.contraction.proofs.Parts.{Stands, sized, stands}
 use Rattle.contraction.proofs.Looks.{no-list}
-use Rattle.contraction.proofs.Crossing.{items-words, type-stands, value-stands, value-form, inner, refused-told}
+use Rattle.contraction.proofs.Crossing.{cons-words, type-stands, value-stands, value-form, inner, misfit-told}
 
 module _ (ws : List ℕ) (form-number value end : ℕ) (p : Value ws form-number value end) where
   -- The element's type stands from 2 up to the value.
@@ -31,34 +32,34 @@ module _ (ws : List ℕ) (form-number value end : ℕ) (p : Value ws form-number
 
   list-amiss : (l : Lang) (t : Ty) (v : Term (from l)) (k : List ℕ) → drop 1 ws ≡ putTy (list t) (put v k) → (form-number ≡ 3 → ⊥)
       → (form-number ≡ 4 → ⊥)
-      → Tells ws (refusedRule (isScheme l) 3 value) (converted l (list t) v)
+      → Tells ws (misfitIn (isScheme l) 3 value) (converted l (list t) v)
   unfolding toML toScheme
   list-amiss ml t v k q h g =
-      subst (Tells ws (refusedRule false 3 value))
+      subst (Tells ws (misfitIn false 3 value))
       (sym (no-list (becomes (wrong 3 (list t))) _ _ (value-form ws form-number value end p sc (list t) v k q form-number refl) h g))
-      (refused-told ws form-number value end p sc (list t) v k 3 q)
+      (misfit-told ws form-number value end p sc (list t) v k 3 q)
   list-amiss sc t v k q h g =
-      subst (Tells ws Stuck) (sym (no-list nothing _ _ (value-form ws form-number value end p ml (list t) v k q form-number refl) h g)) refl
+      subst (Tells ws Nothing) (sym (no-list nothing _ _ (value-form ws form-number value end p ml (list t) v k q form-number refl) h g)) refl
 
-  pub list-other : (scheme : Bool) → (form-number ≡ 3 → ⊥) → (form-number ≡ 4 → ⊥) → AtList ws scheme (refusedRule scheme 3 value)
+  pub list-other : (scheme : Bool) → (form-number ≡ 3 → ⊥) → (form-number ≡ 4 → ⊥) → AtList ws scheme (misfitIn scheme 3 value)
   list-other scheme h g = record { of = λ t. record { of = λ l v k q s. rw s (list-amiss l t v k q h g) } }
 
   nil-in-ml : (l : Lang) (t : Ty) (v : Term (from l)) (k : List ℕ) → drop 1 ws ≡ putTy (list t) (put v k) → false ≡ isScheme l → Formed (from l) 3 v
-      → Tells ws (Led 24 2 value) (converted l (list t) v)
+      → Tells ws (Becomes (Led 24 2 value)) (converted l (list t) v)
   unfolding toML onList form put
-  nil-in-ml ml t v k q s (is-nil u) = ap (λ (w : List ℕ). 24 ∷ w) (sym (element sc t v k q .own))
+  nil-in-ml ml t v k q s (is-nil u) = (_, refl, ap (λ (w : List ℕ). 24 ∷ w) (sym (element sc t v k q .own)))
   nil-in-ml sc t v k q s f = absurd (subst T (sym s) tt)
 
-  pub nil-ml : form-number ≡ 3 → AtList ws false (Led 24 2 value)
+  pub nil-ml : form-number ≡ 3 → AtList ws false (Becomes (Led 24 2 value))
   nil-ml h =
       record { of = λ t. record { of = λ l v k q s. nil-in-ml l t v k q s (value-form ws form-number value end p (from l) (list t) v k q 3 h) } }
 
-  nil-in-scheme : (l : Lang) (t : Ty) (v : Term (from l)) → true ≡ isScheme l → Formed (from l) 3 v → Tells ws (Led 39 0 0) (converted l (list t) v)
+  nil-in-scheme : (l : Lang) (t : Ty) (v : Term (from l)) → true ≡ isScheme l → Formed (from l) 3 v → Tells ws (Becomes (Led 39 0 0)) (converted l (list t) v)
   unfolding toScheme onList form put
   nil-in-scheme ml t v s f = absurd (subst T s tt)
-  nil-in-scheme sc t v s (is-nil u) = refl
+  nil-in-scheme sc t v s (is-nil u) = (_, refl, refl)
 
-  pub nil-scheme : form-number ≡ 3 → AtList ws true (Led 39 0 0)
+  pub nil-scheme : form-number ≡ 3 → AtList ws true (Becomes (Led 39 0 0))
   nil-scheme h =
       record { of = λ t. record { of = λ l v k q s. nil-in-scheme l t v s (value-form ws form-number value end p (from l) (list t) v k q 3 h) } }
 
@@ -80,7 +81,7 @@ module _ (ws : List ℕ) (form-number value end : ℕ) (p : Value ws form-number
     cons-order : (l : Lang) (t : Ty) (v : Term l) (k : List ℕ) → drop 1 ws ≡ putTy (list t) (put v k) → end < tail → Formed l 4 v → ⊥
     cons-order l t v k q g (is-cons a b) = omega (arith, g, tail-stands l t a b k q .end)
 
-    pub cons-absurd : (scheme : Bool) → end < tail → AtList ws scheme Stuck
+    pub cons-absurd : (scheme : Bool) → end < tail → AtList ws scheme Nothing
     cons-absurd scheme g =
         record {
           of = λ t. record {
@@ -90,37 +91,27 @@ module _ (ws : List ℕ) (form-number value end : ℕ) (p : Value ws form-number
 
     cons-in-ml : (l : Lang) (t : Ty) (v : Term (from l)) (k : List ℕ) → drop 1 ws ≡ putTy (list t) (put v k) → false ≡ isScheme l
         → Formed (from l) 4 v
-        → Tells ws (Items 25 30 value tail end) (converted l (list t) v)
+        → Tells ws (Becomes (Cons 25 30 value tail end)) (converted l (list t) v)
     unfolding toML onList form put putTy
     cons-in-ml ml t v k q s (is-cons a b) =
-        rw (
-          element sc t v k q .own,
-          type-stands ws form-number value end p sc (list t) v k q .own,
-          head-stands sc t a b k q .own,
-          tail-stands sc t a b k q .own,
-        )
-        (items-words 25 30 sc t a b)
+        let z = type-stands ws form-number value end p sc (list t) v k q .own in
+        (_, refl, rw (element sc t v k q .own, z, head-stands sc t a b k q .own, tail-stands sc t a b k q .own) (cons-words 25 30 sc t a b))
     cons-in-ml sc t v k q s f = absurd (subst T (sym s) tt)
 
-    pub cons-ml : AtList ws false (Items 25 30 value tail end)
+    pub cons-ml : AtList ws false (Becomes (Cons 25 30 value tail end))
     cons-ml =
         record { of = λ t. record { of = λ l v k q s. cons-in-ml l t v k q s (value-form ws form-number value end p (from l) (list t) v k q 4 h) } }
 
     cons-in-scheme : (l : Lang) (t : Ty) (v : Term (from l)) (k : List ℕ) → drop 1 ws ≡ putTy (list t) (put v k) → true ≡ isScheme l
         → Formed (from l) 4 v
-        → Tells ws (Items 40 45 value tail end) (converted l (list t) v)
+        → Tells ws (Becomes (Cons 40 45 value tail end)) (converted l (list t) v)
     unfolding toScheme onList form put putTy
     cons-in-scheme ml t v k q s f = absurd (subst T s tt)
     cons-in-scheme sc t v k q s (is-cons a b) =
-        rw (
-          element ml t v k q .own,
-          type-stands ws form-number value end p ml (list t) v k q .own,
-          head-stands ml t a b k q .own,
-          tail-stands ml t a b k q .own,
-        )
-        (items-words 40 45 ml t a b)
+        let z = type-stands ws form-number value end p ml (list t) v k q .own in
+        (_, refl, rw (element ml t v k q .own, z, head-stands ml t a b k q .own, tail-stands ml t a b k q .own) (cons-words 40 45 ml t a b))
 
-    pub cons-scheme : AtList ws true (Items 40 45 value tail end)
+    pub cons-scheme : AtList ws true (Becomes (Cons 40 45 value tail end))
     cons-scheme =
         record {
           of = λ t. record {

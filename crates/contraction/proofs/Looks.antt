@@ -10,9 +10,10 @@ use native.Mathlib.Omega.{arith}
 use Rattle.calculus.specs.Trees.{Lang, ml, sc, Static, Term, num}
 use Rattle.calculus.specs.Words.{put}
 use Rattle.calculus.specs.Reduction.{form, Became, becomes, amiss, onNumber, onLambda, onList, onLump}
-use Rattle.contraction.specs.declared.rules.Rule.the-variants.{Stuck, Number}
+use Rattle.contraction.specs.declared.became.Became.the-variants.{Nothing, Becomes}
+use Rattle.contraction.specs.declared.became.Piece.the-variants.{Number}
 use Rattle.contraction.specs.Forms.{isScheme}
-use Rattle.contraction.specs.Told.{Tells, Placed, amissRule, nullRule, numberRule, refusedRule, overRule, sumRule}
+use Rattle.contraction.specs.Told.{Tells, Within, amissIn, nullBy, numberIn, misfitIn, overIn, sumIn}
 use Rattle.contraction.proofs.Views.{Formed, is-number, is-function, is-nil, is-cons, is-lump, is-other}
 
 module _ {m : Lang} (o : Became m) where
@@ -54,46 +55,46 @@ no-lump o k (is-lump v) h = absurd (h refl)
 no-lump o k (is-other q) h = ap (λ f. onLump f o k) q
 
 -- A value that no rule takes.
-pub amiss-told : (ws : List ℕ) (l : Lang) (c : ℕ) → Tells ws (amissRule (isScheme l) c) (amiss l c)
+pub amiss-told : (ws : List ℕ) (l : Lang) (c : ℕ) → Tells ws (amissIn (isScheme l) c) (amiss l c)
 unfolding amiss put
 amiss-told ws ml c = refl
-amiss-told ws sc c = refl
+amiss-told ws sc c = (_, refl, refl)
 
-pub amiss-placed : (n : ℕ) (s : Bool) (c : ℕ) → Placed n (amissRule s c)
+pub amiss-placed : (n : ℕ) (s : Bool) (c : ℕ) → Within n (amissIn s c)
 amiss-placed n true c = (omega arith, omega arith)
 amiss-placed n false c = tt
 
-pub null-placed : (n form : ℕ) → Placed n (nullRule form)
+pub null-placed : (n form : ℕ) → Within n (nullBy form)
 null-placed n form = cases (eqb form 3) (eqb form 4)
   where
-    cases : (a b : Bool) → Placed n (cond a (Number 17 0) (cond b (Number 17 1) Stuck))
+    cases : (a b : Bool) → Within n (cond a (Becomes (Number 17 0)) (cond b (Becomes (Number 17 1)) Nothing))
     cases true b = (omega arith, omega arith)
     cases false true = (omega arith, omega arith)
     cases false false = tt
 
 -- A number of a language, as a rule and as a word.
-pub number-told : (ws : List ℕ) (l : Lang) (n : ℕ) → Tells {l = l} ws (numberRule (isScheme l) n) (becomes (num n))
+pub number-told : (ws : List ℕ) (l : Lang) (n : ℕ) → Tells {l = l} ws (numberIn (isScheme l) n) (becomes (num n))
 unfolding put
-number-told ws ml n = refl
-number-told ws sc n = refl
+number-told ws ml n = (_, refl, refl)
+number-told ws sc n = (_, refl, refl)
 
 pub number-of : (l : Lang) (n : ℕ) (k ws : List ℕ) → ws ≡ put (num {l = l} n) k → getD ws 0 0 / 256 ≡ n
 unfolding put
 number-of ml n k ws q = ap (λ (v : List ℕ). getD v 0 0 / 256) q ∙ omega arith
 number-of sc n k ws q = ap (λ (v : List ℕ). getD v 0 0 / 256) q ∙ omega arith
 
-pub number-placed : (n : ℕ) (s : Bool) (m : ℕ) → m ≤ 16777215 → Placed n (numberRule s m)
+pub number-placed : (n : ℕ) (s : Bool) (m : ℕ) → m ≤ 16777215 → Within n (numberIn s m)
 number-placed n true m h = (omega arith, h)
 number-placed n false m h = (omega arith, h)
 
-pub refused-placed : (n : ℕ) (s : Bool) (c v : ℕ) → 1 ≤ v → v ≤ n → Placed n (refusedRule s c v)
-refused-placed n true c v h g = tt
-refused-placed n false c v h g = (h, g)
+pub misfit-placed : (n : ℕ) (s : Bool) (c v : ℕ) → 1 ≤ v → v ≤ n → Within n (misfitIn s c v)
+misfit-placed n true c v h g = tt
+misfit-placed n false c v h g = (h, g)
 
-pub sum-placed : (n : ℕ) (s : Bool) (a b : ℕ) → Placed n (sumRule s a b)
+pub sum-placed : (n : ℕ) (s : Bool) (a b : ℕ) → Within n (sumIn s a b)
 sum-placed n s a b = cases (leb (a + b) 16777215) refl s
   where
-    cases : (t : Bool) → leb (a + b) 16777215 ≡ t → (s : Bool) → Placed n (cond t (numberRule s (a + b)) (overRule s))
+    cases : (t : Bool) → leb (a + b) 16777215 ≡ t → (s : Bool) → Within n (cond t (numberIn s (a + b)) (overIn s))
     cases true e s = number-placed n s (a + b) (leb-true (a + b) 16777215 e)
     cases false e true = (omega arith, omega arith)
     cases false e false = (omega arith, omega arith)

@@ -14,22 +14,23 @@ use Rattle.calculus.specs.Kinds.{type, term}
 use Rattle.calculus.specs.Reduction.{Form, number, lambda, nilForm, consForm, other, form, nothing, amiss, answer, onLambda, onList, contract1}
 use Rattle.writing.specs.Spans.{span}
 use Rattle.writing.proofs.Measures.{span-tree}
-use Rattle.contraction.specs.declared.rules.Rule.{Rule}
-use Rattle.contraction.specs.declared.rules.Rule.the-variants.{Stuck, Number, Part, Led, Led2, Substituted}
+use Rattle.contraction.specs.declared.became.Became.{Became}
+use Rattle.contraction.specs.declared.became.Became.the-variants.{Nothing, Becomes}
+use Rattle.contraction.specs.declared.became.Piece.the-variants.{Number, Part, Led, Led2, Substituted}
 use Rattle.contraction.specs.Forms.{formNumber, isScheme, answerBy, operator1}
-use Rattle.contraction.specs.Told.{Tells, amissRule, nullRule, part}
+use Rattle.contraction.specs.Told.{Tells, amissIn, nullBy, part}
 use Rattle.contraction.specs.Chosen.{FirstPart, OfFix, OfList, OfOne}
 use Rattle.contraction.proofs.Views.{Formed, is-number, is-function, is-nil, is-cons, is-lump, is-other, by-form, form-at, size-some}
 use Rattle.contraction.proofs.Parts.{Stands, sized, stands}
 use Rattle.contraction.proofs.Looks.{no-lambda, no-list, amiss-told}
 
 -- null? of ML, by the form.
-null-told : (ws : List ℕ) (a : Term ml) (n : ℕ) → Formed ml n a → Tells ws (nullRule n) (contract1 NULL? a)
+null-told : (ws : List ℕ) (a : Term ml) (n : ℕ) → Formed ml n a → Tells ws (nullBy n) (contract1 NULL? a)
 unfolding contract1 onList form put
 null-told ws a n (is-number m) = refl
 null-told ws a n (is-function t b) = refl
-null-told ws a n (is-nil t) = refl
-null-told ws a n (is-cons v w) = refl
+null-told ws a n (is-nil t) = (_, refl, refl)
+null-told ws a n (is-cons v w) = (_, refl, refl)
 null-told ws a n (is-lump v) = refl
 null-told ws a n (is-other q) = rw q refl
 
@@ -89,7 +90,7 @@ scheme-1 sc (TEST isList) = refl
 scheme-1 sc (TEST isNull) = refl
 scheme-1 sc (TEST isNum) = refl
 
-hd-or-tl : (ws : List ℕ) (r : Rule) (l : Lang) (o : Op1 l) (a : Term l) (n : ℕ) → Unary l n o → (n ≡ 2 → ⊥) → (n ≡ 3 → ⊥) → (n ≡ 4 → ⊥)
+hd-or-tl : (ws : List ℕ) (r : Became) (l : Lang) (o : Op1 l) (a : Term l) (n : ℕ) → Unary l n o → (n ≡ 2 → ⊥) → (n ≡ 3 → ⊥) → (n ≡ 4 → ⊥)
     → Tells ws r (contract1 (part (eqb n 0)) a) → Tells ws r (contract1 o a)
 hd-or-tl ws r l o a n is-head h i j g = g
 hd-or-tl ws r l o a n is-tail h i j g = g
@@ -105,68 +106,62 @@ module _ (ws : List ℕ) (form-number end : ℕ) (f : FirstPart ws form-number e
   part-end : (l : Lang) (a : Term l) (k : List ℕ) → drop 1 ws ≡ put a k → end ≡ 1 + size a
   part-end l a k q = omega (arith, f .end-is, span-tree (term l) a k (drop 1 ws) q)
 
-  pub fix-other : (form-number ≡ 2 → ⊥) → OfFix ws Stuck
+  pub fix-other : (form-number ≡ 2 → ⊥) → OfFix ws Nothing
   unfolding contract1 put
   fix-other h =
-      record { of = λ a k q. subst (Tells ws Stuck) (sym (no-lambda nothing _ (part-form ml a k (ap (drop 1) q) form-number refl) h)) refl }
+      record { of = λ a k q. subst (Tells ws Nothing) (sym (no-lambda nothing _ (part-form ml a k (ap (drop 1) q) form-number refl) h)) refl }
 
   fix-told : (body : ℕ) → body ≡ 2 + span (drop 2 ws) 1 → (a : Term ml) (k : List ℕ) → ws ≡ put (fix a) k → end ≡ 1 + size a → Formed ml 2 a
-      → Tells ws (Substituted 16 body 0 end) (contract1 FIX a)
+      → Tells ws (Becomes (Substituted 16 body 0 end)) (contract1 FIX a)
   unfolding contract1 onLambda form put size
-  fix-told body e a k q h (is-function t b) = (
-    fix (lam t b),
-    b,
-    k,
-    refl,
-    stands type t (put b k) ws 2 body (ap (drop 2) q) e .after,
-    sized (term ml) (fix (lam t b)) k ws 0 end q (omega arith) .own,
-    refl,
-  )
+  fix-told body e a k q h (is-function t b) =
+      let body-is = stands type t (put b k) ws 2 body (ap (drop 2) q) e .after in
+      (_, refl, (fix (lam t b), b, k, refl, body-is, sized (term ml) (fix (lam t b)) k ws 0 end q (omega arith) .own, refl))
 
-  pub fix-lambda : (body : ℕ) → body ≡ 2 + span (drop 2 ws) 1 → form-number ≡ 2 → OfFix ws (Substituted 16 body 0 end)
+  pub fix-lambda : (body : ℕ) → body ≡ 2 + span (drop 2 ws) 1 → form-number ≡ 2 → OfFix ws (Becomes (Substituted 16 body 0 end))
   unfolding put
   fix-lambda body e h =
       record { of = λ a k q. fix-told body e a k q (part-end ml a k (ap (drop 1) q)) (part-form ml a k (ap (drop 1) q) 2 h) }
 
   -- hd and tl of no list, of nil, of cons.
   no-list-told : (first : Bool) (l : Lang) (a : Term l) → Formed l form-number a → (form-number ≡ 3 → ⊥) → (form-number ≡ 4 → ⊥)
-      → Tells ws (amissRule (isScheme l) 3) (contract1 (part first) a)
+      → Tells ws (amissIn (isScheme l) 3) (contract1 (part first) a)
   unfolding contract1
-  no-list-told true l a g h i = subst (Tells ws (amissRule (isScheme l) 3)) (sym (no-list (amiss l 3) _ _ g h i)) (amiss-told ws l 3)
-  no-list-told false l a g h i = subst (Tells ws (amissRule (isScheme l) 3)) (sym (no-list (amiss l 3) _ _ g h i)) (amiss-told ws l 3)
+  no-list-told true l a g h i = subst (Tells ws (amissIn (isScheme l) 3)) (sym (no-list (amiss l 3) _ _ g h i)) (amiss-told ws l 3)
+  no-list-told false l a g h i = subst (Tells ws (amissIn (isScheme l) 3)) (sym (no-list (amiss l 3) _ _ g h i)) (amiss-told ws l 3)
 
-  pub list-other : (first scheme : Bool) → (form-number ≡ 3 → ⊥) → (form-number ≡ 4 → ⊥) → OfList ws first scheme (amissRule scheme 3)
+  pub list-other : (first scheme : Bool) → (form-number ≡ 3 → ⊥) → (form-number ≡ 4 → ⊥) → OfList ws first scheme (amissIn scheme 3)
   list-other first scheme h i =
       record { of = λ l a k q s. rw s (no-list-told first l a (part-form l a k q form-number refl) h i) }
 
-  nil-scheme : (first : Bool) (l : Lang) (a : Term l) → true ≡ isScheme l → Formed l 3 a → Tells ws (Led 1068 0 0) (contract1 (part first) a)
+  nil-scheme : (first : Bool) (l : Lang) (a : Term l) → true ≡ isScheme l → Formed l 3 a → Tells ws (Becomes (Led 1068 0 0)) (contract1 (part first) a)
   unfolding contract1 onList form put
   nil-scheme true ml a s (is-nil t) = absurd (subst T s tt)
   nil-scheme false ml a s (is-nil t) = absurd (subst T s tt)
-  nil-scheme true sc a s (is-nil t) = refl
-  nil-scheme false sc a s (is-nil t) = refl
+  nil-scheme true sc a s (is-nil t) = (_, refl, refl)
+  nil-scheme false sc a s (is-nil t) = (_, refl, refl)
 
-  pub list-nil-scheme : (first : Bool) → form-number ≡ 3 → OfList ws first true (Led 1068 0 0)
+  pub list-nil-scheme : (first : Bool) → form-number ≡ 3 → OfList ws first true (Becomes (Led 1068 0 0))
   list-nil-scheme first h = record { of = λ l a k q s. nil-scheme first l a s (part-form l a k q 3 h) }
 
   nil-head : (l : Lang) (a : Term l) (k : List ℕ) → drop 1 ws ≡ put a k → end ≡ 1 + size a → false ≡ isScheme l → Formed l 3 a
-      → Tells ws (Led 1053 2 end) (contract1 HD a)
+      → Tells ws (Becomes (Led 1053 2 end)) (contract1 HD a)
   unfolding contract1 onList form put size
   nil-head ml a k q e s (is-nil t) =
-      ap (λ (v : List ℕ). 1053 ∷ v) (sym (sized type t k ws 2 end (sym (drop-drop 1 1 ws) ∙ ap (drop 1) q) (omega arith) .own))
+      (_, refl, ap (λ (v : List ℕ). 1053 ∷ v) (sym (sized type t k ws 2 end (sym (drop-drop 1 1 ws) ∙ ap (drop 1) q) (omega arith) .own)))
   nil-head sc a k q e s (is-nil t) = absurd (subst T (sym s) tt)
 
   nil-tail : (l : Lang) (a : Term l) (k : List ℕ) → drop 1 ws ≡ put a k → end ≡ 1 + size a → false ≡ isScheme l → Formed l 3 a
-      → Tells ws (Led2 1053 3 2 end) (contract1 TL a)
+      → Tells ws (Becomes (Led2 1053 3 2 end)) (contract1 TL a)
   unfolding contract1 onList form put putTy size
   nil-tail ml a k q e s (is-nil t) =
-      ap (λ (v : List ℕ). 1053 ∷ 3 ∷ v) (sym (sized type t k ws 2 end (sym (drop-drop 1 1 ws) ∙ ap (drop 1) q) (omega arith) .own))
+      (_, refl, ap (λ (v : List ℕ). 1053 ∷ 3 ∷ v) (sym (sized type t k ws 2 end (sym (drop-drop 1 1 ws) ∙ ap (drop 1) q) (omega arith) .own)))
   nil-tail sc a k q e s (is-nil t) = absurd (subst T (sym s) tt)
 
-  pub list-nil-head : form-number ≡ 3 → OfList ws true false (Led 1053 2 end)
+  pub list-nil-head : form-number ≡ 3 → OfList ws true false (Becomes (Led 1053 2 end))
   list-nil-head h = record { of = λ l a k q s. nil-head l a k q (part-end l a k q) s (part-form l a k q 3 h) }
 
-  pub list-nil-tail : form-number ≡ 3 → OfList ws false false (Led2 1053 3 2 end)
+  pub list-nil-tail : form-number ≡ 3 → OfList ws false false (Becomes (Led2 1053 3 2 end))
   list-nil-tail h = record { of = λ l a k q s. nil-tail l a k q (part-end l a k q) s (part-form l a k q 3 h) }
 
   module _ (middle : ℕ) (e : middle ≡ 2 + span (drop 2 ws) 1) (h : form-number ≡ 4) where
@@ -179,23 +174,23 @@ module _ (ws : List ℕ) (form-number end : ℕ) (f : FirstPart ws form-number e
     unfolding size
     cons-before l a k q i g (is-cons v w) = omega (arith, i, g, head-stands l v w k q .end)
 
-    pub list-absurd : (first scheme : Bool) → end < middle → OfList ws first scheme Stuck
+    pub list-absurd : (first scheme : Bool) → end < middle → OfList ws first scheme Nothing
     list-absurd first scheme g = record { of = λ l a k q s. absurd (cons-before l a k q (part-end l a k q) g (part-form l a k q 4 h)) }
 
-    cons-head : (l : Lang) (a : Term l) (k : List ℕ) → drop 1 ws ≡ put a k → Formed l 4 a → Tells ws (Part 2 middle) (contract1 HD a)
+    cons-head : (l : Lang) (a : Term l) (k : List ℕ) → drop 1 ws ≡ put a k → Formed l 4 a → Tells ws (Becomes (Part 2 middle)) (contract1 HD a)
     unfolding contract1 onList form
-    cons-head l a k q (is-cons v w) = sym (head-stands l v w k q .own)
+    cons-head l a k q (is-cons v w) = (_, refl, sym (head-stands l v w k q .own))
 
-    pub list-head : (scheme : Bool) → OfList ws true scheme (Part 2 middle)
+    pub list-head : (scheme : Bool) → OfList ws true scheme (Becomes (Part 2 middle))
     list-head scheme = record { of = λ l a k q s. cons-head l a k q (part-form l a k q 4 h) }
 
     cons-tail : (l : Lang) (a : Term l) (k : List ℕ) → drop 1 ws ≡ put a k → end ≡ 1 + size a → Formed l 4 a
-        → Tells ws (Part middle end) (contract1 TL a)
+        → Tells ws (Becomes (Part middle end)) (contract1 TL a)
     unfolding contract1 onList form size
     cons-tail l a k q i (is-cons v w) =
-        let z = head-stands l v w k q in sym (sized (term l) w k ws middle end (z .after) (omega (arith, i, z .end)) .own)
+        let z = head-stands l v w k q in (_, refl, sym (sized (term l) w k ws middle end (z .after) (omega (arith, i, z .end)) .own))
 
-    pub list-tail : (scheme : Bool) → OfList ws false scheme (Part middle end)
+    pub list-tail : (scheme : Bool) → OfList ws false scheme (Becomes (Part middle end))
     list-tail scheme = record { of = λ l a k q s. cons-tail l a k q (part-end l a k q) (part-form l a k q 4 h) }
 
   -- The operator's rule.
@@ -205,33 +200,33 @@ module _ (ws : List ℕ) (form-number end : ℕ) (f : FirstPart ws form-number e
     op-of l o a k q n e =
         subst (λ (j : ℕ). Unary l j o) (sym (ap (λ (v : List ℕ). operator1 (getD v 0 0)) q) ∙ sym op-is ∙ e) (unary l o)
 
-    one-of-fix : (r : Rule) → OfFix ws r → (l : Lang) (o : Op1 l) (a : Term l) (k : List ℕ) → ws ≡ put (op1 o a) k → Unary l 2 o
+    one-of-fix : (r : Became) → OfFix ws r → (l : Lang) (o : Op1 l) (a : Term l) (k : List ℕ) → ws ≡ put (op1 o a) k → Unary l 2 o
         → Tells ws r (contract1 o a)
     one-of-fix r g l o a k q is-fix = g .of a k q
 
-    pub one-fix : (r : Rule) → op ≡ 2 → OfFix ws r → OfOne ws r
+    pub one-fix : (r : Became) → op ≡ 2 → OfFix ws r → OfOne ws r
     one-fix r e g = record { of = λ l o a k q. one-of-fix r g l o a k q (op-of l o a k q 2 e) }
 
-    one-of-null : (l : Lang) (o : Op1 l) (a : Term l) → Formed l form-number a → Unary l 3 o → Tells ws (nullRule form-number) (contract1 o a)
+    one-of-null : (l : Lang) (o : Op1 l) (a : Term l) → Formed l form-number a → Unary l 3 o → Tells ws (nullBy form-number) (contract1 o a)
     one-of-null l o a g is-null = null-told ws a form-number g
 
-    pub one-null : op ≡ 3 → OfOne ws (nullRule form-number)
+    pub one-null : op ≡ 3 → OfOne ws (nullBy form-number)
     unfolding put
     one-null e = record { of = λ l o a k q. one-of-null l o a (part-form l a k (ap (drop 1) q) form-number refl) (op-of l o a k q 3 e) }
 
     one-of-test : (l : Lang) (o : Op1 l) (a : Term l) (k : List ℕ) → ws ≡ put (op1 o a) k → form-number ≡ formNumber (form a) → Unary l 4 o
-        → Tells ws (Number 33 (answerBy (getD ws 0 0 / 256) form-number)) (contract1 o a)
+        → Tells ws (Becomes (Number 33 (answerBy (getD ws 0 0 / 256) form-number))) (contract1 o a)
     unfolding contract1 put
     one-of-test l o a k q e (is-test t) =
         let z : getD ws 0 0 / 256 ≡ testNumber t = ap (λ (v : List ℕ). getD v 0 0 / 256) q ∙ omega arith in
-        ap (λ (n : ℕ). word 33 n ∷ []) (sym (rw (z, e) (answer-by t (form a))))
+        (_, refl, ap (λ (n : ℕ). word 33 n ∷ []) (sym (rw (z, e) (answer-by t (form a)))))
 
-    pub one-test : op ≡ 4 → OfOne ws (Number 33 (answerBy (getD ws 0 0 / 256) form-number))
+    pub one-test : op ≡ 4 → OfOne ws (Becomes (Number 33 (answerBy (getD ws 0 0 / 256) form-number)))
     unfolding put
     one-test e = record { of = λ l o a k q. one-of-test l o a k q (f .form-is ∙ form-at l a k (drop 1 ws) (ap (drop 1) q)) (op-of l o a k q 4 e) }
 
     -- The code says which of hd and tl it is, and of which language.
-    pub one-list : (r : Rule) → (op ≡ 2 → ⊥) → (op ≡ 3 → ⊥) → (op ≡ 4 → ⊥) → OfList ws (eqb op 0) (leb 32 (getD ws 0 0)) r → OfOne ws r
+    pub one-list : (r : Became) → (op ≡ 2 → ⊥) → (op ≡ 3 → ⊥) → (op ≡ 4 → ⊥) → OfList ws (eqb op 0) (leb 32 (getD ws 0 0)) r → OfOne ws r
     unfolding put
     one-list r h i j g =
         record {
@@ -241,12 +236,12 @@ module _ (ws : List ℕ) (form-number end : ℕ) (f : FirstPart ws form-number e
         }
 
 -- The same where the code knows which it is.
-pub known-list : {ws : List ℕ} {first scheme f s : Bool} {r : Rule} → f ≡ first → s ≡ scheme → OfList ws first scheme r → OfList ws f s r
+pub known-list : {ws : List ℕ} {first scheme f s : Bool} {r : Became} → f ≡ first → s ≡ scheme → OfList ws first scheme r → OfList ws f s r
 known-list {ws} {first} {scheme} {f} {s} {r} e g h =
     record { of = λ l a k q i. subst (λ (b : Bool). Tells ws r (contract1 (part b) a)) (sym e) (h .of l a k q (sym g ∙ i)) }
 
 -- No part at all.
-pub one-none : (ws : List ℕ) (end : ℕ) → end ≡ 1 + span (drop 1 ws) 1 → end < 2 → OfOne ws Stuck
+pub one-none : (ws : List ℕ) (end : ℕ) → end ≡ 1 + span (drop 1 ws) 1 → end < 2 → OfOne ws Nothing
 unfolding put
 one-none ws end e h =
     record { of = λ l o a k q. absurd (omega (arith, e, h, span-tree (term l) a k (drop 1 ws) (ap (drop 1) q), size-some l a)) }

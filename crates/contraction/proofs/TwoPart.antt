@@ -10,13 +10,15 @@ use native.Mathlib.Omega.{arith}
 use Rattle.calculus.specs.Trees.{Lang, ml, sc, Op2, APP, ADD, SUB, CONS, Term, num, lam, op2, wrong, numbers}
 use Rattle.calculus.specs.Words.{word2, largest, put, putTy}
 use Rattle.calculus.specs.Kinds.{type, term}
-use Rattle.calculus.specs.Reduction.{form, Became, becomes, amiss, onNumber, onLambda, onNumbers, contract2}
+use Rattle.calculus.specs.Reduction as calculus
+use Rattle.calculus.specs.Reduction.{form, becomes, amiss, onNumber, onLambda, onNumbers, contract2}
 use Rattle.writing.specs.Spans.{span}
 use Rattle.writing.proofs.Measures.{span-tree}
-use Rattle.contraction.specs.declared.rules.Rule.{Rule}
-use Rattle.contraction.specs.declared.rules.Rule.the-variants.{Stuck, Substituted}
+use Rattle.contraction.specs.declared.became.Became.{Became}
+use Rattle.contraction.specs.declared.became.Became.the-variants.{Nothing, Becomes}
+use Rattle.contraction.specs.declared.became.Piece.the-variants.{Substituted}
 use Rattle.contraction.specs.Forms.{formAt, isScheme, operator2}
-use Rattle.contraction.specs.Told.{Tells, amissRule, numberRule, overRule, sumRule}
+use Rattle.contraction.specs.Told.{Tells, amissIn, numberIn, overIn, sumIn}
 use Rattle.contraction.specs.Chosen.{TwoParts, OfApply, OfTwo}
 use Rattle.contraction.proofs.Views.{Formed, is-number, is-function, by-form, size-some}
 use Rattle.contraction.proofs.Parts.{Stands, stands}
@@ -50,15 +52,15 @@ scheme-2 ml SUB = refl
 scheme-2 sc SUB = refl
 
 over-told : (ws : List ℕ) (l : Lang) (n : ℕ) (b : Bool)
-    → Tells {l = l} ws (cond b (numberRule (isScheme l) n) (overRule (isScheme l))) (becomes (cond b (num n) (wrong 5 (numbers l))))
+    → Tells {l = l} ws (cond b (numberIn (isScheme l) n) (overIn (isScheme l))) (becomes (cond b (num n) (wrong 5 (numbers l))))
 unfolding put putTy
 over-told ws l n true = number-told ws l n
-over-told ws ml n false = refl
-over-told ws sc n false = refl
+over-told ws ml n false = (_, refl, refl)
+over-told ws sc n false = (_, refl, refl)
 
 -- add and subtract look at both numbers.
-number-op : (ws : List ℕ) (r : Rule) (l : Lang) (o : Op2) (a b : Term l) (n : ℕ) → Binary n o → (n ≡ 0 → ⊥) → (n ≡ 1 → ⊥)
-    → ((f : ℕ → ℕ → Became l) → Tells ws r (onNumbers l a b f)) → Tells ws r (contract2 l o a b)
+number-op : (ws : List ℕ) (r : Became) (l : Lang) (o : Op2) (a b : Term l) (n : ℕ) → Binary n o → (n ≡ 0 → ⊥) → (n ≡ 1 → ⊥)
+    → ((f : ℕ → ℕ → calculus.Became l) → Tells ws r (onNumbers l a b f)) → Tells ws r (contract2 l o a b)
 unfolding contract2
 number-op ws r l o a b n is-apply h i g = absurd (h refl)
 number-op ws r l o a b n op-cons h i g = absurd (i refl)
@@ -76,34 +78,34 @@ module _ (ws : List ℕ) (form-number middle end : ℕ) (p : TwoParts ws form-nu
   first-form : (l : Lang) (a : Term l) (k : List ℕ) → drop 1 ws ≡ put a k → (n : ℕ) → form-number ≡ n → Formed l n a
   first-form l a k q n e = by-form l a k (drop 1 ws) q n (sym (p .form-is) ∙ e)
 
-  pub apply-other : (scheme : Bool) → (form-number ≡ 2 → ⊥) → OfApply ws scheme (amissRule scheme 2)
+  pub apply-other : (scheme : Bool) → (form-number ≡ 2 → ⊥) → OfApply ws scheme (amissIn scheme 2)
   unfolding contract2
   apply-other scheme h =
       record {
         of = λ l f v k q s.
-            rw s (subst (Tells ws (amissRule (isScheme l) 2)) (sym (no-lambda (amiss l 2) _ (first-form l f (put v k) q form-number refl) h))
+            rw s (subst (Tells ws (amissIn (isScheme l) 2)) (sym (no-lambda (amiss l 2) _ (first-form l f (put v k) q form-number refl) h))
             (amiss-told ws l 2));
       }
 
   apply-sc : (l : Lang) (f v : Term l) (k : List ℕ) → drop 1 ws ≡ put f (put v k) → true ≡ isScheme l → Formed l 2 f
-      → Tells ws (Substituted 32 2 middle end) (contract2 l APP f v)
+      → Tells ws (Becomes (Substituted 32 2 middle end)) (contract2 l APP f v)
   unfolding contract2 onLambda form put
   apply-sc ml f v k q s (is-function t b) = absurd (subst T s tt)
   apply-sc sc f v k q s (is-function t b) =
-      (v, b, put v k, refl, sym (drop-drop 1 1 ws) ∙ ap (drop 1) q, second-stands sc (lam t b) v k q .own, refl)
+      (_, refl, (v, b, put v k, refl, sym (drop-drop 1 1 ws) ∙ ap (drop 1) q, second-stands sc (lam t b) v k q .own, refl))
 
-  pub apply-scheme : form-number ≡ 2 → OfApply ws true (Substituted 32 2 middle end)
+  pub apply-scheme : form-number ≡ 2 → OfApply ws true (Becomes (Substituted 32 2 middle end))
   apply-scheme h = record { of = λ l f v k q s. apply-sc l f v k q s (first-form l f (put v k) q 2 h) }
 
   apply-in-ml : (body : ℕ) → body ≡ 2 + span (drop 2 ws) 1 → (l : Lang) (f v : Term l) (k : List ℕ) → drop 1 ws ≡ put f (put v k)
-      → false ≡ isScheme l → Formed l 2 f → Tells ws (Substituted 16 body middle end) (contract2 l APP f v)
+      → false ≡ isScheme l → Formed l 2 f → Tells ws (Becomes (Substituted 16 body middle end)) (contract2 l APP f v)
   unfolding contract2 onLambda form put
   apply-in-ml body e ml f v k q s (is-function t b) =
       let at-2 = sym (drop-drop 1 1 ws) ∙ ap (drop 1) q in
-      (v, b, put v k, refl, stands type t (put b (put v k)) ws 2 body at-2 e .after, second-stands ml (lam t b) v k q .own, refl)
+      (_, refl, (v, b, put v k, refl, stands type t (put b (put v k)) ws 2 body at-2 e .after, second-stands ml (lam t b) v k q .own, refl))
   apply-in-ml body e sc f v k q s (is-function t b) = absurd (subst T (sym s) tt)
 
-  pub apply-ml : (body : ℕ) → body ≡ 2 + span (drop 2 ws) 1 → form-number ≡ 2 → OfApply ws false (Substituted 16 body middle end)
+  pub apply-ml : (body : ℕ) → body ≡ 2 + span (drop 2 ws) 1 → form-number ≡ 2 → OfApply ws false (Becomes (Substituted 16 body middle end))
   apply-ml body e h = record { of = λ l f v k q s. apply-in-ml body e l f v k q s (first-form l f (put v k) q 2 h) }
 
   -- The operator's rule.
@@ -121,27 +123,27 @@ module _ (ws : List ℕ) (form-number middle end : ℕ) (p : TwoParts ws form-nu
     unfolding put
     tail-of l o a b k q = ap (drop 1) q
 
-    two-of-apply : (r : Rule) → OfApply ws (leb 32 (getD ws 0 0)) r → (l : Lang) (o : Op2) (a b : Term l) (k : List ℕ)
+    two-of-apply : (r : Became) → OfApply ws (leb 32 (getD ws 0 0)) r → (l : Lang) (o : Op2) (a b : Term l) (k : List ℕ)
         → ws ≡ put (op2 o a b) k → Binary 0 o → Tells ws r (contract2 l o a b)
     two-of-apply r g l o a b k q is-apply = g .of l a b k (tail-of l APP a b k q) (lang-of l APP a b k q)
 
-    pub two-apply : (r : Rule) → op ≡ 0 → OfApply ws (leb 32 (getD ws 0 0)) r → OfTwo ws r
+    pub two-apply : (r : Became) → op ≡ 0 → OfApply ws (leb 32 (getD ws 0 0)) r → OfTwo ws r
     two-apply r e g = record { of = λ l o a b k q. two-of-apply r g l o a b k q (op-of l o a b k q 0 e) }
 
-    two-of-cons : (l : Lang) (o : Op2) (a b : Term l) → Binary 1 o → Tells ws Stuck (contract2 l o a b)
+    two-of-cons : (l : Lang) (o : Op2) (a b : Term l) → Binary 1 o → Tells ws Nothing (contract2 l o a b)
     unfolding contract2
     two-of-cons l o a b op-cons = refl
 
-    pub two-cons : op ≡ 1 → OfTwo ws Stuck
+    pub two-cons : op ≡ 1 → OfTwo ws Nothing
     two-cons e = record { of = λ l o a b k q. two-of-cons l o a b (op-of l o a b k q 1 e) }
 
     module _ (no-apply : op ≡ 0 → ⊥) (no-cons : op ≡ 1 → ⊥) where
-      first-amiss : (l : Lang) (a b : Term l) (f : ℕ → ℕ → Became l) → Formed l form-number a → (form-number ≡ 1 → ⊥)
-          → Tells ws (amissRule (isScheme l) 1) (onNumbers l a b f)
+      first-amiss : (l : Lang) (a b : Term l) (f : ℕ → ℕ → calculus.Became l) → Formed l form-number a → (form-number ≡ 1 → ⊥)
+          → Tells ws (amissIn (isScheme l) 1) (onNumbers l a b f)
       unfolding onNumbers
-      first-amiss l a b f g h = subst (Tells ws (amissRule (isScheme l) 1)) (sym (no-number (amiss l 1) _ g h)) (amiss-told ws l 1)
+      first-amiss l a b f g h = subst (Tells ws (amissIn (isScheme l) 1)) (sym (no-number (amiss l 1) _ g h)) (amiss-told ws l 1)
 
-      pub two-no-number : (form-number ≡ 1 → ⊥) → OfTwo ws (amissRule (leb 32 (getD ws 0 0)) 1)
+      pub two-no-number : (form-number ≡ 1 → ⊥) → OfTwo ws (amissIn (leb 32 (getD ws 0 0)) 1)
       two-no-number h =
           record {
             of = λ l o a b k q.
@@ -154,12 +156,12 @@ module _ (ws : List ℕ) (form-number middle end : ℕ) (p : TwoParts ws form-nu
         second-form : (l : Lang) (o : Op2) (a b : Term l) (k : List ℕ) → ws ≡ put (op2 o a b) k → (n : ℕ) → second ≡ n → Formed l n b
         second-form l o a b k q n e = by-form l b k (drop middle ws) (first-stands l a b k (tail-of l o a b k q) .after) n (sym second-is ∙ e)
 
-        second-amiss : (l : Lang) (a b : Term l) (f : ℕ → ℕ → Became l) → Formed l 1 a → Formed l second b → (second ≡ 1 → ⊥)
-            → Tells ws (amissRule (isScheme l) 1) (onNumbers l a b f)
+        second-amiss : (l : Lang) (a b : Term l) (f : ℕ → ℕ → calculus.Became l) → Formed l 1 a → Formed l second b → (second ≡ 1 → ⊥)
+            → Tells ws (amissIn (isScheme l) 1) (onNumbers l a b f)
         unfolding onNumbers onNumber form
-        second-amiss l a b f (is-number n) g i = subst (Tells ws (amissRule (isScheme l) 1)) (sym (no-number (amiss l 1) _ g i)) (amiss-told ws l 1)
+        second-amiss l a b f (is-number n) g i = subst (Tells ws (amissIn (isScheme l) 1)) (sym (no-number (amiss l 1) _ g i)) (amiss-told ws l 1)
 
-        pub two-no-second : (second ≡ 1 → ⊥) → OfTwo ws (amissRule (leb 32 (getD ws 0 0)) 1)
+        pub two-no-second : (second ≡ 1 → ⊥) → OfTwo ws (amissIn (leb 32 (getD ws 0 0)) 1)
         two-no-second i =
             record {
               of = λ l o a b k q.
@@ -170,14 +172,14 @@ module _ (ws : List ℕ) (form-number middle end : ℕ) (p : TwoParts ws form-nu
 
         module _ (g : second ≡ 1) (x y : ℕ) (x-is : x ≡ getD (drop 1 ws) 0 0 / 256) (y-is : y ≡ getD (drop middle ws) 0 0 / 256) where
           plus-told : (l : Lang) (o : Op2) (a b : Term l) (k : List ℕ) → ws ≡ put (op2 o a b) k → Binary 2 o → Formed l 1 a → Formed l 1 b
-              → Tells ws (sumRule (isScheme l) x y) (contract2 l o a b)
+              → Tells ws (sumIn (isScheme l) x y) (contract2 l o a b)
           unfolding contract2 onNumbers onNumber form
           plus-told l o a b k q is-plus (is-number n) (is-number m) =
               let t = tail-of l ADD a b k q in
               rw (x-is ∙ number-of l n (put (num m) k) (drop 1 ws) t, y-is ∙ number-of l m k (drop middle ws) (first-stands l a b k t .after))
               (over-told ws l (n + m) (leb (n + m) largest))
 
-          pub two-plus : op ≡ 2 → OfTwo ws (sumRule (leb 32 (getD ws 0 0)) x y)
+          pub two-plus : op ≡ 2 → OfTwo ws (sumIn (leb 32 (getD ws 0 0)) x y)
           two-plus e =
               record {
                 of = λ l o a b k q.
@@ -187,7 +189,7 @@ module _ (ws : List ℕ) (form-number middle end : ℕ) (p : TwoParts ws form-nu
               }
 
           minus-told : (l : Lang) (o : Op2) (a b : Term l) (k : List ℕ) → ws ≡ put (op2 o a b) k → (n : ℕ) → Binary n o → (n ≡ 0 → ⊥) → (n ≡ 1 → ⊥)
-              → (n ≡ 2 → ⊥) → Formed l 1 a → Formed l 1 b → Tells ws (numberRule (isScheme l) (x - y)) (contract2 l o a b)
+              → (n ≡ 2 → ⊥) → Formed l 1 a → Formed l 1 b → Tells ws (numberIn (isScheme l) (x - y)) (contract2 l o a b)
           unfolding contract2 onNumbers onNumber form
           minus-told l o a b k q n is-apply i j u v w = absurd (i refl)
           minus-told l o a b k q n op-cons i j u v w = absurd (j refl)
@@ -197,7 +199,7 @@ module _ (ws : List ℕ) (form-number middle end : ℕ) (p : TwoParts ws form-nu
               rw (x-is ∙ number-of l v (put (num w) k) (drop 1 ws) t, y-is ∙ number-of l w k (drop middle ws) (first-stands l a b k t .after))
               (number-told ws l (v - w))
 
-          pub two-minus : (op ≡ 2 → ⊥) → OfTwo ws (numberRule (leb 32 (getD ws 0 0)) (x - y))
+          pub two-minus : (op ≡ 2 → ⊥) → OfTwo ws (numberIn (leb 32 (getD ws 0 0)) (x - y))
           two-minus e =
               record {
                 of = λ l o a b k q.
@@ -207,11 +209,11 @@ module _ (ws : List ℕ) (form-number middle end : ℕ) (p : TwoParts ws form-nu
               }
 
 -- No part at all.
-pub two-none : (ws : List ℕ) (middle : ℕ) → middle ≡ 1 + span (drop 1 ws) 1 → middle < 2 → OfTwo ws Stuck
+pub two-none : (ws : List ℕ) (middle : ℕ) → middle ≡ 1 + span (drop 1 ws) 1 → middle < 2 → OfTwo ws Nothing
 unfolding put
 two-none ws middle e h =
     record { of = λ l o a b k q. absurd (omega (arith, e, h, span-tree (term l) a (put b k) (drop 1 ws) (ap (drop 1) q), size-some l a)) }
 
 -- The same where the code knows the language.
-pub known-apply : {ws : List ℕ} {scheme s : Bool} {r : Rule} → s ≡ scheme → OfApply ws scheme r → OfApply ws s r
+pub known-apply : {ws : List ℕ} {scheme s : Bool} {r : Became} → s ≡ scheme → OfApply ws scheme r → OfApply ws s r
 known-apply e h = record { of = λ l f v k q i. h .of l f v k q (sym e ∙ i) }

@@ -1,4 +1,4 @@
--- What each choice of a rule is to answer: for the node that the words start with, whichever it is, the rule tells what it becomes.
+-- What each function is to answer: for the node that the words start with, whichever it is, what it becomes.
 use Prim.Native.Nat.{ℕ, _+_, _≤_}
 use mathlib.Core.Bool.{Bool}
 use mathlib.Core.List.{List}
@@ -9,7 +9,8 @@ use Rattle.calculus.specs.Words.{put, putTy, words}
 use Rattle.calculus.specs.Reduction.{contract, contract1, contract2, toML, toScheme}
 use Rattle.writing.specs.Spans.{span}
 use Rattle.writing.specs.Wrote.{Wrote}
-use Rattle.contraction.specs.declared.rules.Rule.{Rule}
+use Rattle.contraction.specs.declared.became.Became.{Became}
+use Rattle.contraction.specs.declared.became.Piece.{Piece}
 use Rattle.contraction.specs.Forms.{formAt, isScheme}
 use Rattle.contraction.specs.Told.{Gives, Tells, part, from, converted}
 
@@ -25,13 +26,13 @@ pub record FirstPart (ws : List ℕ) (form end : ℕ) : Type 0 where
   pub least : 2 ≤ end
   pub most : end ≤ length ws
 
-pub record OfFix (ws : List ℕ) (r : Rule) : Type 0 where
+pub record OfFix (ws : List ℕ) (r : Became) : Type 0 where
   pub of : (a : Term ml) (k : List ℕ) → ws ≡ put (fix a) k → Tells ws r (contract1 FIX a)
 
-pub record OfList (ws : List ℕ) (first scheme : Bool) (r : Rule) : Type 0 where
+pub record OfList (ws : List ℕ) (first scheme : Bool) (r : Became) : Type 0 where
   pub of : (l : Lang) (a : Term l) (k : List ℕ) → drop 1 ws ≡ put a k → scheme ≡ isScheme l → Tells ws r (contract1 (part first) a)
 
-pub record OfOne (ws : List ℕ) (r : Rule) : Type 0 where
+pub record OfOne (ws : List ℕ) (r : Became) : Type 0 where
   pub of : (l : Lang) (o : Op1 l) (a : Term l) (k : List ℕ) → ws ≡ put (op1 o a) k → Tells ws r (contract1 o a)
 
 -- What is known of a node's first two parts: the first one's form, and where the words of each end.
@@ -43,13 +44,13 @@ pub record TwoParts (ws : List ℕ) (form middle end : ℕ) : Type 0 where
   pub order : middle ≤ end
   pub most : end ≤ length ws
 
-pub record OfApply (ws : List ℕ) (scheme : Bool) (r : Rule) : Type 0 where
+pub record OfApply (ws : List ℕ) (scheme : Bool) (r : Became) : Type 0 where
   pub of : (l : Lang) (f v : Term l) (k : List ℕ) → drop 1 ws ≡ put f (put v k) → scheme ≡ isScheme l → Tells ws r (contract2 l APP f v)
 
-pub record OfTwo (ws : List ℕ) (r : Rule) : Type 0 where
+pub record OfTwo (ws : List ℕ) (r : Became) : Type 0 where
   pub of : (l : Lang) (o : Op2) (a b : Term l) (k : List ℕ) → ws ≡ put (op2 o a b) k → Tells ws r (contract2 l o a b)
 
-pub record OfIf (ws : List ℕ) (r : Rule) : Type 0 where
+pub record OfIf (ws : List ℕ) (r : Became) : Type 0 where
   pub of : (l : Lang) (a b c : Term l) (k : List ℕ) → ws ≡ put (if0 a b c) k → Tells ws r (contract (if0 a b c))
 
 -- ms and sm: the value's form, where its words start and where they end.
@@ -62,23 +63,23 @@ pub record Value (ws : List ℕ) (form value end : ℕ) : Type 0 where
   pub most : end ≤ length ws
 
 -- At the type t, whose words stand from 1 up to the value.
-pub record AtType (ws : List ℕ) (scheme : Bool) (r : Rule) (t : Ty) : Type 0 where
+pub record AtType (ws : List ℕ) (scheme : Bool) (r : Became) (t : Ty) : Type 0 where
   pub of : (l : Lang) (v : Term (from l)) (k : List ℕ) → drop 1 ws ≡ putTy t (put v k) → scheme ≡ isScheme l → Tells ws r (converted l t v)
 
-pub record AtList (ws : List ℕ) (scheme : Bool) (r : Rule) : Type 0 where
+pub record AtList (ws : List ℕ) (scheme : Bool) (r : Became) : Type 0 where
   pub of : (t : Ty) → AtType ws scheme r (list t)
 
-pub record AtFunction (ws : List ℕ) (scheme : Bool) (r : Rule) : Type 0 where
+pub record AtFunction (ws : List ℕ) (scheme : Bool) (r : Became) : Type 0 where
   pub of : (t u : Ty) → AtType ws scheme r (t to u)
 
-pub record OfBoundary (ws : List ℕ) (r : Rule) : Type 0 where
+pub record OfBoundary (ws : List ℕ) (r : Became) : Type 0 where
   pub ms-told : (t : Ty) (v : Term sc) (k : List ℕ) → ws ≡ put (ms t v) k → Tells ws r (toML t v)
   pub sm-told : (t : Ty) (v : Term ml) (k : List ℕ) → ws ≡ put (sm t v) k → Tells ws r (toScheme t v)
 
 -- Whichever node it is.
-pub record OfNode (ws : List ℕ) (r : Rule) : Type 0 where
+pub record OfNode (ws : List ℕ) (r : Became) : Type 0 where
   pub of : (l : Lang) (e : Term l) (k : List ℕ) → ws ≡ put e k → Tells ws r (contract e)
 
--- What is written by a rule: the words of what it gives.
-pub record Writes (ws : List ℕ) (r : Rule) (b : List ℕ) (n k : ℕ) (b′ : List ℕ) : Type 0 where
-  pub of : (l : Lang) (u : Term l) → Gives ws r u → Wrote b n (words u) k b′
+-- What is written of a piece: the words of what it gives.
+pub record Writes (ws : List ℕ) (p : Piece) (b : List ℕ) (n k : ℕ) (b′ : List ℕ) : Type 0 where
+  pub of : (l : Lang) (u : Term l) → Gives ws p u → Wrote b n (words u) k b′

@@ -1,4 +1,4 @@
--- What a rule that was chosen writes, and that it tells what a node becomes.
+-- What a piece writes, and that the code's answer tells what a node becomes.
 use Prim.Native.Nat.{ℕ, _+_, _-_, _≤_}
 use mathlib.Core.Bool.{Bool, true, false, cond}
 use mathlib.Core.List.{List, [], _∷_, _++_}
@@ -7,17 +7,20 @@ use lib.Dec.{eqb, leb}
 use lib.ListN.{take, drop}
 use Rattle.calculus.specs.Trees.{Ty, Lang, ml, sc, Op1, HD, TL, Term}
 use Rattle.calculus.specs.Words.{word, by, put, words}
-use Rattle.calculus.specs.Reduction.{Became, becomes, raises, nothing, substitute, toML, toScheme}
-use Rattle.contraction.specs.declared.rules.Rule.{Rule}
-use Rattle.contraction.specs.declared.rules.Rule.the-variants.{Stuck, Raised, Number, Part, Led, Led2, Items, IntoML, IntoScheme, Substituted}
+use Rattle.calculus.specs.Reduction as calculus
+use Rattle.calculus.specs.Reduction.{becomes, raises, nothing, substitute, toML, toScheme}
+use Rattle.contraction.specs.declared.became.Became.{Became}
+use Rattle.contraction.specs.declared.became.Became.the-variants.{Nothing, Raises, Becomes}
+use Rattle.contraction.specs.declared.became.Piece.{Piece}
+use Rattle.contraction.specs.declared.became.Piece.the-variants.{Number, Part, Led, Led2, Cons, IntoML, IntoScheme, Substituted}
 
 -- The words from a place to another.
 abbrev pub stretch : ℕ → ℕ → List ℕ → List ℕ
 stretch a e ws = take (e - a) (drop a ws)
 
--- The words of a list and of a function brought over, from where they stand.
-abbrev pub itemsWords : ℕ → ℕ → ℕ → ℕ → ℕ → List ℕ → List ℕ
-itemsWords q m v t e ws = q ∷ ((m ∷ stretch 2 v ws) ++ (stretch (v + 1) t ws ++ ((m ∷ stretch 1 v ws) ++ stretch t e ws)))
+-- The words of a cons and of a lambda brought over, from where they stand.
+abbrev pub consWords : ℕ → ℕ → ℕ → ℕ → ℕ → List ℕ → List ℕ
+consWords c m v t e ws = c ∷ ((m ∷ stretch 2 v ws) ++ (stretch (v + 1) t ws ++ ((m ∷ stretch 1 v ws) ++ stretch t e ws)))
 
 abbrev pub intoMLWords : ℕ → ℕ → ℕ → List ℕ → List ℕ
 intoMLWords s v e ws = (18 ∷ stretch 2 s ws) ++ ((30 ∷ stretch s v ws) ++ ((35 ∷ stretch v e ws) ++ ((45 ∷ stretch 2 s ws) ++ (16 ∷ []))))
@@ -25,62 +28,65 @@ intoMLWords s v e ws = (18 ∷ stretch 2 s ws) ++ ((30 ∷ stretch s v ws) ++ ((
 abbrev pub intoSchemeWords : ℕ → ℕ → ℕ → List ℕ → List ℕ
 intoSchemeWords s v e ws = 34 ∷ ((45 ∷ stretch s v ws) ++ ((19 ∷ stretch v e ws) ++ ((30 ∷ stretch 2 s ws) ++ (32 ∷ []))))
 
--- The rule writes the words of u, where ws are the words from the node on.
-abbrev pub Gives : {l : Lang} → List ℕ → Rule → Term l → Type 0
-Gives ws Stuck u = ⊥
-Gives ws (Raised c) u = ⊥
+-- The piece writes the words of u, where ws are the words from the node on.
+abbrev pub Gives : {l : Lang} → List ℕ → Piece → Term l → Type 0
 Gives ws (Number k n) u = words u ≡ word k n ∷ []
 Gives ws (Part a e) u = words u ≡ stretch a e ws
 Gives ws (Led w a e) u = words u ≡ w ∷ stretch a e ws
 Gives ws (Led2 w v a e) u = words u ≡ w ∷ v ∷ stretch a e ws
-Gives ws (Items q m v t e) u = words u ≡ itemsWords q m v t e ws
+Gives ws (Cons c m v t e) u = words u ≡ consWords c m v t e ws
 Gives ws (IntoML s v e) u = words u ≡ intoMLWords s v e ws
 Gives ws (IntoScheme s v e) u = words u ≡ intoSchemeWords s v e ws
 Gives {l} ws (Substituted x b a e) u =
     (v : Term l) × (body : Term l) × (k : List ℕ) × (x ≡ by l 16 32) × (drop b ws ≡ put body k)
     × (stretch a e ws ≡ words v) × (u ≡ substitute v 0 body)
 
-abbrev pub Tells : {l : Lang} → List ℕ → Rule → Became l → Type 0
-Tells ws r (becomes u) = Gives ws r u
-Tells ws r (raises c) = r ≡ Raised c
-Tells ws r nothing = r ≡ Stuck
+abbrev pub Tells : {l : Lang} → List ℕ → Became → calculus.Became l → Type 0
+Tells ws r (becomes u) = (p : Piece) × (r ≡ Becomes p) × Gives ws p u
+Tells ws r (raises c) = r ≡ Raises c
+Tells ws r nothing = r ≡ Nothing
 
 -- Its places are within n words, and its numbers are small.
-abbrev pub Placed : ℕ → Rule → Type 0
-Placed n Stuck = Unit {0}
-Placed n (Raised c) = Unit {0}
+abbrev pub Placed : ℕ → Piece → Type 0
 Placed n (Number k m) = (k ≤ 33) × (m ≤ 16777215)
 Placed n (Part a e) = (a ≤ e) × (e ≤ n)
 Placed n (Led w a e) = (a ≤ e) × (e ≤ n)
 Placed n (Led2 w v a e) = (a ≤ e) × (e ≤ n)
-Placed n (Items q m v t e) = (2 ≤ v) × (v + 1 ≤ t) × (t ≤ e) × (e ≤ n)
+Placed n (Cons c m v t e) = (2 ≤ v) × (v + 1 ≤ t) × (t ≤ e) × (e ≤ n)
 Placed n (IntoML s v e) = (2 ≤ s) × (s ≤ v) × (v ≤ e) × (e ≤ n)
 Placed n (IntoScheme s v e) = (2 ≤ s) × (s ≤ v) × (v ≤ e) × (e ≤ n)
 Placed n (Substituted x b a e) = (x ≤ 32) × (b ≤ n) × (a ≤ e) × (e ≤ n)
 
--- A rule that looks at numbers alone, as code computes it: a value that no rule takes, null? of ML, a number, a sum.
-abbrev pub amissRule : Bool → ℕ → Rule
-amissRule true c = Led (word 44 c) 0 0
-amissRule false c = Stuck
+abbrev pub Within : ℕ → Became → Type 0
+Within n Nothing = Unit {0}
+Within n (Raises c) = Unit {0}
+Within n (Becomes p) = Placed n p
 
--- A value that has not the type whose words stand from 1 up to v: a wrong in ML.
-abbrev pub refusedRule : Bool → ℕ → ℕ → Rule
-refusedRule true c v = Stuck
-refusedRule false c v = Led (word 29 c) 1 v
+-- What hangs on numbers alone, as code computes it, for Scheme or for ML: a value that no rule takes;
+abbrev pub amissIn : Bool → ℕ → Became
+amissIn true c = Becomes (Led (word 44 c) 0 0)
+amissIn false c = Nothing
 
-abbrev pub numberRule : Bool → ℕ → Rule
-numberRule true n = Number 33 n
-numberRule false n = Number 17 n
+-- a value that has not the type whose words stand from 1 up to v: a wrong in ML;
+abbrev pub misfitIn : Bool → ℕ → ℕ → Became
+misfitIn true c v = Nothing
+misfitIn false c v = Becomes (Led (word 29 c) 1 v)
 
-abbrev pub overRule : Bool → Rule
-overRule true = Led (word 44 5) 0 0
-overRule false = Led2 (word 29 5) 1 0 0
+-- a number, a sum over the greatest number, a sum;
+abbrev pub numberIn : Bool → ℕ → Became
+numberIn true n = Becomes (Number 33 n)
+numberIn false n = Becomes (Number 17 n)
 
-abbrev pub sumRule : Bool → ℕ → ℕ → Rule
-sumRule s n m = cond (leb (n + m) 16777215) (numberRule s (n + m)) (overRule s)
+abbrev pub overIn : Bool → Became
+overIn true = Becomes (Led (word 44 5) 0 0)
+overIn false = Becomes (Led2 (word 29 5) 1 0 0)
 
-abbrev pub nullRule : ℕ → Rule
-nullRule form = cond (eqb form 3) (Number 17 0) (cond (eqb form 4) (Number 17 1) Stuck)
+abbrev pub sumIn : Bool → ℕ → ℕ → Became
+sumIn s n m = cond (leb (n + m) 16777215) (numberIn s (n + m)) (overIn s)
+
+-- null? of ML, by the form.
+abbrev pub nullBy : ℕ → Became
+nullBy form = cond (eqb form 3) (Becomes (Number 17 0)) (cond (eqb form 4) (Becomes (Number 17 1)) Nothing)
 
 -- hd or tl.
 abbrev pub part : {l : Lang} → Bool → Op1 l
@@ -92,6 +98,6 @@ abbrev pub from : Lang → Lang
 from ml = sc
 from sc = ml
 
-abbrev pub converted : (l : Lang) → Ty → Term (from l) → Became l
+abbrev pub converted : (l : Lang) → Ty → Term (from l) → calculus.Became l
 converted ml t v = toML t v
 converted sc t v = toScheme t v

@@ -1,10 +1,11 @@
 // The rules of the operators of two parts, and of if0.
 
+use crate::became::Became;
+use crate::became::Piece;
+use crate::became::amiss;
+use crate::became::numbered;
 use crate::forms::form_at;
 use crate::numbers::number_at;
-use crate::rules::Rule;
-use crate::rules::amiss;
-use crate::rules::numbered;
 use nodes::kinds::Kinds;
 use nodes::words::ml_wrong;
 use nodes::words::scheme_wrong;
@@ -14,7 +15,7 @@ ghost use Prim.Native.Nat.{_≤_, _-_};
 ghost use lib.ListN.{length};
 ghost use Rattle.nodes.specs.Table.{kinds};
 ghost use Rattle.contraction.specs.Forms.{operator2};
-ghost use Rattle.contraction.specs.Told.{Placed, sumRule};
+ghost use Rattle.contraction.specs.Told.{Within, sumIn};
 ghost use Rattle.contraction.specs.Chosen.{Ends, TwoParts, OfApply, OfTwo, OfIf};
 
 const APP: u64 = 0;
@@ -49,17 +50,26 @@ fn operator(w: u32) -> u64
 }
 
 // The sum of two numbers.
-fn sum(scheme: bool, a: u32, b: u32) -> Rule
+fn sum(scheme: bool, a: u32, b: u32) -> Became
     requires { ⌜ (a ≤ 16777215) × (b ≤ 16777215) ⌝ }
-    ensures { λ r. ⌜ r ≡ sumRule scheme a b ⌝ }
+    ensures { λ r. ⌜ r ≡ sumIn scheme a b ⌝ }
 {
     if a + b <= crate::codes::LARGEST {
         return numbered(scheme, a + b);
     }
     if scheme {
-        return Rule::Led(scheme_wrong(crate::codes::OVER), 0, 0);
+        return Became::Becomes(Piece::Led {
+            word: scheme_wrong(crate::codes::OVER),
+            from: 0,
+            to: 0,
+        });
     }
-    Rule::Led2(ml_wrong(crate::codes::OVER), nodes::words::N, 0, 0)
+    Became::Becomes(Piece::Led2 {
+        word: ml_wrong(crate::codes::OVER),
+        next: nodes::words::N,
+        from: 0,
+        to: 0,
+    })
 }
 
 // How much more a is than b, or 0.
@@ -80,30 +90,40 @@ fn of_apply(
     form: u64,
     middle: usize,
     end: usize,
-) -> Rule
+) -> Became
     requires { ⌜ (now table ≡ kinds) × (length (now words) ≤ 1048576) × TwoParts (now words) form middle end ⌝ }
-    ensures placed { λ r. ⌜ Placed (length (now (words .entry))) r ⌝ }
+    ensures placed { λ r. ⌜ Within (length (now (words .entry))) r ⌝ }
     ensures told { λ r. ⌜ OfApply (now (words .entry)) scheme r ⌝ }
 {
     if form != crate::forms::FUNCTION {
         return amiss(scheme, crate::codes::NO_FUNCTION);
     }
     if scheme {
-        return Rule::Substituted(nodes::words::SCHEME_VARIABLE, 2, middle, end);
+        return Became::Becomes(Piece::Substituted {
+            variable: nodes::words::SCHEME_VARIABLE,
+            body: 2,
+            from: middle,
+            to: end,
+        });
     }
     let body = 2 + skip(table, &words[2..], 1);
-    Rule::Substituted(nodes::words::ML_VARIABLE, body, middle, end)
+    Became::Becomes(Piece::Substituted {
+        variable: nodes::words::ML_VARIABLE,
+        body: body,
+        from: middle,
+        to: end,
+    })
 }
 
 // The operators of two parts. The node's words end at `end`.
-pub fn of_two(table: &Kinds, words: &[u32], end: usize) -> Rule
+pub fn contract_2(table: &Kinds, words: &[u32], end: usize) -> Became
     requires { ⌜ (now table ≡ kinds) × (length (now words) ≤ 1048576) × (1 ≤ length (now words)) × Ends 2 (now words) end ⌝ }
-    ensures placed { λ r. ⌜ Placed (length (now (words .entry))) r ⌝ }
+    ensures placed { λ r. ⌜ Within (length (now (words .entry))) r ⌝ }
     ensures told { λ r. ⌜ OfTwo (now (words .entry)) r ⌝ }
 {
     let middle = 1 + skip(table, &words[1..], 1);
     if middle < 2 {
-        return Rule::Stuck;
+        return Became::Nothing;
     }
     let form = form_at(table, &words[1..]);
     let w = words[0];
@@ -113,7 +133,7 @@ pub fn of_two(table: &Kinds, words: &[u32], end: usize) -> Rule
         return of_apply(table, words, scheme, form, middle, end);
     }
     if op == CONS {
-        return Rule::Stuck;
+        return Became::Nothing;
     }
     if form != crate::forms::NUMBER {
         return amiss(scheme, crate::codes::NO_NUMBER);
@@ -130,21 +150,30 @@ pub fn of_two(table: &Kinds, words: &[u32], end: usize) -> Rule
 }
 
 // if0. The node's words end at `end`.
-pub fn of_if(table: &Kinds, words: &[u32], end: usize) -> Rule
+pub fn of_if(table: &Kinds, words: &[u32], end: usize) -> Became
     requires { ⌜ (now table ≡ kinds) × (length (now words) ≤ 1048576) × (1 ≤ length (now words)) × Ends 3 (now words) end ⌝ }
-    ensures placed { λ r. ⌜ Placed (length (now (words .entry))) r ⌝ }
+    ensures placed { λ r. ⌜ Within (length (now (words .entry))) r ⌝ }
     ensures told { λ r. ⌜ OfIf (now (words .entry)) r ⌝ }
 {
     let second = 1 + skip(table, &words[1..], 1);
     let third = second + skip(table, &words[second..], 1);
     if form_at(table, &words[1..]) != crate::forms::NUMBER {
         if words[0] == nodes::words::SCHEME_IF0 {
-            return Rule::Part(third, end);
+            return Became::Becomes(Piece::Part {
+                from: third,
+                to: end,
+            });
         }
-        return Rule::Stuck;
+        return Became::Nothing;
     }
     if number_at(&words[1..]) == 0 {
-        return Rule::Part(second, third);
+        return Became::Becomes(Piece::Part {
+            from: second,
+            to: third,
+        });
     }
-    Rule::Part(third, end)
+    Became::Becomes(Piece::Part {
+        from: third,
+        to: end,
+    })
 }

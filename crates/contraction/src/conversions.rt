@@ -1,9 +1,10 @@
 // The rules of ms and sm: a value of one language is brought into the other.
 
+use crate::became::Became;
+use crate::became::Piece;
+use crate::became::numbered;
 use crate::forms::form_at;
 use crate::numbers::number_at;
-use crate::rules::Rule;
-use crate::rules::numbered;
 use nodes::kinds::Kinds;
 use nodes::words::ml_wrong;
 use writing::spans::skip;
@@ -12,79 +13,107 @@ ghost use Prim.Native.Nat.{_≤_};
 ghost use lib.ListN.{length};
 ghost use Rattle.calculus.specs.Trees.{N, L};
 ghost use Rattle.nodes.specs.Table.{kinds};
-ghost use Rattle.contraction.specs.Told.{Placed, refusedRule};
+ghost use Rattle.contraction.specs.Told.{Within, misfitIn};
 ghost use Rattle.contraction.specs.Chosen.{Ends, Value, AtType, AtList, AtFunction, OfBoundary};
 
 // A value that has not the type, whose words end at `value`: a wrong in ML.
-fn refused(scheme: bool, code: u32, value: usize) -> Rule
+fn misfit(scheme: bool, code: u32, value: usize) -> Became
     requires { ⌜ code ≤ 9 ⌝ }
-    ensures { λ r. ⌜ r ≡ refusedRule scheme code value ⌝ }
+    ensures { λ r. ⌜ r ≡ misfitIn scheme code value ⌝ }
 {
     if scheme {
-        return Rule::Stuck;
+        return Became::Nothing;
     }
-    Rule::Led(ml_wrong(code), 1, value)
+    Became::Becomes(Piece::Led {
+        word: ml_wrong(code),
+        from: 1,
+        to: value,
+    })
 }
 
 // At the type N. The value's form is told; its words stand from `value` to `end`.
-fn at_number(words: &[u32], scheme: bool, form: u64, value: usize, end: usize) -> Rule
+fn at_number(words: &[u32], scheme: bool, form: u64, value: usize, end: usize) -> Became
     requires { ⌜ Value (now words) form value end ⌝ }
-    ensures placed { λ r. ⌜ Placed (length (now (words .entry))) r ⌝ }
+    ensures placed { λ r. ⌜ Within (length (now (words .entry))) r ⌝ }
     ensures told { λ r. ⌜ AtType (now (words .entry)) scheme r N ⌝ }
 {
     if form != crate::forms::NUMBER {
-        return refused(scheme, crate::codes::NO_NUMBER, value);
+        return misfit(scheme, crate::codes::NO_NUMBER, value);
     }
     numbered(scheme, number_at(&words[value..]))
 }
 
 // At the type L: nothing is opened on its way into ML.
-fn at_lump(words: &[u32], scheme: bool, form: u64, value: usize, end: usize) -> Rule
+fn at_lump(words: &[u32], scheme: bool, form: u64, value: usize, end: usize) -> Became
     requires { ⌜ (length (now words) ≤ 1048576) × Value (now words) form value end ⌝ }
-    ensures placed { λ r. ⌜ Placed (length (now (words .entry))) r ⌝ }
+    ensures placed { λ r. ⌜ Within (length (now (words .entry))) r ⌝ }
     ensures told { λ r. ⌜ AtType (now (words .entry)) scheme r L ⌝ }
 {
     if scheme {
         if form != crate::forms::LUMP {
-            return Rule::Stuck;
+            return Became::Nothing;
         }
         if end < value + 2 {
-            return Rule::Stuck;
+            return Became::Nothing;
         }
-        return Rule::Part(value + 2, end);
+        return Became::Becomes(Piece::Part {
+            from: value + 2,
+            to: end,
+        });
     }
-    Rule::Stuck
+    Became::Nothing
 }
 
 // At a type {t}.
-fn at_list(table: &Kinds, words: &[u32], scheme: bool, form: u64, value: usize, end: usize) -> Rule
+fn at_list(
+    table: &Kinds,
+    words: &[u32],
+    scheme: bool,
+    form: u64,
+    value: usize,
+    end: usize,
+) -> Became
     requires { ⌜ (now table ≡ kinds) × (length (now words) ≤ 1048576) × Value (now words) form value end ⌝ }
-    ensures placed { λ r. ⌜ Placed (length (now (words .entry))) r ⌝ }
+    ensures placed { λ r. ⌜ Within (length (now (words .entry))) r ⌝ }
     ensures told { λ r. ⌜ AtList (now (words .entry)) scheme r ⌝ }
 {
     if form == crate::forms::NIL {
         if scheme {
-            return Rule::Led(nodes::words::SCHEME_NIL, 0, 0);
+            return Became::Becomes(Piece::Led {
+                word: nodes::words::SCHEME_NIL,
+                from: 0,
+                to: 0,
+            });
         }
-        return Rule::Led(nodes::words::ML_NIL, 2, value);
+        return Became::Becomes(Piece::Led {
+            word: nodes::words::ML_NIL,
+            from: 2,
+            to: value,
+        });
     }
     if form != crate::forms::CONS {
-        return refused(scheme, crate::codes::NO_LIST, value);
+        return misfit(scheme, crate::codes::NO_LIST, value);
     }
     let tail = value + 1 + skip(table, &words[value + 1..], 1);
     if end < tail {
-        return Rule::Stuck;
+        return Became::Nothing;
     }
     if scheme {
-        return Rule::Items(
-            nodes::words::SCHEME_CONS,
-            nodes::words::SM,
-            value,
-            tail,
-            end,
-        );
+        return Became::Becomes(Piece::Cons {
+            cons: nodes::words::SCHEME_CONS,
+            boundary: nodes::words::SM,
+            value: value,
+            tail: tail,
+            end: end,
+        });
     }
-    Rule::Items(nodes::words::ML_CONS, nodes::words::MS, value, tail, end)
+    Became::Becomes(Piece::Cons {
+        cons: nodes::words::ML_CONS,
+        boundary: nodes::words::MS,
+        value: value,
+        tail: tail,
+        end: end,
+    })
 }
 
 // At a type t to u.
@@ -95,36 +124,44 @@ fn at_function(
     form: u64,
     value: usize,
     end: usize,
-) -> Rule
+) -> Became
     requires { ⌜ (now table ≡ kinds) × (length (now words) ≤ 1048576) × Value (now words) form value end ⌝ }
-    ensures placed { λ r. ⌜ Placed (length (now (words .entry))) r ⌝ }
+    ensures placed { λ r. ⌜ Within (length (now (words .entry))) r ⌝ }
     ensures told { λ r. ⌜ AtFunction (now (words .entry)) scheme r ⌝ }
 {
     if form != crate::forms::FUNCTION {
-        return refused(scheme, crate::codes::NO_FUNCTION, value);
+        return misfit(scheme, crate::codes::NO_FUNCTION, value);
     }
     let second = 2 + skip(table, &words[2..], 1);
     if value < second {
-        return Rule::Stuck;
+        return Became::Nothing;
     }
     if scheme {
-        return Rule::IntoScheme(second, value, end);
+        return Became::Becomes(Piece::IntoScheme {
+            second: second,
+            lambda: value,
+            end: end,
+        });
     }
-    Rule::IntoML(second, value, end)
+    Became::Becomes(Piece::IntoML {
+        second: second,
+        lambda: value,
+        end: end,
+    })
 }
 
 // ms or sm of a value. The node's words end at `end`.
-pub fn of_boundary(table: &Kinds, words: &[u32], end: usize) -> Rule
+pub fn converted(table: &Kinds, words: &[u32], end: usize) -> Became
     requires { ⌜ (now table ≡ kinds) × (length (now words) ≤ 1048576) × (1 ≤ length (now words)) × Ends 2 (now words) end ⌝ }
-    ensures placed { λ r. ⌜ Placed (length (now (words .entry))) r ⌝ }
+    ensures placed { λ r. ⌜ Within (length (now (words .entry))) r ⌝ }
     ensures told { λ r. ⌜ OfBoundary (now (words .entry)) r ⌝ }
 {
     let value = 1 + skip(table, &words[1..], 1);
     if value < 2 {
-        return Rule::Stuck;
+        return Became::Nothing;
     }
     if end < value + 1 {
-        return Rule::Stuck;
+        return Became::Nothing;
     }
     let form = form_at(table, &words[value..]);
     let scheme = words[0] == nodes::words::SM;

@@ -1,5 +1,6 @@
 // The rules of the reduction at a node whose turn it is: which one fits, and what the node becomes, on words.
 
+pub mod became;
 pub mod binary;
 pub mod choices;
 pub mod codes;
@@ -7,5 +8,4 @@ pub mod conversions;
 pub mod forms;
 pub mod numbers;
 pub mod pieces;
-pub mod rules;
 pub mod unary;

@@ -1,7 +1,7 @@
-// What a node becomes, written from the place n on by the rule that was chosen. Words past the end are only counted.
+// What a node becomes, written from the place n on. Words past the end are only counted.
 
+use crate::became::Piece;
 use crate::numbers::put_number;
-use crate::rules::Rule;
 use nodes::kinds::Kinds;
 use writing::copy;
 use writing::put;
@@ -12,9 +12,9 @@ ghost use Prim.Native.Nat.{_+_, _≤_, _^_};
 ghost use lib.ListN.{length};
 ghost use Rattle.nodes.specs.Table.{kinds};
 ghost use Rattle.writing.specs.Wrote.{Wrote};
-ghost use Rattle.contraction.specs.Told.{Placed, stretch, itemsWords, intoMLWords, intoSchemeWords};
+ghost use Rattle.contraction.specs.Told.{Placed, stretch, consWords, intoMLWords, intoSchemeWords};
 ghost use Rattle.contraction.specs.Chosen.{Writes};
-ghost use Rattle.contraction.specs.declared.rules.Rule.the-variants.{Substituted};
+ghost use Rattle.contraction.specs.declared.became.Piece.the-variants.{Substituted};
 
 // A word, and after it the words from a place to another.
 fn lead(w: u32, words: &[u32], a: usize, e: usize, target: &mut [u32], n: usize) -> usize
@@ -27,9 +27,9 @@ fn lead(w: u32, words: &[u32], a: usize, e: usize, target: &mut [u32], n: usize)
 }
 
 // The cons of a head and a tail, each brought over at its type.
-fn items(
-    q: u32,
-    m: u32,
+fn put_cons(
+    cons: u32,
+    boundary: u32,
     words: &[u32],
     value: usize,
     tail: usize,
@@ -39,14 +39,14 @@ fn items(
 ) -> usize
     requires { ⌜ (length (now words) ≤ 1048576) × (n ≤ 2 ^ 45) ⌝ }
     requires { ⌜ (2 ≤ value) × (value + 1 ≤ tail) × (tail ≤ end) × (end ≤ length (now words)) ⌝ }
-    ensures { λ r. ⌜ Wrote (now (target .entry)) n (itemsWords q m value tail end (now (words .entry))) r (now (target .exit)) ⌝ }
+    ensures { λ r. ⌜ Wrote (now (target .entry)) n (consWords cons boundary value tail end (now (words .entry))) r (now (target .exit)) ⌝ }
     ensures bound { λ r. ⌜ (n ≤ r) × (r ≤ n + 8388608) ⌝ }
 {
     let head = value + 1;
-    let a = put(target, n, q);
-    let b = lead(m, words, 2, value, target, a);
+    let a = put(target, n, cons);
+    let b = lead(boundary, words, 2, value, target, a);
     let c = copy(&words[head..tail], target, b);
-    let d = lead(m, words, 1, value, target, c);
+    let d = lead(boundary, words, 1, value, target, c);
     copy(&words[tail..end], target, d)
 }
 
@@ -118,7 +118,7 @@ fn lead_two(
 }
 
 // A body with a value for its variable.
-fn replaced(
+fn substituted(
     table: &Kinds,
     words: &[u32],
     x: u32,
@@ -137,23 +137,45 @@ fn replaced(
     r.at
 }
 
-// What the node that the words start with becomes by the rule. Returns the place after it. The words may be 2^20.
-pub fn contract(table: &Kinds, words: &[u32], rule: Rule, target: &mut [u32], n: usize) -> usize
+// A piece of what the node that the words start with becomes. Returns the place after it. The words may be 2^20.
+pub fn write(table: &Kinds, words: &[u32], piece: Piece, target: &mut [u32], n: usize) -> usize
     requires { ⌜ (now table ≡ kinds) × (length (now words) ≤ 1048576) × (n ≤ 2 ^ 45) ⌝ }
-    requires { ⌜ Placed (length (now words)) rule ⌝ }
-    ensures { λ r. ⌜ Writes (now (words .entry)) rule (now (target .entry)) n r (now (target .exit)) ⌝ }
+    requires { ⌜ Placed (length (now words)) piece ⌝ }
+    ensures { λ r. ⌜ Writes (now (words .entry)) piece (now (target .entry)) n r (now (target .exit)) ⌝ }
     ensures bound { λ r. ⌜ (n ≤ r) × (r ≤ n + 2 ^ 41) ⌝ }
 {
-    match rule {
-        Rule::Stuck => n,
-        Rule::Raised(_) => n,
-        Rule::Number(kind, number) => put_number(kind, number, target, n),
-        Rule::Part(a, e) => copy(&words[a..e], target, n),
-        Rule::Led(w, a, e) => lead(w, words, a, e, target, n),
-        Rule::Led2(w, v, a, e) => lead_two(w, v, words, a, e, target, n),
-        Rule::Items(q, m, value, tail, end) => items(q, m, words, value, tail, end, target, n),
-        Rule::IntoML(second, value, end) => into_ml(words, second, value, end, target, n),
-        Rule::IntoScheme(second, value, end) => into_scheme(words, second, value, end, target, n),
-        Rule::Substituted(x, body, a, e) => replaced(table, words, x, body, a, e, target, n),
+    match piece {
+        Piece::Number { kind, number } => put_number(kind, number, target, n),
+        Piece::Part { from, to } => copy(&words[from..to], target, n),
+        Piece::Led { word, from, to } => lead(word, words, from, to, target, n),
+        Piece::Led2 {
+            word,
+            next,
+            from,
+            to,
+        } => lead_two(word, next, words, from, to, target, n),
+        Piece::Cons {
+            cons,
+            boundary,
+            value,
+            tail,
+            end,
+        } => put_cons(cons, boundary, words, value, tail, end, target, n),
+        Piece::IntoML {
+            second,
+            lambda,
+            end,
+        } => into_ml(words, second, lambda, end, target, n),
+        Piece::IntoScheme {
+            second,
+            lambda,
+            end,
+        } => into_scheme(words, second, lambda, end, target, n),
+        Piece::Substituted {
+            variable,
+            body,
+            from,
+            to,
+        } => substituted(table, words, variable, body, from, to, target, n),
     }
 }

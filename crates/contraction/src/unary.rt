@@ -1,8 +1,9 @@
 // The rules of the operators of one part.
 
+use crate::became::Became;
+use crate::became::Piece;
+use crate::became::amiss;
 use crate::forms::form_at;
-use crate::rules::Rule;
-use crate::rules::amiss;
 use nodes::kinds::Kinds;
 use nodes::words::ml_wrong;
 use nodes::words::scheme_wrong;
@@ -12,7 +13,7 @@ ghost use Prim.Native.Nat.{_≤_};
 ghost use lib.ListN.{length};
 ghost use Rattle.nodes.specs.Table.{kinds};
 ghost use Rattle.contraction.specs.Forms.{answerBy, operator1};
-ghost use Rattle.contraction.specs.Told.{Placed, nullRule};
+ghost use Rattle.contraction.specs.Told.{Within, nullBy};
 ghost use Rattle.contraction.specs.Chosen.{Ends, FirstPart, OfFix, OfList, OfOne};
 
 const HD: u64 = 0;
@@ -78,67 +79,97 @@ fn answer(test: u32, form: u64) -> u32
 }
 
 // null? of ML.
-fn of_null(form: u64) -> Rule
-    ensures { λ r. ⌜ r ≡ nullRule form ⌝ }
+fn of_null(form: u64) -> Became
+    ensures { λ r. ⌜ r ≡ nullBy form ⌝ }
 {
     if form == crate::forms::NIL {
-        return Rule::Number(nodes::words::ML_NUMBER, 0);
+        return Became::Becomes(Piece::Number {
+            kind: nodes::words::ML_NUMBER,
+            number: 0,
+        });
     }
     if form == crate::forms::CONS {
-        return Rule::Number(nodes::words::ML_NUMBER, 1);
+        return Became::Becomes(Piece::Number {
+            kind: nodes::words::ML_NUMBER,
+            number: 1,
+        });
     }
-    Rule::Stuck
+    Became::Nothing
 }
 
 // fix of a value, whose form is told and whose words end at `end`.
-fn of_fix(table: &Kinds, words: &[u32], form: u64, end: usize) -> Rule
+fn of_fix(table: &Kinds, words: &[u32], form: u64, end: usize) -> Became
     requires { ⌜ (now table ≡ kinds) × (length (now words) ≤ 1048576) × FirstPart (now words) form end ⌝ }
-    ensures placed { λ r. ⌜ Placed (length (now (words .entry))) r ⌝ }
+    ensures placed { λ r. ⌜ Within (length (now (words .entry))) r ⌝ }
     ensures told { λ r. ⌜ OfFix (now (words .entry)) r ⌝ }
 {
     if form != crate::forms::FUNCTION {
-        return Rule::Stuck;
+        return Became::Nothing;
     }
     let body = 2 + skip(table, &words[2..], 1);
-    Rule::Substituted(nodes::words::ML_VARIABLE, body, 0, end)
+    Became::Becomes(Piece::Substituted {
+        variable: nodes::words::ML_VARIABLE,
+        body: body,
+        from: 0,
+        to: end,
+    })
 }
 
 // hd, or tl.
-fn of_list(table: &Kinds, words: &[u32], first: bool, scheme: bool, form: u64, end: usize) -> Rule
+fn of_list(table: &Kinds, words: &[u32], first: bool, scheme: bool, form: u64, end: usize) -> Became
     requires { ⌜ (now table ≡ kinds) × (length (now words) ≤ 1048576) × FirstPart (now words) form end ⌝ }
-    ensures placed { λ r. ⌜ Placed (length (now (words .entry))) r ⌝ }
+    ensures placed { λ r. ⌜ Within (length (now (words .entry))) r ⌝ }
     ensures told { λ r. ⌜ OfList (now (words .entry)) first scheme r ⌝ }
 {
     if form == crate::forms::CONS {
         let middle = 2 + skip(table, &words[2..], 1);
         if end < middle {
-            return Rule::Stuck;
+            return Became::Nothing;
         }
         if first {
-            return Rule::Part(2, middle);
+            return Became::Becomes(Piece::Part {
+                from: 2,
+                to: middle,
+            });
         }
-        return Rule::Part(middle, end);
+        return Became::Becomes(Piece::Part {
+            from: middle,
+            to: end,
+        });
     }
     if form != crate::forms::NIL {
         return amiss(scheme, crate::codes::NO_LIST);
     }
     if scheme {
-        return Rule::Led(scheme_wrong(crate::codes::OF_NIL), 0, 0);
+        return Became::Becomes(Piece::Led {
+            word: scheme_wrong(crate::codes::OF_NIL),
+            from: 0,
+            to: 0,
+        });
     }
     if first {
-        return Rule::Led(ml_wrong(crate::codes::OF_NIL), 2, end);
+        return Became::Becomes(Piece::Led {
+            word: ml_wrong(crate::codes::OF_NIL),
+            from: 2,
+            to: end,
+        });
     }
-    Rule::Led2(ml_wrong(crate::codes::OF_NIL), nodes::words::LIST, 2, end)
+    Became::Becomes(Piece::Led2 {
+        word: ml_wrong(crate::codes::OF_NIL),
+        next: nodes::words::LIST,
+        from: 2,
+        to: end,
+    })
 }
 
 // The operators of one part. The node's words end at `end`.
-pub fn of_one(table: &Kinds, words: &[u32], end: usize) -> Rule
+pub fn contract_1(table: &Kinds, words: &[u32], end: usize) -> Became
     requires { ⌜ (now table ≡ kinds) × (length (now words) ≤ 1048576) × (1 ≤ length (now words)) × Ends 1 (now words) end ⌝ }
-    ensures placed { λ r. ⌜ Placed (length (now (words .entry))) r ⌝ }
+    ensures placed { λ r. ⌜ Within (length (now (words .entry))) r ⌝ }
     ensures told { λ r. ⌜ OfOne (now (words .entry)) r ⌝ }
 {
     if end < 2 {
-        return Rule::Stuck;
+        return Became::Nothing;
     }
     let form = form_at(table, &words[1..]);
     let w = words[0];
@@ -150,7 +181,10 @@ pub fn of_one(table: &Kinds, words: &[u32], end: usize) -> Rule
         return of_null(form);
     }
     if op == TEST {
-        return Rule::Number(nodes::words::SCHEME_NUMBER, answer(w / 256, form));
+        return Became::Becomes(Piece::Number {
+            kind: nodes::words::SCHEME_NUMBER,
+            number: answer(w / 256, form),
+        });
     }
     of_list(
         table,

@@ -7,7 +7,7 @@ use lib.ListN.{length, drop}
 use borrow.Rule.Slice.PartAt.{part-to-end}
 use native.Mathlib.Omega.{arith}
 use Rattle.writing.specs.Spans.{span}
-use Rattle.contraction.proofs.Looks.{refused-placed}
+use Rattle.contraction.proofs.Looks.{misfit-placed}
 use Rattle.contraction.proofs.Crossing.{known-function}
 use Rattle.contraction.proofs.CrossingFunctions.{function-other, function-absurd, function-ml, function-scheme}
 use borrow.Author.Needs.{needs}
@@ -21,15 +21,15 @@ module _ (c : tie.After-skip) where
       ap (λ (n : ℕ). 2 + n)
       (c .skip .ensures .1 ∙ ap (λ (v : List ℕ). span v 1) (part-to-end (c .before .before .before .before .args .words .now) 2))
 
-refused-requires : tie.Need-refused-requires
-refused-requires c κs = search needs
+misfit-requires : tie.Need-misfit-requires
+misfit-requires c κs = search needs
 
 returns : tie.Need-returns
 returns c =
     let s = c .before .before .before in
     let p = s .pre .2 in
-    let g = c .refused .ensures in (
-      rw g (refused-placed (length (s .args .words .now)) (s .args .scheme) 2 (s .args .value) (omega (arith, p .least))
+    let g = c .misfit .ensures in (
+      rw g (misfit-placed (length (s .args .words .now)) (s .args .scheme) 2 (s .args .value) (omega (arith, p .least))
           (omega (arith, p .some, p .most))),
       rw g (function-other _ _ _ _ p _ (c .before .if1 .taken)),
     )
@@ -70,7 +70,7 @@ pub at-function-spec : {M : Type 1} → statement M
 at-function-spec =
     tie.close
     (tie.spec
-    refused-requires
+    misfit-requires
     returns
     sub-skip
     part-skip-start

@@ -7,7 +7,7 @@ use lib.ListN.{length, drop}
 use borrow.Rule.Slice.PartAt.{part-to-end}
 use native.Mathlib.Omega.{arith}
 use Rattle.writing.specs.Spans.{span}
-use Rattle.contraction.proofs.Looks.{refused-placed}
+use Rattle.contraction.proofs.Looks.{misfit-placed}
 use Rattle.contraction.proofs.Crossing.{known-list}
 use Rattle.contraction.proofs.CrossingLists.{list-other, nil-ml, nil-scheme, cons-absurd, cons-ml, cons-scheme}
 use borrow.Author.Needs.{needs}
@@ -30,15 +30,15 @@ returns-2 c =
     let p = c .before .before .before .pre .2 in
     ((p .least, omega (arith, p .some, p .most)), known-list (c .if2 .left) (nil-ml _ _ _ _ p (c .before .if1 .taken)))
 
-refused-requires : tie.Need-refused-requires
-refused-requires c κs = search needs
+misfit-requires : tie.Need-misfit-requires
+misfit-requires c κs = search needs
 
 returns-3 : tie.Need-returns-3
 returns-3 c =
     let s = c .before .before .before .before in
     let p = s .pre .2 in
-    let g = c .refused .ensures in (
-      rw g (refused-placed (length (s .args .words .now)) (s .args .scheme) 3 (s .args .value) (omega (arith, p .least))
+    let g = c .misfit .ensures in (
+      rw g (misfit-placed (length (s .args .words .now)) (s .args .scheme) 3 (s .args .value) (omega (arith, p .least))
           (omega (arith, p .some, p .most))),
       rw g (list-other _ _ _ _ p _ (c .before .before .if1 .left) (c .before .if3 .taken)),
     )
@@ -94,7 +94,7 @@ at-list-spec =
     (tie.spec
     returns
     returns-2
-    refused-requires
+    misfit-requires
     returns-3
     add-tail
     add-skip

@@ -6,21 +6,21 @@ use Prim.Native.Nat.{ℕ, _/_}
 use lib.ListN.{length, getD}
 use borrow.Rule.Slice.PartAt.{part-to-end}
 use native.Mathlib.Omega.{arith}
-use Rattle.contraction.proofs.Looks.{refused-placed, number-placed}
+use Rattle.contraction.proofs.Looks.{misfit-placed, number-placed}
 use Rattle.contraction.proofs.Crossing.{number-other, number-number}
 use borrow.Author.Needs.{needs}
 use Rattle.contraction.proofs.conversions.at_number.Statement.{statement}
 use Rattle.contraction.proofs.conversions.at_number.Tie as tie
 
-refused-requires : tie.Need-refused-requires
-refused-requires c κs = search needs
+misfit-requires : tie.Need-misfit-requires
+misfit-requires c κs = search needs
 
 returns : tie.Need-returns
 returns c =
     let s = c .before .before .before in
     let p = s .pre in
-    let g = c .refused .ensures in (
-      rw g (refused-placed (length (s .args .words .now)) (s .args .scheme) 1 (s .args .value) (omega (arith, p .least))
+    let g = c .misfit .ensures in (
+      rw g (misfit-placed (length (s .args .words .now)) (s .args .scheme) 1 (s .args .value) (omega (arith, p .least))
           (omega (arith, p .some, p .most))),
       rw g (number-other _ _ _ _ p _ (c .before .if1 .taken)),
     )
@@ -57,7 +57,7 @@ pub at-number-spec : {M : Type 1} → statement M
 at-number-spec =
     tie.close
     (tie.spec
-    refused-requires
+    misfit-requires
     returns
     mul-number-at
     sub-number-at

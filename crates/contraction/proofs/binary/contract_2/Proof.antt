@@ -1,4 +1,4 @@
--- `contraction::binary::of_two` meets its contract. Assumes nothing.
+-- `contraction::binary::contract_2` meets its contract. Assumes nothing.
 use borrow.Author.Needs.{needs}
 use mathlib.Core.List.{List}
 use mathlib.Core.Path.{_≡_, ap, _∙_}
@@ -14,8 +14,8 @@ use Rattle.contraction.specs.Forms.{formAt}
 use Rattle.contraction.specs.Chosen.{TwoParts}
 use Rattle.contraction.proofs.Looks.{amiss-placed, number-placed, sum-placed}
 use Rattle.contraction.proofs.TwoPart.{two-none, two-apply, two-cons, two-no-number, two-no-second, two-plus, two-minus}
-use Rattle.contraction.proofs.binary.of_two.Statement.{statement}
-use Rattle.contraction.proofs.binary.of_two.Tie as tie
+use Rattle.contraction.proofs.binary.contract_2.Statement.{statement}
+use Rattle.contraction.proofs.binary.contract_2.Tie as tie
 
 module _ (c : tie.After-skip) where
   middle-is : 1 + c .skip .result ≡ 1 + span (drop 1 (c .before .before .before .args .words .now)) 1
@@ -207,8 +207,8 @@ returns-7 c =
           (c .before .before .if6 .left)),
     )
 
-pub of-two-spec : {M : Type 1} → statement M
-of-two-spec =
+pub contract-2-spec : {M : Type 1} → statement M
+contract-2-spec =
     tie.close
     (tie.spec
     sub-skip

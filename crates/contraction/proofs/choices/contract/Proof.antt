@@ -1,4 +1,4 @@
--- `contraction::choices::chosen` meets its contract: each way out is one law of Dispatch. Assumes nothing.
+-- `contraction::choices::contract` meets its contract: each way out is one law of Dispatch. Assumes nothing.
 use borrow.Author.Needs.{needs}
 use mathlib.Core.Path.{_≡_, refl, sym, ap, _∙_}
 use Prim.Native.Nat.{ℕ, _%_, _≤_}
@@ -10,8 +10,8 @@ use Rattle.writing.proofs.Lengths.{partsBy, shape-parts}
 use Rattle.contraction.specs.Chosen.{Ends}
 use Rattle.contraction.proofs.Parts.{node-ends}
 use Rattle.contraction.proofs.Dispatch.{node-none, node-wrong, node-one, node-two, node-if, node-boundary, node-other}
-use Rattle.contraction.proofs.choices.chosen.Statement.{statement}
-use Rattle.contraction.proofs.choices.chosen.Tie as tie
+use Rattle.contraction.proofs.choices.contract.Statement.{statement}
+use Rattle.contraction.proofs.choices.contract.Tie as tie
 
 -- The node's shape.
 module _ (c : tie.After-row-at) where
@@ -41,8 +41,8 @@ row-at-requires c κs = search needs
 returns-2 : tie.Need-returns-2
 returns-2 c = (tt, node-wrong _ _ (shape-is (c .before)) (c .if2 .taken))
 
-of-one-requires : tie.Need-of-one-requires
-of-one-requires c κs =
+contract-1-requires : tie.Need-contract-1-requires
+contract-1-requires c κs =
     let r = c .before .before in (
       c .before .before .before .before .before .before .pre .0,
       c .before .before .before .before .before .before .pre .1,
@@ -51,10 +51,10 @@ of-one-requires c κs =
     )
 
 returns-3 : tie.Need-returns-3
-returns-3 c = let g = c .of-one .ensures in (g .0, node-one _ _ (shape-is (c .before .before .before)) _ (c .before .if3 .taken) (g .1))
+returns-3 c = let g = c .contract-1 .ensures in (g .0, node-one _ _ (shape-is (c .before .before .before)) _ (c .before .if3 .taken) (g .1))
 
-of-two-requires : tie.Need-of-two-requires
-of-two-requires c κs =
+contract-2-requires : tie.Need-contract-2-requires
+contract-2-requires c κs =
     let r = c .before .before .before in (
       c .before .before .before .before .before .before .before .pre .0,
       c .before .before .before .before .before .before .before .pre .1,
@@ -63,7 +63,7 @@ of-two-requires c κs =
     )
 
 returns-4 : tie.Need-returns-4
-returns-4 c = let g = c .of-two .ensures in (g .0, node-two _ _ (shape-is (c .before .before .before .before)) _ (c .before .if4 .taken) (g .1))
+returns-4 c = let g = c .contract-2 .ensures in (g .0, node-two _ _ (shape-is (c .before .before .before .before)) _ (c .before .if4 .taken) (g .1))
 
 of-if-requires : tie.Need-of-if-requires
 of-if-requires c κs =
@@ -73,14 +73,14 @@ of-if-requires c κs =
 returns-5 : tie.Need-returns-5
 returns-5 c = let g = c .of-if .ensures in (g .0, node-if _ _ (shape-is (c .before .before .before .before .before)) _ (c .before .if5 .taken) (g .1))
 
-of-boundary-requires : tie.Need-of-boundary-requires
-of-boundary-requires c κs =
+converted-requires : tie.Need-converted-requires
+converted-requires c κs =
     let mid = c .before .before .before .before .before .before .before .before in
     let r = c .before .before .before .before .before in (mid .before .pre .0, mid .before .pre .1, some r, ends r 9 2 (c .if6 .taken) refl)
 
 returns-6 : tie.Need-returns-6
 returns-6 c =
-    let g = c .of-boundary .ensures in
+    let g = c .converted .ensures in
     (g .0, node-boundary _ _ (shape-is (c .before .before .before .before .before .before)) _ (c .before .if6 .taken) (g .1))
 
 returns-7 : tie.Need-returns-7
@@ -90,20 +90,20 @@ returns-7 c = (
       (c .before .before .before .if3 .left) (c .before .before .if4 .left) (c .before .if5 .left) (c .if6 .left),
 )
 
-pub chosen-spec : {M : Type 1} → statement M
-chosen-spec =
+pub contract-spec : {M : Type 1} → statement M
+contract-spec =
     tie.close
     (tie.spec
     returns
     shared-slice-read-w
     row-at-requires
     returns-2
-    of-one-requires
+    contract-1-requires
     returns-3
-    of-two-requires
+    contract-2-requires
     returns-4
     of-if-requires
     returns-5
-    of-boundary-requires
+    converted-requires
     returns-6
     returns-7)

@@ -1,243 +1,226 @@
--- `contraction::pieces::contract` meets its contract. Assumes nothing.
+-- `contraction::pieces::write` meets its contract. Assumes nothing.
 use borrow.Author.Needs.{needs}
 use mathlib.Core.Path.{subst}
 use lib.ListN.{length}
 use native.Mathlib.Omega.{arith}
 use Rattle.contraction.proofs.Dispatch.{stretch-length}
 use Rattle.contraction.specs.Told.{Placed}
-use Rattle.contraction.proofs.Dispatch.{words-write, nothing-written, known-rule}
-use borrow.Author.Needs.{needs}
-use Rattle.contraction.proofs.pieces.contract.Statement.{statement}
-use Rattle.contraction.proofs.pieces.contract.Tie as tie
+use Rattle.contraction.proofs.Dispatch.{words-write, known-piece}
+use Rattle.contraction.proofs.pieces.write.Statement.{statement}
+use Rattle.contraction.proofs.pieces.write.Tie as tie
 
-enum-told : tie.Need-enum-told
-enum-told c = search needs
-
-enum-told-2 : tie.Need-enum-told-2
-enum-told-2 c = search needs
-
-enum-known-rule : tie.Need-enum-known-rule
-enum-known-rule c = search needs
+enum-known-piece : tie.Need-enum-known-piece
+enum-known-piece c = search needs
 
 put-number-requires : tie.Need-put-number-requires
 put-number-requires c κs =
     let s = c .before .before .before .before .before .before in
-    let r = c .before .before .rule .given in
+    let r = c .before .before .piece .given in
     let p = subst (Placed (length (s .args .words .now))) (r .1) (s .pre .1) in
     (p .0, p .1, omega (arith, s .pre .0 .2))
 
-enum-known-rule-2 : tie.Need-enum-known-rule-2
-enum-known-rule-2 c = search needs
+enum-known-piece-2 : tie.Need-enum-known-piece-2
+enum-known-piece-2 c = search needs
 
 mul-copy : tie.Need-mul-copy
 mul-copy c =
     let s = c .before .before .before .before .before in
-    let r = c .before .rule2 .given in
+    let r = c .before .piece2 .given in
     let p = subst (Placed (length (s .args .words .now))) (r .1) (s .pre .1) in
     record { fits = omega (arith, p .0, p .1, s .pre .0 .1) }
 
 sub-copy : tie.Need-sub-copy
 sub-copy c =
     let s = c .before .before .before .before .before in
-    let r = c .before .rule2 .given in
+    let r = c .before .piece2 .given in
     let p = subst (Placed (length (s .args .words .now))) (r .1) (s .pre .1) in
     omega (arith, p .0, p .1)
 
 part-copy-start : tie.Need-part-copy-start
 part-copy-start c =
     let s = c .before .before .before .before .before in
-    let r = c .before .rule2 .given in
+    let r = c .before .piece2 .given in
     let p = subst (Placed (length (s .args .words .now))) (r .1) (s .pre .1) in
     omega (arith, p .0, p .1)
 
 part-copy-end : tie.Need-part-copy-end
 part-copy-end c =
     let s = c .before .before .before .before .before in
-    let r = c .before .rule2 .given in
+    let r = c .before .piece2 .given in
     let p = subst (Placed (length (s .args .words .now))) (r .1) (s .pre .1) in
     omega (arith, p .0, p .1)
 
 copy-requires : tie.Need-copy-requires
 copy-requires c κs =
     let s = c .before .before .before .before .before .before .before in
-    let r = c .before .before .before .rule2 .given in
+    let r = c .before .before .before .piece2 .given in
     let p = subst (Placed (length (s .args .words .now))) (r .1) (s .pre .1) in
     omega (arith, stretch-length (s .args .words .now) (r .0 .0) (r .0 .1 .0), s .pre .0 .1, s .pre .0 .2)
 
-enum-known-rule-3 : tie.Need-enum-known-rule-3
-enum-known-rule-3 c = search needs
+enum-known-piece-3 : tie.Need-enum-known-piece-3
+enum-known-piece-3 c = search needs
 
 lead-requires : tie.Need-lead-requires
 lead-requires c κs =
     let s = c .before .before .before .before .before .before in
-    let r = c .before .before .rule3 .given in
+    let r = c .before .before .piece3 .given in
     let p = subst (Placed (length (s .args .words .now))) (r .1) (s .pre .1) in
     (s .pre .0 .1, p .0, p .1, omega (arith, s .pre .0 .2))
 
-enum-known-rule-4 : tie.Need-enum-known-rule-4
-enum-known-rule-4 c = search needs
+enum-known-piece-4 : tie.Need-enum-known-piece-4
+enum-known-piece-4 c = search needs
 
 lead-two-requires : tie.Need-lead-two-requires
 lead-two-requires c κs =
     let s = c .before .before .before .before .before .before in
-    let r = c .before .before .rule4 .given in
+    let r = c .before .before .piece4 .given in
     let p = subst (Placed (length (s .args .words .now))) (r .1) (s .pre .1) in
     (s .pre .0 .1, p .0, p .1, s .pre .0 .2)
 
-enum-known-rule-5 : tie.Need-enum-known-rule-5
-enum-known-rule-5 c = search needs
+enum-known-piece-5 : tie.Need-enum-known-piece-5
+enum-known-piece-5 c = search needs
 
-items-requires : tie.Need-items-requires
-items-requires c κs =
+put-cons-requires : tie.Need-put-cons-requires
+put-cons-requires c κs =
     let s = c .before .before .before .before .before .before in
-    let r = c .before .before .rule5 .given in
+    let r = c .before .before .piece5 .given in
     let p = subst (Placed (length (s .args .words .now))) (r .1) (s .pre .1) in
     ((s .pre .0 .1, s .pre .0 .2), p)
 
-enum-known-rule-6 : tie.Need-enum-known-rule-6
-enum-known-rule-6 c = search needs
+enum-known-piece-6 : tie.Need-enum-known-piece-6
+enum-known-piece-6 c = search needs
 
 into-ml-requires : tie.Need-into-ml-requires
 into-ml-requires c κs =
     let s = c .before .before .before .before .before .before in
-    let r = c .before .before .rule6 .given in
+    let r = c .before .before .piece6 .given in
     let p = subst (Placed (length (s .args .words .now))) (r .1) (s .pre .1) in
     ((s .pre .0 .1, s .pre .0 .2), p)
 
-enum-known-rule-7 : tie.Need-enum-known-rule-7
-enum-known-rule-7 c = search needs
+enum-known-piece-7 : tie.Need-enum-known-piece-7
+enum-known-piece-7 c = search needs
 
 into-scheme-requires : tie.Need-into-scheme-requires
 into-scheme-requires c κs =
     let s = c .before .before .before .before .before .before in
-    let r = c .before .before .rule7 .given in
+    let r = c .before .before .piece7 .given in
     let p = subst (Placed (length (s .args .words .now))) (r .1) (s .pre .1) in
     ((s .pre .0 .1, s .pre .0 .2), p)
 
-enum-known-rule-8 : tie.Need-enum-known-rule-8
-enum-known-rule-8 c = search needs
+enum-known-piece-8 : tie.Need-enum-known-piece-8
+enum-known-piece-8 c = search needs
 
-replaced-requires : tie.Need-replaced-requires
-replaced-requires c κs =
+substituted-requires : tie.Need-substituted-requires
+substituted-requires c κs =
     let s = c .before .before .before .before .before .before in
-    let r = c .before .before .rule8 .given in
+    let r = c .before .before .piece8 .given in
     let p = subst (Placed (length (s .args .words .now))) (r .1) (s .pre .1) in
     (s .pre .0, p)
-
-returns : tie.Need-returns
-returns c = (known-rule (c .enum-told .given .1) (nothing-written (λ l u g. g)), (omega arith, omega arith))
-
-returns-2 : tie.Need-returns-2
-returns-2 c = (known-rule (c .enum-told2 .given .1) (nothing-written (λ l u g. g)), (omega arith, omega arith))
 
 same-length : tie.Need-same-length
 same-length c = search needs
 
-returns-3 : tie.Need-returns-3
-returns-3 c =
+returns : tie.Need-returns
+returns c =
     let w = c .before .before .put-number .ensures in (
-      known-rule (c .before .before .before .before .before .rule .given .1) (words-write (λ l u g. g) w),
+      known-piece (c .before .before .before .before .before .piece .given .1) (words-write (λ l u g. g) w),
       (omega (arith, w .place), omega (arith, w .place)),
     )
 
 same-length-2 : tie.Need-same-length-2
 same-length-2 c = search needs
 
-returns-4 : tie.Need-returns-4
-returns-4 c =
+returns-2 : tie.Need-returns-2
+returns-2 c =
     let w = c .before .before .copy .ensures in
     let s = c .before .before .before .before .before .before .before .before .before .before in
-    let r = c .before .before .before .before .before .before .rule2 .given in
+    let r = c .before .before .before .before .before .before .piece2 .given in
     let l = stretch-length (s .args .words .now) (r .0 .0) (r .0 .1 .0) in
-    (known-rule (r .1) (words-write (λ l u g. g) w), (omega (arith, w .place), omega (arith, w .place, l, s .pre .0 .1)))
+    (known-piece (r .1) (words-write (λ l u g. g) w), (omega (arith, w .place), omega (arith, w .place, l, s .pre .0 .1)))
 
 same-length-3 : tie.Need-same-length-3
 same-length-3 c = search needs
 
-returns-5 : tie.Need-returns-5
-returns-5 c =
+returns-3 : tie.Need-returns-3
+returns-3 c =
     let w = c .before .before .lead .ensures in
-    (known-rule (c .before .before .before .before .before .rule3 .given .1) (words-write (λ l u g. g) (w .0)), (w .1 .0, omega (arith, w .1 .1)))
+    (known-piece (c .before .before .before .before .before .piece3 .given .1) (words-write (λ l u g. g) (w .0)), (w .1 .0, omega (arith, w .1 .1)))
 
 same-length-4 : tie.Need-same-length-4
 same-length-4 c = search needs
 
-returns-6 : tie.Need-returns-6
-returns-6 c =
+returns-4 : tie.Need-returns-4
+returns-4 c =
     let w = c .before .before .lead-two .ensures in
-    (known-rule (c .before .before .before .before .before .rule4 .given .1) (words-write (λ l u g. g) (w .0)), (w .1 .0, omega (arith, w .1 .1)))
+    (known-piece (c .before .before .before .before .before .piece4 .given .1) (words-write (λ l u g. g) (w .0)), (w .1 .0, omega (arith, w .1 .1)))
 
 same-length-5 : tie.Need-same-length-5
 same-length-5 c = search needs
 
-returns-7 : tie.Need-returns-7
-returns-7 c =
-    let w = c .before .before .items .ensures in
-    (known-rule (c .before .before .before .before .before .rule5 .given .1) (words-write (λ l u g. g) (w .0)), (w .1 .0, omega (arith, w .1 .1)))
+returns-5 : tie.Need-returns-5
+returns-5 c =
+    let w = c .before .before .put-cons .ensures in
+    (known-piece (c .before .before .before .before .before .piece5 .given .1) (words-write (λ l u g. g) (w .0)), (w .1 .0, omega (arith, w .1 .1)))
 
 same-length-6 : tie.Need-same-length-6
 same-length-6 c = search needs
 
-returns-8 : tie.Need-returns-8
-returns-8 c =
+returns-6 : tie.Need-returns-6
+returns-6 c =
     let w = c .before .before .into-ml .ensures in
-    (known-rule (c .before .before .before .before .before .rule6 .given .1) (words-write (λ l u g. g) (w .0)), (w .1 .0, omega (arith, w .1 .1)))
+    (known-piece (c .before .before .before .before .before .piece6 .given .1) (words-write (λ l u g. g) (w .0)), (w .1 .0, omega (arith, w .1 .1)))
 
 same-length-7 : tie.Need-same-length-7
 same-length-7 c = search needs
 
-returns-9 : tie.Need-returns-9
-returns-9 c =
+returns-7 : tie.Need-returns-7
+returns-7 c =
     let w = c .before .before .into-scheme .ensures in
-    (known-rule (c .before .before .before .before .before .rule7 .given .1) (words-write (λ l u g. g) (w .0)), (w .1 .0, omega (arith, w .1 .1)))
+    (known-piece (c .before .before .before .before .before .piece7 .given .1) (words-write (λ l u g. g) (w .0)), (w .1 .0, omega (arith, w .1 .1)))
 
 same-length-8 : tie.Need-same-length-8
 same-length-8 c = search needs
 
-returns-10 : tie.Need-returns-10
-returns-10 c = let w = c .before .before .replaced .ensures in (known-rule (c .before .before .before .before .before .rule8 .given .1) (w .0), w .1)
+returns-8 : tie.Need-returns-8
+returns-8 c = let w = c .before .before .substituted .ensures in (known-piece (c .before .before .before .before .before .piece8 .given .1) (w .0), w .1)
 
-pub contract-spec : {M : Type 1} → statement M
-contract-spec =
+pub write-spec : {M : Type 1} → statement M
+write-spec =
     tie.close
     (tie.spec
-    enum-told
-    enum-told-2
-    enum-known-rule
+    enum-known-piece
     put-number-requires
-    enum-known-rule-2
+    enum-known-piece-2
     mul-copy
     sub-copy
     part-copy-start
     part-copy-end
     copy-requires
-    enum-known-rule-3
+    enum-known-piece-3
     lead-requires
-    enum-known-rule-4
+    enum-known-piece-4
     lead-two-requires
-    enum-known-rule-5
-    items-requires
-    enum-known-rule-6
+    enum-known-piece-5
+    put-cons-requires
+    enum-known-piece-6
     into-ml-requires
-    enum-known-rule-7
+    enum-known-piece-7
     into-scheme-requires
-    enum-known-rule-8
-    replaced-requires
-    returns
-    returns-2
+    enum-known-piece-8
+    substituted-requires
     same-length
-    returns-3
+    returns
     same-length-2
-    returns-4
+    returns-2
     same-length-3
-    returns-5
+    returns-3
     same-length-4
-    returns-6
+    returns-4
     same-length-5
-    returns-7
+    returns-5
     same-length-6
-    returns-8
+    returns-6
     same-length-7
-    returns-9
+    returns-7
     same-length-8
-    returns-10)
+    returns-8)

@@ -1,6 +1,6 @@
--- `contraction::rules::numbered` meets its contract. Assumes nothing.
-use Rattle.contraction.proofs.rules.numbered.Statement.{statement}
-use Rattle.contraction.proofs.rules.numbered.Tie as tie
+-- `contraction::became::numbered` meets its contract. Assumes nothing.
+use Rattle.contraction.proofs.became.numbered.Statement.{statement}
+use Rattle.contraction.proofs.became.numbered.Tie as tie
 
 returns : tie.Need-returns
 returns c = rw (c .if1 .taken)

@@ -1,11 +1,11 @@
--- `contraction::pieces::items` meets its contract. Assumes nothing.
+-- `contraction::pieces::put_cons` meets its contract. Assumes nothing.
 use borrow.Author.Needs.{needs}
 use Prim.Native.Nat.{_+_}
 use native.Mathlib.Omega.{arith}
 use Rattle.writing.proofs.Stores.{then}
 use Rattle.contraction.proofs.Dispatch.{stretch-length}
-use Rattle.contraction.proofs.pieces.items.Statement.{statement}
-use Rattle.contraction.proofs.pieces.items.Tie as tie
+use Rattle.contraction.proofs.pieces.put_cons.Statement.{statement}
+use Rattle.contraction.proofs.pieces.put_cons.Tie as tie
 
 add-head : tie.Need-add-head
 add-head c = search needs
@@ -112,8 +112,8 @@ returns c =
       (omega (arith, a .place, b .1 .0, d .place, e .1 .0, f .place), omega (arith, l, m, a .place, b .1 .1, d .place, e .1 .1, f .place, s .pre .0)),
     )
 
-pub items-spec : {M : Type 1} → statement M
-items-spec =
+pub put-cons-spec : {M : Type 1} → statement M
+put-cons-spec =
     tie.close
     (tie.spec
     add-head

@@ -1,12 +1,12 @@
--- `contraction::pieces::replaced` meets its contract. Assumes nothing.
+-- `contraction::pieces::substituted` meets its contract. Assumes nothing.
 use borrow.Author.Needs.{needs}
 use native.Mathlib.Omega.{arith}
 use Rattle.nodes.proofs.Ways.{part-length}
 use Rattle.contraction.proofs.Dispatch.{stretch-length}
-use Rattle.contraction.proofs.Dispatch.{replaced-writes}
+use Rattle.contraction.proofs.Dispatch.{substituted-writes}
 use borrow.Author.Needs.{needs}
-use Rattle.contraction.proofs.pieces.replaced.Statement.{statement}
-use Rattle.contraction.proofs.pieces.replaced.Tie as tie
+use Rattle.contraction.proofs.pieces.substituted.Statement.{statement}
+use Rattle.contraction.proofs.pieces.substituted.Tie as tie
 
 mul-substitute : tie.Need-mul-substitute
 mul-substitute c = search needs
@@ -50,10 +50,10 @@ returns c =
     let s = c .before .before .before .before .before .before .before .before in
     let r = c .before .before .substitute .ensures in
     let l = part-length (s .args .words .now) (s .args .body) in
-    (replaced-writes _ _ _ _ _ _ _ _ _ _ (r .1 .1), (r .1 .0 .0, omega (arith, l, r .0 .1, r .1 .0 .1, s .pre .0 .1)))
+    (substituted-writes _ _ _ _ _ _ _ _ _ _ (r .1 .1), (r .1 .0 .0, omega (arith, l, r .0 .1, r .1 .0 .1, s .pre .0 .1)))
 
-pub replaced-spec : {M : Type 1} → statement M
-replaced-spec =
+pub substituted-spec : {M : Type 1} → statement M
+substituted-spec =
     tie.close
     (tie.spec
     mul-substitute

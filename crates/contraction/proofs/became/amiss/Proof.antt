@@ -1,7 +1,7 @@
--- `contraction::rules::amiss` meets its contract. Assumes nothing.
+-- `contraction::became::amiss` meets its contract. Assumes nothing.
 use borrow.Author.Needs.{needs}
-use Rattle.contraction.proofs.rules.amiss.Statement.{statement}
-use Rattle.contraction.proofs.rules.amiss.Tie as tie
+use Rattle.contraction.proofs.became.amiss.Statement.{statement}
+use Rattle.contraction.proofs.became.amiss.Tie as tie
 
 scheme-wrong-requires : tie.Need-scheme-wrong-requires
 scheme-wrong-requires c κs = search needs

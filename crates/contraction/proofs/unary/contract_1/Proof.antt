@@ -1,4 +1,4 @@
--- `contraction::unary::of_one` meets its contract. Assumes nothing.
+-- `contraction::unary::contract_1` meets its contract. Assumes nothing.
 use borrow.Author.Needs.{needs}
 use mathlib.Core.Path.{ap, _∙_}
 use lib.ListN.{length}
@@ -8,8 +8,8 @@ use Rattle.contraction.specs.Forms.{formAt}
 use Rattle.contraction.specs.Chosen.{FirstPart}
 use Rattle.contraction.proofs.Looks.{null-placed}
 use Rattle.contraction.proofs.OnePart.{one-fix, one-null, one-test, one-list, one-none}
-use Rattle.contraction.proofs.unary.of_one.Statement.{statement}
-use Rattle.contraction.proofs.unary.of_one.Tie as tie
+use Rattle.contraction.proofs.unary.contract_1.Statement.{statement}
+use Rattle.contraction.proofs.unary.contract_1.Tie as tie
 
 -- What is known of the part.
 module _ (c : tie.After-form-at) where
@@ -90,8 +90,8 @@ returns-5 c =
           (c .before .before .before .if2 .left) (c .before .before .if3 .left) (c .before .if4 .left) (g .1),
     )
 
-pub of-one-spec : {M : Type 1} → statement M
-of-one-spec =
+pub contract-1-spec : {M : Type 1} → statement M
+contract-1-spec =
     tie.close
     (tie.spec
     returns

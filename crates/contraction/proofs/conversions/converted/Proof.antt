@@ -1,4 +1,4 @@
--- `contraction::conversions::of_boundary` meets its contract. Assumes nothing.
+-- `contraction::conversions::converted` meets its contract. Assumes nothing.
 use borrow.Author.Needs.{needs}
 use mathlib.Core.List.{List}
 use mathlib.Core.Path.{_≡_, sym, ap, _∙_}
@@ -13,8 +13,8 @@ use Rattle.writing.proofs.Lengths.{span-next}
 use Rattle.contraction.specs.Forms.{formAt}
 use Rattle.contraction.specs.Chosen.{Value}
 use Rattle.contraction.proofs.CrossingFunctions.{at-N, at-L, at-list, at-function, boundary-none, boundary-no-value}
-use Rattle.contraction.proofs.conversions.of_boundary.Statement.{statement}
-use Rattle.contraction.proofs.conversions.of_boundary.Tie as tie
+use Rattle.contraction.proofs.conversions.converted.Statement.{statement}
+use Rattle.contraction.proofs.conversions.converted.Tie as tie
 
 -- Where the value starts, and where it ends.
 module _ (c : tie.After-skip) where
@@ -136,8 +136,8 @@ returns-6 c =
       at-function _ _ _ (sym (getD-drop 1 w 0 0)) (c .before .before .before .if3 .left) (c .before .before .if4 .left) (c .before .if5 .left) (g .1),
     )
 
-pub of-boundary-spec : {M : Type 1} → statement M
-of-boundary-spec =
+pub converted-spec : {M : Type 1} → statement M
+converted-spec =
     tie.close
     (tie.spec
     sub-skip
