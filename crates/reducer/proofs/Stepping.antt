@@ -1,9 +1,7 @@
 -- The ways out of a step, and the splice: the words before the node, what it becomes, and the words after it. Assumes nothing.
 use Prim.Native.Nat.{ℕ, _+_, _-_}
-use mathlib.Core.Bool.{Bool, true, false}
 use mathlib.Core.List.{List, [], _++_, append-nil, append-assoc}
 use mathlib.Core.Path.{_≡_, refl, sym, ap, _∙_, subst}
-use lib.Dec.{T}
 use lib.ListN.{length, take, drop}
 use lib.Seq.{take-at, drop-at, drop-drop}
 use borrow.Rule.Slice.PartAt.{part-to-end}
@@ -11,7 +9,7 @@ use native.Mathlib.Omega.{arith}
 use Rattle.calculus.specs.Trees.{Lang, ml, Term}
 use Rattle.calculus.specs.Words.{put, words, size}
 use Rattle.calculus.specs.Kinds.{term}
-use Rattle.calculus.specs.Reduction.{Became, becomes, raises, nothing, contract, Context, fill, turn, stepped, outcome, step}
+use Rattle.calculus.specs.Reduction.{becomes, raises, nothing, contract, Context, fill, turn, stepped, outcome, step}
 use Rattle.calculus.specs.Reduction as calculus
 use Rattle.calculus.proofs.Sizes.{put-append, tree-length, drop-tree}
 use Rattle.calculus.proofs.Splices.{put-fill}
@@ -20,8 +18,9 @@ use Rattle.calculus.proofs.Turns as turns
 use Rattle.writing.specs.Wrote.{Wrote}
 use Rattle.writing.proofs.Measures.{span-tree}
 use Rattle.writing.proofs.Stores.{then, before, wrote-as}
-use Rattle.contraction.specs.declared.rules.Rule.{Rule}
-use Rattle.contraction.specs.declared.rules.Rule.the-variants as rule
+use Rattle.contraction.specs.declared.became.Became.{Became}
+use Rattle.contraction.specs.declared.became.Became.the-variants.{Nothing, Raises, Becomes}
+use Rattle.contraction.specs.declared.became.Piece.{Piece}
 use Rattle.contraction.specs.Told.{Gives, Tells}
 use Rattle.contraction.specs.Chosen.{OfNode, Writes}
 use Rattle.writer.specs.Kept as writer
@@ -30,20 +29,18 @@ use Rattle.reducer.specs.declared.turns.Found.the-variants as found
 use Rattle.reducer.specs.declared.steps.Change.{Change}
 use Rattle.reducer.specs.declared.steps.Move.{Move}
 use Rattle.reducer.specs.declared.steps.Move.the-variants.{Value, Raised, Next, Stuck}
-use Rattle.reducer.specs.declared.steps.End.{End}
-use Rattle.reducer.specs.declared.steps.End.the-variants as end
 use Rattle.reducer.specs.declared.turns.From.{From}
 use Rattle.reducer.specs.Around.{root, Standing, Ripe}
 use Rattle.reducer.specs.Placed.{beginning, Told, Turns}
-use Rattle.reducer.specs.Moves.{endOf, Fits, Spliced, Moved, Steps}
+use Rattle.reducer.specs.Moves.{Fits, Spliced, Moved, Steps}
 use Rattle.reducer.proofs.Onward.{contextAt, context-place, context-is, part-stands, ripe-turn}
 
 -- The splice: what the node becomes is written first, and the words before it and after it around that.
-module _ (source : List ℕ) (place end : ℕ) (rl : Rule) (fits : Fits source place end rl) (b b₀ b′ : List ℕ) (after k : ℕ) (back : From)
-    (wrote : Writes (take (length source - place) (drop place source)) rl b place after b₀)
+module _ (source : List ℕ) (place end : ℕ) (piece : Piece) (fits : Fits source place end piece) (b b₀ b′ : List ℕ) (after k : ℕ) (back : From)
+    (wrote : Writes (take (length source - place) (drop place source)) piece b place after b₀)
     (next : writer.Next source place after end 1 b₀ k b′) where
-  writes : Writes (drop place source) rl b place after b₀
-  writes = subst (λ (v : List ℕ). Writes v rl b place after b₀) (part-to-end source place) wrote
+  writes : Writes (drop place source) piece b place after b₀
+  writes = subst (λ (v : List ℕ). Writes v piece b place after b₀) (part-to-end source place) wrote
 
   front : Wrote b₀ 0 (take place source) (next .k₁) (next .b₁)
   front = let z : place - 0 ≡ place = omega arith in wrote-as (ap (λ (j : ℕ). take j source) z) (next .front .copied refl)
@@ -67,8 +64,10 @@ module _ (source : List ℕ) (place end : ℕ) (rl : Rule) (fits : Fits source p
       let before-it : take place source ≡ P = ap (take place) q ∙ take-at P (put n Q) place (sym h) in
       let after-it : drop end source ≡ Q =
       ap (λ (j : ℕ). drop j source) e ∙ sym (drop-drop (size n) place source) ∙ ap (drop (size n)) here ∙ drop-tree (term m) n Q in
-      let tells = subst (Tells (drop place source) rl) g (fits .told .of m n Q here) in
-      let became : Wrote b place (words u) after b₀ = writes .of m u tells in
+      let tells = subst (Tells (drop place source) (Becomes piece)) g (fits .told .of m n Q here) in
+      let same : tells .0 ≡ piece = cc (tells .1) in
+      let gives = subst (λ (p : Piece). Gives (drop place source) p u) same (tells .2) in
+      let became : Wrote b place (words u) after b₀ = writes .of m u gives in
       let f : Wrote b₀ 0 P place (next .b₁) =
       subst (λ (j : ℕ). Wrote b₀ 0 P j (next .b₁)) (front .place ∙ omega (arith, h, ap length before-it)) (wrote-as before-it front) in
       let w = then (before became f) (wrote-as after-it rear) in
@@ -88,48 +87,20 @@ pub at-any-rate : {ws : List ℕ} {from : From} {r : Found} → Turns ws from fr
 at-any-rate {ws} {from} {r} t place end back q =
     record { of = λ e w s. subst (Told e beginning) (sym q) (subst (Told e from) q (t .of e w s)) }
 
-abbrev isWriting : End → Bool
-isWriting end.Stuck = false
-isWriting (end.Raised c) = false
-isWriting end.Writes = true
-
-abbrev codeOf : End → ℕ
-codeOf end.Stuck = 0
-codeOf (end.Raised c) = c
-codeOf end.Writes = 0
-
-abbrev isStuck : End → Bool
-isStuck end.Stuck = true
-isStuck (end.Raised c) = false
-isStuck end.Writes = false
-
--- A rule that gives a term is one that writes.
-gives-writes : {m : Lang} (ws : List ℕ) (rl : Rule) (u : Term m) → Gives ws rl u → endOf rl ≡ end.Writes
-gives-writes ws rule.Stuck u g = absurd g
-gives-writes ws (rule.Raised c) u g = absurd g
-gives-writes ws (rule.Number k n) u g = refl
-gives-writes ws (rule.Part a e) u g = refl
-gives-writes ws (rule.Led w a e) u g = refl
-gives-writes ws (rule.Led2 w v a e) u g = refl
-gives-writes ws (rule.Items q m v t e) u g = refl
-gives-writes ws (rule.IntoML s v e) u g = refl
-gives-writes ws (rule.IntoScheme s v e) u g = refl
-gives-writes ws (rule.Substituted x b a e) u g = refl
-
 words-fill : {m l : Lang} (F : Context m l) (x : Term m) → words (fill F x) ≡ wordsBefore F ++ (words x ++ wordsAfter F)
 words-fill F x = put-fill F x [] ∙ rw (append-nil, put-append x [] (wordsAfter F))
 
--- What becomes of the node, by the rule's end: nothing, an error, or another term.
-module _ {m : Lang} (e : Term ml) (b ws : List ℕ) (rl : Rule) (F : Context m ml) where
-  stuck-moved : endOf rl ≡ end.Stuck → (c : Became m) → Tells ws rl c → Moved e Stuck b b (outcome F c)
-  stuck-moved h (becomes u) t = absurd (subst T (ap isWriting (sym (gives-writes ws rl u t) ∙ h)) tt)
-  stuck-moved h (raises c) t = absurd (subst T (ap isStuck (sym h ∙ ap endOf t)) tt)
+-- What becomes of the node, if it is nothing, or an error.
+module _ {m : Lang} (e : Term ml) (b ws : List ℕ) (r : Became) (F : Context m ml) where
+  stuck-moved : r ≡ Nothing → (c : calculus.Became m) → Tells ws r c → Moved e Stuck b b (outcome F c)
+  stuck-moved h (becomes u) t = let z : _≡_ {A = ℕ} 0 1 = cc (t .1) in absurd (omega arith)
+  stuck-moved h (raises c) t = let z : _≡_ {A = ℕ} 0 1 = cc in absurd (omega arith)
   stuck-moved h nothing t = (refl, refl)
 
-  raised-moved : (n : ℕ) → endOf rl ≡ end.Raised n → (c : Became m) → Tells ws rl c → Moved e (Raised n) b b (outcome F c)
-  raised-moved n h (becomes u) t = absurd (subst T (ap isWriting (sym (gives-writes ws rl u t) ∙ h)) tt)
-  raised-moved n h (raises c) t = (ap Raised (ap codeOf (sym h ∙ ap endOf t)), refl)
-  raised-moved n h nothing t = absurd (subst T (ap isStuck (sym (ap endOf t) ∙ h)) tt)
+  raised-moved : (n : ℕ) → r ≡ Raises n → (c : calculus.Became m) → Tells ws r c → Moved e (Raised n) b b (outcome F c)
+  raised-moved n h (becomes u) t = let z : _≡_ {A = ℕ} 0 1 = cc (t .1) in absurd (omega arith)
+  raised-moved n h (raises c) t = (ap Raised (cc), refl)
+  raised-moved n h nothing t = let z : _≡_ {A = ℕ} 0 1 = cc in absurd (omega arith)
 
 module _ (source : List ℕ) (from : From) (b : List ℕ) (x : Found) (x-is : Turns source from beginning x) where
   -- A value.
@@ -138,8 +109,8 @@ module _ (source : List ℕ) (from : From) (b : List ℕ) (x : Found) (x-is : Tu
   step-value h =
       record { of = λ e q s. subst (λ t. Moved e Value b b (stepped t)) (sym (subst (Told e beginning) h (x-is .of e q s) refl)) (refl, refl) }
 
-  module _ (place last : ℕ) (back : From) (h : x ≡ found.At place last back) (rl : Rule) (told : OfNode (drop place source) rl) where
-    -- The node whose turn it is, and the rule.
+  module _ (place last : ℕ) (back : From) (h : x ≡ found.At place last back) (r : Became) (told : OfNode (drop place source) r) where
+    -- The node whose turn it is, and what it becomes.
     module _ (e : Term ml) (q : source ≡ words e) (s₀ : Standing e (from .place) (from .due)) where
       ripe : Ripe e place (back .place) (back .due)
       ripe = subst (Told e beginning) h (x-is .of e q s₀)
@@ -147,32 +118,32 @@ module _ (source : List ℕ) (from : From) (b : List ℕ) (x : Found) (x-is : Tu
       abbrev at : Standing e place (ripe .here)
       at = ripe .standing
 
-      tells : Tells (drop place source) rl (contract (at .part))
+      tells : Tells (drop place source) r (contract (at .part))
       tells = told .of (at .lang) (at .part) _ (part-stands at source q)
 
-      by-node : (r : Move) (b′ : List ℕ) → Moved e r b b′ (outcome (contextAt at) (contract (at .part))) → Moved e r b b′ (step e)
+      by-node : (a : Move) (b′ : List ℕ) → Moved e a b b′ (outcome (contextAt at) (contract (at .part))) → Moved e a b b′ (step e)
       unfolding step
-      by-node r b′ m = subst (λ t. Moved e r b b′ (stepped t)) (sym (ripe-turn ripe)) m
+      by-node a b′ m = subst (λ t. Moved e a b b′ (stepped t)) (sym (ripe-turn ripe)) m
 
-    pub step-stuck : endOf rl ≡ end.Stuck → Steps source from b Stuck b
+    pub step-stuck : r ≡ Nothing → Steps source from b Stuck b
     step-stuck g =
         record {
           of = λ e q s.
               let t = at e q s in
-              by-node e q s Stuck b (stuck-moved e b (drop place source) rl (contextAt t) g (contract (t .part)) (tells e q s));
+              by-node e q s Stuck b (stuck-moved e b (drop place source) r (contextAt t) g (contract (t .part)) (tells e q s));
         }
 
-    pub step-raised : (c : ℕ) → endOf rl ≡ end.Raised c → Steps source from b (Raised c) b
+    pub step-raised : (c : ℕ) → r ≡ Raises c → Steps source from b (Raised c) b
     step-raised c g =
         record {
           of = λ e q s.
               let t = at e q s in
-              by-node e q s (Raised c) b (raised-moved e b (drop place source) rl (contextAt t) c g (contract (t .part)) (tells e q s));
+              by-node e q s (Raised c) b (raised-moved e b (drop place source) r (contextAt t) c g (contract (t .part)) (tells e q s));
         }
 
-    module _ (b′ : List ℕ) (c : Change) (sp : Spliced source place back b c b′) (g : endOf rl ≡ end.Writes) where
-      next-moved : (e : Term ml) (q : source ≡ words e) (s : Standing e (from .place) (from .due)) (o : Became (at e q s .lang))
-          → contract (at e q s .part) ≡ o → Tells (drop place source) rl o
+    module _ (b′ : List ℕ) (c : Change) (sp : Spliced source place back b c b′) (piece : Piece) (g : r ≡ Becomes piece) where
+      next-moved : (e : Term ml) (q : source ≡ words e) (s : Standing e (from .place) (from .due)) (o : calculus.Became (at e q s .lang))
+          → contract (at e q s .part) ≡ o → Tells (drop place source) r o
           → Moved e (Next c) b b′ (outcome (contextAt (at e q s)) o)
       next-moved e q s₀ (becomes u) k t =
           let s = at e q s₀ in
@@ -205,8 +176,8 @@ module _ (source : List ℕ) (from : From) (b : List ℕ) (x : Found) (x-is : Tu
                   (subst (λ (y : Term ml). Standing y (back .place) (back .due)) (sym (context-is s u)) (ripe e q s₀ .resumes u));
             },
           )
-      next-moved e q s₀ (raises i) k t = absurd (subst T (ap isWriting (sym g ∙ ap endOf t)) tt)
-      next-moved e q s₀ nothing k t = absurd (subst T (ap isWriting (sym g ∙ ap endOf t)) tt)
+      next-moved e q s₀ (raises i) k t = let z : _≡_ {A = ℕ} 0 1 = cc in absurd (omega arith)
+      next-moved e q s₀ nothing k t = let z : _≡_ {A = ℕ} 0 1 = cc in absurd (omega arith)
 
       pub step-next : Steps source from b (Next c) b′
       step-next = record { of = λ e q s. by-node e q s (Next c) b′ (next-moved e q s (contract (at e q s .part)) refl (tells e q s)) }

@@ -11,34 +11,20 @@ use Rattle.writing.specs.Wrote.{Wrote}
 use Rattle.writing.specs.Spans.{span}
 use Rattle.contraction.specs.Told.{Placed}
 use Rattle.contraction.specs.Chosen.{OfNode}
-use Rattle.contraction.specs.declared.rules.Rule.{Rule}
-use Rattle.contraction.specs.declared.rules.Rule.the-variants as rule
+use Rattle.contraction.specs.declared.became.Piece.{Piece}
+use Rattle.contraction.specs.declared.became.Became.the-variants.{Becomes}
 use Rattle.reducer.specs.declared.turns.From.{From}
 use Rattle.reducer.specs.declared.steps.Change.{Change}
 use Rattle.reducer.specs.declared.steps.Move.{Move}
 use Rattle.reducer.specs.declared.steps.Move.the-variants.{Value, Raised, Next, Stuck}
-use Rattle.reducer.specs.declared.steps.End.{End}
-use Rattle.reducer.specs.declared.steps.End.the-variants as end
 use Rattle.reducer.specs.Around.{Standing}
 
-abbrev pub endOf : Rule → End
-endOf rule.Stuck = end.Stuck
-endOf (rule.Raised c) = end.Raised c
-endOf (rule.Number k n) = end.Writes
-endOf (rule.Part a e) = end.Writes
-endOf (rule.Led w a e) = end.Writes
-endOf (rule.Led2 w v a e) = end.Writes
-endOf (rule.Items q m v t e) = end.Writes
-endOf (rule.IntoML s v e) = end.Writes
-endOf (rule.IntoScheme s v e) = end.Writes
-endOf (rule.Substituted x b a e) = end.Writes
-
--- A rule that fits the node at a place of the source: it tells what the node becomes, and its places are within the words.
-pub record Fits (source : List ℕ) (place end : ℕ) (r : Rule) : Type 0 where
+-- A piece that is what the node at a place of the source becomes, and whose places are within the words.
+pub record Fits (source : List ℕ) (place end : ℕ) (piece : Piece) : Type 0 where
   pub inside : place ≤ length source
   pub ends : end ≡ place + span (drop place source) 1
-  pub told : OfNode (drop place source) r
-  pub within : Placed (length source - place) r
+  pub told : OfNode (drop place source) (Becomes piece)
+  pub within : Placed (length source - place) piece
 
 -- Where the node n stands in the source behind the words P, and it becomes u: how many words stood and stand there, and the words that are
 -- written.

@@ -3,9 +3,10 @@
 use crate::turns::Found;
 use crate::turns::From;
 use crate::turns::turn;
-use contraction::choices::chosen;
-use contraction::pieces::contract;
-use contraction::rules::Rule;
+use contraction::became::Became;
+use contraction::became::Piece;
+use contraction::choices::contract;
+use contraction::pieces::write;
 use nodes::kinds::Kinds;
 use writer::write_next;
 ghost use mathlib.Core.Path.{_≡_};
@@ -13,7 +14,7 @@ ghost use Prim.Native.Nat.{_+_, _*_, _≤_};
 ghost use lib.ListN.{length};
 ghost use Rattle.nodes.specs.Table.{kinds};
 ghost use Rattle.reducer.specs.Placed.{beginning, Spanned, Turns};
-ghost use Rattle.reducer.specs.Moves.{endOf, Fits, Spliced, Few, Steps};
+ghost use Rattle.reducer.specs.Moves.{Fits, Spliced, Few, Steps};
 
 // The place of the node whose turn it was, how many words stood there, how many stand there now, how many words the next term has, whether it
 // fits or not, and where the next walk may begin.
@@ -32,44 +33,20 @@ pub enum Move {
     Stuck,
 }
 
-// Whether a rule ends the reduction, or writes.
-enum End {
-    Stuck,
-    Raised(u32),
-    Writes,
-}
-
-fn end_of(rule: Rule) -> End
-    ensures { λ r. ⌜ r ≡ endOf rule ⌝ }
-{
-    match rule {
-        Rule::Stuck => End::Stuck,
-        Rule::Raised(code) => End::Raised(code),
-        Rule::Number(_, _) => End::Writes,
-        Rule::Part(_, _) => End::Writes,
-        Rule::Led(_, _, _) => End::Writes,
-        Rule::Led2(_, _, _, _) => End::Writes,
-        Rule::Items(_, _, _, _, _) => End::Writes,
-        Rule::IntoML(_, _, _) => End::Writes,
-        Rule::IntoScheme(_, _, _) => End::Writes,
-        Rule::Substituted(_, _, _, _) => End::Writes,
-    }
-}
-
-// The next term: the words before the node, what it becomes by the rule, and the words after it.
+// The next term: the words before the node, what it becomes, and the words after it.
 fn splice(
     table: &Kinds,
     source: &[u32],
     place: usize,
     end: usize,
     back: From,
-    rule: Rule,
+    piece: Piece,
     target: &mut [u32],
 ) -> Change
-    requires { ⌜ (now table ≡ kinds) × (length (now source) ≤ 1048576) × Fits (now source) place end rule ⌝ }
+    requires { ⌜ (now table ≡ kinds) × (length (now source) ≤ 1048576) × Fits (now source) place end piece ⌝ }
     ensures { λ r. ⌜ Spliced (now (source .entry)) place back (now (target .entry)) r (now (target .exit)) ⌝ }
 {
-    let after = contract(table, &source[place..], rule, target, place);
+    let after = write(table, &source[place..], piece, target, place);
     let size = write_next(target, source, place, after, end, 1);
     Change {
         place: place,
@@ -103,10 +80,18 @@ pub fn step(table: &Kinds, source: &[u32], target: &mut [u32], from: From) -> Mo
     let Found::At(place, end, back) = found else {
         return Move::Value;
     };
-    let rule = chosen(table, &source[place..], end - place);
-    match end_of(rule) {
-        End::Stuck => Move::Stuck,
-        End::Raised(code) => Move::Raised(code),
-        End::Writes => Move::Next(splice(table, source, place, end, back, rule, target)),
+    let became = contract(table, &source[place..], end - place);
+    match became {
+        Became::Nothing => Move::Stuck,
+        Became::Raises(code) => Move::Raised(code),
+        Became::Becomes(piece) => Move::Next(splice(
+            table,
+            source,
+            place,
+            end,
+            back,
+            piece,
+            target,
+        )),
     }
 }

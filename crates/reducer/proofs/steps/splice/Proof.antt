@@ -22,35 +22,35 @@ module _ (c : tie.Start) where
   end-past : c .args .place ≤ c .args .end
   end-past = omega (arith, c .pre .2 .ends)
 
-mul-contract : tie.Need-mul-contract
-mul-contract c =
+mul-write : tie.Need-mul-write
+mul-write c =
     let start = c .before .before in
     record { fits = omega (arith, start .pre .1, start .pre .2 .inside) }
 
-sub-contract : tie.Need-sub-contract
-sub-contract c =
+sub-write : tie.Need-sub-write
+sub-write c =
     let start = c .before .before in
     start .pre .2 .inside
 
-part-contract-start : tie.Need-part-contract-start
-part-contract-start c =
+part-write-start : tie.Need-part-write-start
+part-write-start c =
     let start = c .before .before in
     start .pre .2 .inside
 
-part-contract-end : tie.Need-part-contract-end
-part-contract-end c = search needs
+part-write-end : tie.Need-part-write-end
+part-write-end c = search needs
 
-contract-requires : tie.Need-contract-requires
-contract-requires c κs =
+write-requires : tie.Need-write-requires
+write-requires c κs =
     let start = c .before .before .before .before in
     let s = start in
     let l = part-length (s .args .source .now) (s .args .place) in
-    let p = subst (λ (n : ℕ). Placed n (s .args .rule)) (sym l) (s .pre .2 .within) in
+    let p = subst (λ (n : ℕ). Placed n (s .args .piece)) (sym l) (s .pre .2 .within) in
     ((s .pre .0, omega (arith, l, s .pre .1), omega (arith, s .pre .1, s .pre .2 .inside)), p)
 
 write-next-requires : tie.Need-write-next-requires
 write-next-requires c κs =
-    let after-contract = c .before .before .before in
+    let after-write = c .before .before .before in
     let start = c .before .before .before .before .before .before .before .before in
     let s = start in
     record {
@@ -58,7 +58,7 @@ write-next-requires c κs =
       first = s .pre .2 .inside;
       order = λ z. absurd (omega (arith, z));
       within = omega (arith, end-in s, s .pre .2 .inside);
-      far = omega (arith, after-contract .contract .ensures .1 .1, s .pre .1, s .pre .2 .inside);
+      far = omega (arith, after-write .write .ensures .1 .1, s .pre .1, s .pre .2 .inside);
     }
 
 sub-t10 : tie.Need-sub-t10
@@ -68,8 +68,8 @@ sub-t10 c =
 
 sub-t12 : tie.Need-sub-t12
 sub-t12 c =
-    let after-contract = c .before .before .before .before .before .before in
-    after-contract .contract .ensures .1 .0
+    let after-write = c .before .before .before .before .before .before in
+    after-write .write .ensures .1 .0
 
 same-length : tie.Need-same-length
 same-length c = search needs
@@ -77,19 +77,19 @@ same-length c = search needs
 returns : tie.Need-returns
 returns c =
     let after-write-next = c .before .before in
-    let after-contract = c .before .before .before .before .before .before in
+    let after-write = c .before .before .before .before .before .before in
     let start = c .before .before .before .before .before .before .before .before .before .before .before in
-    spliced _ _ _ _ (start .pre .2) _ _ _ _ _ _ (after-contract .contract .ensures .0) (after-write-next .write-next .ensures)
+    spliced _ _ _ _ (start .pre .2) _ _ _ _ _ _ (after-write .write .ensures .0) (after-write-next .write-next .ensures)
 
 pub splice-spec : {M : Type 1} → statement M
 splice-spec =
     tie.close
     (tie.spec
-    mul-contract
-    sub-contract
-    part-contract-start
-    part-contract-end
-    contract-requires
+    mul-write
+    sub-write
+    part-write-start
+    part-write-end
+    write-requires
     write-next-requires
     sub-t10
     sub-t12

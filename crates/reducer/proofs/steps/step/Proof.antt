@@ -1,14 +1,14 @@
 -- `reducer::steps::step` meets its contract: each way out is one law of Stepping. Assumes nothing.
 use borrow.Author.Needs.{needs}
 use mathlib.Core.List.{List}
-use mathlib.Core.Path.{_≡_, sym, ap, _∙_, subst}
+use mathlib.Core.Path.{_≡_, ap, subst}
 use Prim.Native.Nat.{ℕ, _+_, _*_, _≤_}
 use lib.ListN.{length, drop}
 use borrow.Rule.Slice.PartAt.{part-to-end}
 use native.Mathlib.Omega.{arith}
 use Rattle.nodes.proofs.Ways.{part-length}
 use Rattle.writing.specs.Spans.{span}
-use Rattle.contraction.specs.Told.{Placed}
+use Rattle.contraction.specs.Told.{Within}
 use Rattle.contraction.specs.Chosen.{OfNode}
 use Rattle.reducer.specs.declared.turns.Found.the-variants.{At}
 use Rattle.reducer.specs.Placed.{Spanned}
@@ -36,18 +36,18 @@ module _ (c : tie.After-found) where
   few : c .found .given .0 .1 .1 .0 .due ≤ 1 + 3 * c .found .given .0 .1 .1 .0 .place
   few = known .2
 
--- The rule tells what the node becomes.
-module _ (c : tie.After-chosen) where
+-- What the node becomes.
+module _ (c : tie.After-contract) where
   abbrev after-found′ : tie.After-found
   after-found′ = c .before .before .before
 
   abbrev start′ : tie.Start
   start′ = c .before .before .before .before .before .before .before .before
 
-  told : OfNode (drop (after-found′ .found .given .0 .0) (start′ .args .source .now)) (c .chosen .result)
+  told : OfNode (drop (after-found′ .found .given .0 .0) (start′ .args .source .now)) (c .contract .result)
   told =
       let p = part-to-end (start′ .args .source .now) (after-found′ .found .given .0 .0) in
-      subst (λ (v : List ℕ). OfNode v (c .chosen .result)) p (c .chosen .ensures .1)
+      subst (λ (v : List ℕ). OfNode v (c .contract .result)) p (c .contract .ensures .1)
 
 whose-requires : tie.Need-whose-requires
 whose-requires c κs =
@@ -65,32 +65,32 @@ returns c =
     let after-whose = c .before .before in
     (tt, step-value _ _ _ _ (after-whose .whose .ensures .1) (c .enum-told .given .1))
 
-mul-chosen : tie.Need-mul-chosen
-mul-chosen c =
+mul-contract : tie.Need-mul-contract
+mul-contract c =
     let after-found = c .before in
     let start = c .before .before .before .before .before .before in
     record { fits = omega (arith, place-in after-found, start .pre .1) }
 
-sub-chosen : tie.Need-sub-chosen
-sub-chosen c =
+sub-contract : tie.Need-sub-contract
+sub-contract c =
     let after-found = c .before in
     place-in after-found
 
-part-chosen-start : tie.Need-part-chosen-start
-part-chosen-start c =
+part-contract-start : tie.Need-part-contract-start
+part-contract-start c =
     let after-found = c .before in
     place-in after-found
 
-part-chosen-end : tie.Need-part-chosen-end
-part-chosen-end c = search needs
+part-contract-end : tie.Need-part-contract-end
+part-contract-end c = search needs
 
-sub-chosen-2 : tie.Need-sub-chosen-2
-sub-chosen-2 c =
+sub-contract-2 : tie.Need-sub-contract-2
+sub-contract-2 c =
     let after-found = c .before .before in
     omega (arith, end-is after-found)
 
-chosen-requires : tie.Need-chosen-requires
-chosen-requires c κs =
+contract-requires : tie.Need-contract-requires
+contract-requires c κs =
     let after-found = c .before .before in
     let start = c .before .before .before .before .before .before .before in
     let s = start in
@@ -99,67 +99,51 @@ chosen-requires c κs =
     let e = ap (λ (v : List ℕ). span v 1) (part-to-end (s .args .source .now) p) in
     (s .pre .0, omega (arith, l, s .pre .1), omega (arith, e, end-is after-found))
 
-end-of-requires : tie.Need-end-of-requires
-end-of-requires c κs = search needs
-
 enum-told-2 : tie.Need-enum-told-2
 enum-told-2 c = search needs
 
-enum-known-code : tie.Need-enum-known-code
-enum-known-code c = search needs
+enum-known-became : tie.Need-enum-known-became
+enum-known-became c = search needs
 
-enum-told-3 : tie.Need-enum-told-3
-enum-told-3 c = search needs
+enum-known-became-2 : tie.Need-enum-known-became-2
+enum-known-became-2 c = search needs
 
 splice-requires : tie.Need-splice-requires
 splice-requires c κs =
-    let after-chosen = c .before .before .before .before in
-    let after-found = c .before .before .before .before .before .before .before in
-    let start = c .before .before .before .before .before .before .before .before .before .before .before .before in
-    let s = start in
-    let f = after-found in
+    let after-contract = c .before .before .before .before in
+    let s = start′ after-contract in
+    let f = after-found′ after-contract in
+    let e = c .before .before .became2 .given .1 in
     let l = part-length (s .args .source .now) (f .found .given .0 .0) in
-    let w = subst (λ (n : ℕ). Placed n (after-chosen .chosen .result)) l (after-chosen .chosen .ensures .0) in
-    (s .pre .0, s .pre .1, record { inside = place-in f; ends = end-is f; told = told after-chosen; within = w })
+    let w = subst (λ (n : ℕ). Within n (after-contract .contract .result)) l (after-contract .contract .ensures .0) in (
+      s .pre .0,
+      s .pre .1,
+      record { inside = place-in f; ends = end-is f; told = subst (OfNode _) e (told after-contract); within = subst (Within _) e w },
+    )
 
 returns-2 : tie.Need-returns-2
 returns-2 c =
-    let after-end-of = c .before .before in
-    let after-chosen = c .before .before .before in
-    let after-found = c .before .before .before .before .before .before in
-    let after-whose = c .before .before .before .before .before .before .before .before in (
-      tt,
-      step-stuck _ _ _ _ (after-whose .whose .ensures .1) _ _ _ (after-found .found .given .1) _ (told after-chosen)
-          (sym (after-end-of .end-of .ensures) ∙ c .enum-told2 .given .1),
-    )
+    let after-contract = c .before .before in
+    let f = after-found′ after-contract in
+    (tt, step-stuck _ _ _ _ (after-whose f .whose .ensures .1) _ _ _ (f .found .given .1) _ (told after-contract) (c .enum-told2 .given .1))
 
 returns-3 : tie.Need-returns-3
 returns-3 c =
-    let after-code = c .before in
-    let after-end-of = c .before .before .before in
-    let after-chosen = c .before .before .before .before in
-    let after-found = c .before .before .before .before .before .before .before in
-    let after-whose = c .before .before .before .before .before .before .before .before .before in (
-      tt,
-      step-raised _ _ _ _ (after-whose .whose .ensures .1) _ _ _ (after-found .found .given .1) _ (told after-chosen) _
-          (sym (after-end-of .end-of .ensures) ∙ after-code .code .given .1),
-    )
+    let after-contract = c .before .before .before in
+    let f = after-found′ after-contract in
+    (tt, step-raised _ _ _ _ (after-whose f .whose .ensures .1) _ _ _ (f .found .given .1) _ (told after-contract) _ (c .before .became .given .1))
 
 same-length : tie.Need-same-length
 same-length c = search needs
 
 returns-4 : tie.Need-returns-4
 returns-4 c =
-    let after-splice = c .before .before in
-    let after-enum-told3 = c .before .before .before .before in
-    let after-end-of = c .before .before .before .before .before .before in
-    let after-chosen = c .before .before .before .before .before .before .before in
-    let after-found = c .before .before .before .before .before .before .before .before .before .before in
-    let after-whose = c .before .before .before .before .before .before .before .before .before .before .before .before in
-    let p = after-splice .splice .ensures in (
-      rw (p .from-there) (few after-found),
-      step-next _ _ _ _ (after-whose .whose .ensures .1) _ _ _ (after-found .found .given .1) _ (told after-chosen) _ _ p
-          (sym (after-end-of .end-of .ensures) ∙ after-enum-told3 .enum-told3 .given .1),
+    let after-piece = c .before .before .before .before .before in
+    let after-contract = after-piece .before .before in
+    let f = after-found′ after-contract in
+    let p = c .before .before .splice .ensures in (
+      rw (p .from-there) (few f),
+      step-next _ _ _ _ (after-whose f .whose .ensures .1) _ _ _ (f .found .given .1) _ (told after-contract) _ _ p _ (after-piece .became2 .given .1),
     )
 
 pub step-spec : {M : Type 1} → statement M
@@ -170,16 +154,15 @@ step-spec =
     enum-known-found
     enum-told
     returns
-    mul-chosen
-    sub-chosen
-    part-chosen-start
-    part-chosen-end
-    sub-chosen-2
-    chosen-requires
-    end-of-requires
+    mul-contract
+    sub-contract
+    part-contract-start
+    part-contract-end
+    sub-contract-2
+    contract-requires
     enum-told-2
-    enum-known-code
-    enum-told-3
+    enum-known-became
+    enum-known-became-2
     splice-requires
     returns-2
     returns-3
