@@ -2,11 +2,12 @@
 use Prim.Native.Nat.{ℕ, _+_, _-_}
 use mathlib.Core.List.{List, [], _++_, append-nil, append-assoc}
 use mathlib.Core.Path.{_≡_, refl, sym, ap, _∙_, subst}
-use lib.ListN.{length, take, drop}
-use lib.Seq.{take-at, drop-at, drop-drop}
+use lib.ListN.{length, getD, take, drop}
+use lib.Seq.{take-at, drop-at, drop-drop, getD-drop}
+use native.Mathlib.Nat.{add-zero}
 use borrow.Rule.Slice.PartAt.{part-to-end}
 use native.Mathlib.Omega.{arith}
-use Rattle.calculus.specs.Trees.{Lang, ml, Term}
+use Rattle.calculus.specs.Trees.{Lang, ml, Term, var, num, lam, op1, op2, if0, nil, wrong, ms, sm}
 use Rattle.calculus.specs.Words.{put, words, size}
 use Rattle.calculus.specs.Kinds.{term}
 use Rattle.calculus.specs.Reduction.{becomes, raises, nothing, contract, Context, fill, turn, stepped, outcome, step}
@@ -35,29 +36,38 @@ use Rattle.reducer.specs.Placed.{beginning, Told, Turns}
 use Rattle.reducer.specs.Moves.{Fits, Spliced, Moved, Steps}
 use Rattle.reducer.proofs.Onward.{contextAt, context-place, context-is, part-stands, ripe-turn}
 
+-- A term's first word is there, whatever follows.
+first-word : {l : Lang} (e : Term l) (k : List ℕ) → getD (put e k) 0 0 ≡ getD (words e) 0 0
+unfolding put
+first-word (var i) k = refl
+first-word (num n) k = refl
+first-word (lam t b) k = refl
+first-word (op1 o a) k = refl
+first-word (op2 o a b) k = refl
+first-word (if0 a b c) k = refl
+first-word (nil t) k = refl
+first-word (wrong c t) k = refl
+first-word (ms t a) k = refl
+first-word (sm t a) k = refl
+
 -- The splice: what the node becomes is written first, and the words before it and after it around that.
 module _ (source : List ℕ) (place end : ℕ) (piece : Piece) (fits : Fits source place end piece) (b b₀ b′ : List ℕ) (after k : ℕ) (back : From)
     (wrote : Writes (take (length source - place) (drop place source)) piece b place after b₀)
-    (next : writer.Next source place after end 1 b₀ k b′) where
+    (next : writer.Next source place after end b₀ k b′) where
   writes : Writes (drop place source) piece b place after b₀
   writes = subst (λ (v : List ℕ). Writes v piece b place after b₀) (part-to-end source place) wrote
 
   front : Wrote b₀ 0 (take place source) (next .k₁) (next .b₁)
-  front = let z : place - 0 ≡ place = omega arith in wrote-as (ap (λ (j : ℕ). take j source) z) (next .front .copied refl)
-
-  passed : (next .k₂ ≡ after) × (next .b₂ ≡ next .b₁)
-  passed = next .piece .passed (λ z. omega (arith, z))
+  front = let z : place - 0 ≡ place = omega arith in wrote-as (ap (λ (j : ℕ). take j source) z) (next .front)
 
   rear : Wrote (next .b₁) after (drop end source) k b′
-  rear =
-      subst (λ (j : ℕ). Wrote (next .b₁) j (drop end source) k b′) (passed .0)
-      (subst (λ (v : List ℕ). Wrote v (next .k₂) (drop end source) k b′) (passed .1) (wrote-as (part-to-end source end) (next .back .copied refl)))
+  rear = wrote-as (part-to-end source end) (next .back)
 
   abbrev change : Change
-  change = record { place = place; stood = end - place; stands = after - place; size = k; back = back }
+  change = record { word = getD source place 0; place = place; stood = end - place; stands = after - place; size = k; back = back }
 
   spliced-of : (P : List ℕ) (m : Lang) (n u : Term m) (Q : List ℕ) → source ≡ P ++ put n Q → place ≡ length P → contract n ≡ becomes u
-      → (end - place ≡ size n) × (after - place ≡ size u) × Wrote b 0 (P ++ put u Q) k b′
+      → (getD source place 0 ≡ getD (words n) 0 0) × (end - place ≡ size n) × (after - place ≡ size u) × Wrote b 0 (P ++ put u Q) k b′
   spliced-of P m n u Q q h g =
       let here : drop place source ≡ put n Q = ap (drop place) q ∙ drop-at P (put n Q) place (sym h) in
       let e : end ≡ place + size n = fits .ends ∙ ap (λ (j : ℕ). place + j) (span-tree (term m) n Q (drop place source) here) in
@@ -72,7 +82,8 @@ module _ (source : List ℕ) (place end : ℕ) (piece : Piece) (fits : Fits sour
       subst (λ (j : ℕ). Wrote b₀ 0 P j (next .b₁)) (front .place ∙ omega (arith, h, ap length before-it)) (wrote-as before-it front) in
       let w = then (before became f) (wrote-as after-it rear) in
       let z : (P ++ words u) ++ Q ≡ P ++ put u Q = append-assoc P (words u) Q ∙ ap (λ (v : List ℕ). P ++ v) (sym (put-append u [] Q)) in
-      (omega (arith, e), omega (arith, became .place, tree-length (term m) u []), wrote-as z w)
+      let d = sym (getD-drop place source 0 0 ∙ ap (λ (j : ℕ). getD source j 0) (add-zero place)) ∙ ap (λ (v : List ℕ). getD v 0 0) here in
+      (d ∙ first-word n Q, omega (arith, e), omega (arith, became .place, tree-length (term m) u []), wrote-as z w)
 
   pub spliced : Spliced source place back b change b′
   spliced = record { where-it-was = refl; from-there = refl; of = spliced-of }
@@ -151,7 +162,7 @@ module _ (source : List ℕ) (from : From) (b : List ℕ) (x : Found) (x-is : Tu
           let f : fill F (s .part) ≡ e = context-is s (s .part) ∙ s .is in
           let stands : source ≡ wordsBefore F ++ put (s .part) (wordsAfter F ++ []) = q ∙ ap words (sym f) ∙ put-fill F (s .part) [] in
           let w = sp .of (wordsBefore F) (s .lang) (s .part) u (wordsAfter F ++ []) stands (sym (context-place s)) k in
-          let v : Wrote b 0 (words (fill F u)) (c .size) b′ = wrote-as (sym (put-fill F u [])) (w .2) in (
+          let v : Wrote b 0 (words (fill F u)) (c .size) b′ = wrote-as (sym (put-fill F u [])) (w .3) in (
             c,
             refl,
             record {
@@ -166,9 +177,10 @@ module _ (source : List ℕ) (from : From) (b : List ℕ) (x : Found) (x-is : Tu
                     was = ap words (sym f) ∙ words-fill F (s .part);
                     is = words-fill F u;
                   };
+              word = w .0;
               place = sp .where-it-was ∙ sym (context-place s);
-              stood = w .0;
-              stands = w .1;
+              stood = w .1;
+              stands = w .2;
               sized = omega (arith, v .place, tree-length (term ml) (fill F u) []);
               written = v;
               resumes =

@@ -42,7 +42,7 @@ pub record Came (from : From) (e : Term ml) (due : ℕ) (node back : From) (wait
 -- Before each turn of the loop. Of any words: the node that waits ends where the nodes due and its rest do.
 pub record Waiting (ws : List ℕ) (i due rest : ℕ) (node back : From) : Type 0 where
   pub inside : i ≤ length ws
-  pub met : node .place ≤ length ws
+  pub met : node .place < length ws
   pub ends : node .place + span (drop (node .place) ws) 1 ≡ i + span (drop i ws) (due + rest)
   pub few : node .due ≤ 1 + 3 * node .place
   pub back-few : back .due ≤ 1 + 3 * back .place

@@ -1,8 +1,8 @@
 -- One step in words: what the code answers, and what it leaves in the target, is the calculus's step.
-use Prim.Native.Nat.{ℕ, _+_, _*_, _-_, _≤_}
+use Prim.Native.Nat.{ℕ, _+_, _*_, _-_, _<_, _≤_}
 use mathlib.Core.List.{List, _++_}
 use mathlib.Core.Path.{_≡_}
-use lib.ListN.{length, drop}
+use lib.ListN.{length, getD, drop}
 use Rattle.calculus.specs.Trees.{Lang, ml, Term}
 use Rattle.calculus.specs.Words.{put, words, size}
 use Rattle.calculus.specs.Reduction.{becomes, contract, Outcome, value, raised, next, stuck, step}
@@ -21,23 +21,24 @@ use Rattle.reducer.specs.Around.{Standing}
 
 -- A piece that is what the node at a place of the source becomes, and whose places are within the words.
 pub record Fits (source : List ℕ) (place end : ℕ) (piece : Piece) : Type 0 where
-  pub inside : place ≤ length source
+  pub inside : place < length source
   pub ends : end ≡ place + span (drop place source) 1
   pub told : OfNode (drop place source) (Becomes piece)
   pub within : Placed (length source - place) piece
 
--- Where the node n stands in the source behind the words P, and it becomes u: how many words stood and stand there, and the words that are
--- written.
+-- Where the node n stands in the source behind the words P, and it becomes u: its word, how many words stood and stand there, and the words
+-- that are written.
 pub record Spliced (source : List ℕ) (place : ℕ) (back : From) (b : List ℕ) (c : Change) (b′ : List ℕ) : Type 0 where
   pub where-it-was : c .place ≡ place
   pub from-there : c .back ≡ back
   pub of : (P : List ℕ) (m : Lang) (n u : Term m) (Q : List ℕ) → source ≡ P ++ put n Q → place ≡ length P → contract n ≡ becomes u
-      → (c .stood ≡ size n) × (c .stands ≡ size u) × Wrote b 0 (P ++ put u Q) (c .size) b′
+      → (c .word ≡ getD (words n) 0 0) × (c .stood ≡ size n) × (c .stands ≡ size u) × Wrote b 0 (P ++ put u Q) (c .size) b′
 
 -- The next term r of e: the change is that of the step's splice, the words of r are written, as far as they fit, and the next walk may begin
 -- where it is said to.
 pub record Changed (e r : Term ml) (b : List ℕ) (c : Change) (b′ : List ℕ) : Type 0 where
   pub splice : Splice e r
+  pub word : c .word ≡ getD (words (splice .node)) 0 0
   pub place : c .place ≡ length (wordsBefore (splice .place))
   pub stood : c .stood ≡ size (splice .node)
   pub stands : c .stands ≡ size (splice .became)

@@ -1,5 +1,5 @@
 -- Whose turn it is, in words: the place of the node, where its words end, and where the next walk may begin.
-use Prim.Native.Nat.{ℕ, _+_, _*_, _≤_}
+use Prim.Native.Nat.{ℕ, _+_, _*_, _<_, _≤_}
 use mathlib.Core.Bool.{Bool, true, false, cond}
 use mathlib.Core.List.{List}
 use mathlib.Core.Logic.{_⊎_}
@@ -34,7 +34,7 @@ pub record Turns (ws : List ℕ) (from whole : From) (r : Found) : Type 0 where
 -- The node stands within the words, and ends where one node's words do.
 abbrev pub Spanned : List ℕ → Found → Type 0
 Spanned ws Nothing = Unit {0}
-Spanned ws (At place end back) = (place ≤ length ws) × (end ≡ place + span (drop place ws) 1) × (back .due ≤ 1 + 3 * back .place)
+Spanned ws (At place end back) = (place < length ws) × (end ≡ place + span (drop place ws) 1) × (back .due ≤ 1 + 3 * back .place)
 
 -- The walk's answer: the node at the place, if one waited.
 abbrev pub finished : Bool → ℕ → ℕ → From → Found

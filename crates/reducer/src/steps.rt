@@ -16,9 +16,10 @@ ghost use Rattle.nodes.specs.Table.{kinds};
 ghost use Rattle.reducer.specs.Placed.{beginning, Spanned, Turns};
 ghost use Rattle.reducer.specs.Moves.{Fits, Spliced, Few, Steps};
 
-// The place of the node whose turn it was, how many words stood there, how many stand there now, how many words the next term has, whether it
-// fits or not, and where the next walk may begin.
+// The word of the node whose turn it was, its place, how many words stood there, how many stand there now, how many words the next term has,
+// whether it fits or not, and where the next walk may begin.
 pub struct Change {
+    pub word: u32,
     pub place: usize,
     pub stood: usize,
     pub stands: usize,
@@ -47,8 +48,9 @@ fn splice(
     ensures { λ r. ⌜ Spliced (now (source .entry)) place back (now (target .entry)) r (now (target .exit)) ⌝ }
 {
     let after = write(table, &source[place..], piece, target, place);
-    let size = write_next(target, source, place, after, end, 1);
+    let size = write_next(target, source, place, after, end);
     Change {
+        word: source[place],
         place: place,
         stood: end - place,
         stands: after - place,

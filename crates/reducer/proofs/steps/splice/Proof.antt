@@ -19,6 +19,9 @@ module _ (c : tie.Start) where
       let l = length-drop (s .place) (s .source .now) in
       omega (arith, c .pre .2 .ends, span-within (drop (s .place) (s .source .now)) 1, l, c .pre .2 .inside)
 
+  place-in : c .args .place ≤ length (c .args .source .now)
+  place-in = omega (arith, c .pre .2 .inside)
+
   end-past : c .args .place ≤ c .args .end
   end-past = omega (arith, c .pre .2 .ends)
 
@@ -28,14 +31,10 @@ mul-write c =
     record { fits = omega (arith, start .pre .1, start .pre .2 .inside) }
 
 sub-write : tie.Need-sub-write
-sub-write c =
-    let start = c .before .before in
-    start .pre .2 .inside
+sub-write c = place-in (c .before .before)
 
 part-write-start : tie.Need-part-write-start
-part-write-start c =
-    let start = c .before .before in
-    start .pre .2 .inside
+part-write-start c = place-in (c .before .before)
 
 part-write-end : tie.Need-part-write-end
 part-write-end c = search needs
@@ -54,32 +53,43 @@ write-next-requires c κs =
     let start = c .before .before .before .before .before .before .before .before in
     let s = start in
     record {
-      size = s .pre .1;
-      first = s .pre .2 .inside;
-      order = λ z. absurd (omega (arith, z));
-      within = omega (arith, end-in s, s .pre .2 .inside);
-      far = omega (arith, after-write .write .ensures .1 .1, s .pre .1, s .pre .2 .inside);
+      few = s .pre .1;
+      first = place-in s;
+      last = end-in s;
+      near = omega (arith, after-write .write .ensures .1 .1, s .pre .1, s .pre .2 .inside);
     }
 
-sub-t10 : tie.Need-sub-t10
-sub-t10 c =
+-- The moment when the node's words have been written, and the moment when the others have.
+module _ (c : tie.After-shared-slice-known2) where
+  abbrev after-next : tie.After-write-next
+  after-next = c .before .before .before
+
+  abbrev after-write : tie.After-write
+  after-write = after-next .before .before .before .before
+
+  abbrev begun : tie.Start
+  begun = after-write .before .before .before .before .before
+
+mul-t10 : tie.Need-mul-t10
+mul-t10 c =
     let start = c .before .before .before .before .before .before .before .before .before .before .before in
-    end-past start
+    record { fits = omega (arith, start .pre .1, start .pre .2 .inside) }
+
+shared-slice-read-t20 : tie.Need-shared-slice-read-t20
+shared-slice-read-t20 c = begun c .pre .2 .inside
 
 sub-t12 : tie.Need-sub-t12
-sub-t12 c =
-    let after-write = c .before .before .before .before .before .before in
-    after-write .write .ensures .1 .0
+sub-t12 c = end-past (begun c)
+
+sub-t21 : tie.Need-sub-t21
+sub-t21 c = after-write c .write .ensures .1 .0
 
 same-length : tie.Need-same-length
 same-length c = search needs
 
 returns : tie.Need-returns
 returns c =
-    let after-write-next = c .before .before in
-    let after-write = c .before .before .before .before .before .before in
-    let start = c .before .before .before .before .before .before .before .before .before .before .before in
-    spliced _ _ _ _ (start .pre .2) _ _ _ _ _ _ (after-write .write .ensures .0) (after-write-next .write-next .ensures)
+    spliced _ _ _ _ (begun c .pre .2) _ _ _ _ _ _ (after-write c .write .ensures .0) (after-next c .write-next .ensures)
 
 pub splice-spec : {M : Type 1} → statement M
 splice-spec =
@@ -91,7 +101,9 @@ splice-spec =
     part-write-end
     write-requires
     write-next-requires
-    sub-t10
+    mul-t10
+    shared-slice-read-t20
     sub-t12
+    sub-t21
     same-length
     returns)

@@ -28,7 +28,7 @@ module _ (c : tie.After-found) where
   known = subst (Spanned (start .args .source .now)) (c .found .given .1) (after-whose .whose .ensures .0)
 
   place-in : c .found .given .0 .0 ≤ length (start .args .source .now)
-  place-in = known .0
+  place-in = omega (arith, known .0)
 
   end-is : c .found .given .0 .1 .0 ≡ c .found .given .0 .0 + span (drop (c .found .given .0 .0) (start .args .source .now)) 1
   end-is = known .1
@@ -118,7 +118,7 @@ splice-requires c κs =
     let w = subst (λ (n : ℕ). Within n (after-contract .contract .result)) l (after-contract .contract .ensures .0) in (
       s .pre .0,
       s .pre .1,
-      record { inside = place-in f; ends = end-is f; told = subst (OfNode _) e (told after-contract); within = subst (Within _) e w },
+      record { inside = known f .0; ends = end-is f; told = subst (OfNode _) e (told after-contract); within = subst (Within _) e w },
     )
 
 returns-2 : tie.Need-returns-2
