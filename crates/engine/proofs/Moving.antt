@@ -83,6 +83,11 @@ module _ (e : Term ml) (n cap limit : ℕ) (made : Counts) (size-is : n ≡ leng
   fills true u g x y q = absurd (no-both q)
   fills false u g x y q = leaves ends.Full (size u) y q
 
+  fills-by : (u : Term ml) (g : Term ml → spec.Result) (x : Change) (k : ℕ) (y : Report) → k ≡ size u
+      → cond (leb k cap) (Go x (oneMore made)) (stopped ends.Full 0 made n k) ≡ Stop y
+      → Finished (spec.ifFits (leb (size u) cap) (countsOf made) e u g) (words e) y
+  fills-by u g x k y h q = fills (leb (size u) cap) u g x y (rw h at q)
+
   -- the run ends here
   pub stops : (k : ℕ) (o : Outcome ml) (b b′ : List ℕ) (r : Move) (x : Report) → k ≡ limit - made .steps → Moved o b r b′
       → chosen r n cap made limit ≡ Stop x
@@ -93,8 +98,8 @@ module _ (e : Term ml) (n cap limit : ℕ) (made : Counts) (size-is : n ≡ leng
   stops (suc k) (raised c) b b′ r x i h q = errs c x (rw (h, ne-eqb (made .steps) limit (λ z. omega arith)) at q)
   stops zero (next u) b b′ r x i h q = leaves ends.Spent 0 x (rw (h .1, eq-eqb (made .steps) limit (omega arith)) at q)
   stops (suc k) (next u) b b′ r x i h q =
-      fills (leb (size u) cap) u (λ v. spec.run k cap (spec.counted (countsOf made)) v) (h .0) x
-      (rw (h .1, ne-eqb (made .steps) limit (λ z. omega arith), h .2) at q)
+      fills-by u (λ v. spec.run k cap (spec.counted (countsOf made)) v) (h .0) (h .0 .size) x (h .2)
+      (rw (h .1, ne-eqb (made .steps) limit (λ z. omega arith)) at q)
   stops zero stuck b b′ r x i h q = leaves ends.Spent 0 x (rw h at q)
   stops (suc k) stuck b b′ r x i h q = leaves ends.Spent 0 x (rw h at q)
 
@@ -103,6 +108,11 @@ module _ (e : Term ml) (n cap limit : ℕ) (made : Counts) (size-is : n ≡ leng
       → (spec.ifFits b (countsOf made) e u g ≡ g u) × (x ≡ y) × (more ≡ oneMore made)
   fits true u g x y more q = (refl, cc, cc)
   fits false u g x y more q = absurd (no-both (sym q))
+
+  fits-by : (u : Term ml) (g : Term ml → spec.Result) (x y : Change) (k : ℕ) (more : Counts) → k ≡ size u
+      → cond (leb k cap) (Go x (oneMore made)) (stopped ends.Full 0 made n k) ≡ Go y more
+      → (spec.ifFits (leb (size u) cap) (countsOf made) e u g ≡ g u) × (x ≡ y) × (more ≡ oneMore made)
+  fits-by u g x y k more h q = fits (leb (size u) cap) u g x y more (rw h at q)
 
   -- the run goes on
   pub goes : (k : ℕ) (o : Outcome ml) (b b′ : List ℕ) (r : Move) (y : Change) (more : Counts) → k ≡ limit - made .steps → Moved o b r b′
@@ -113,8 +123,8 @@ module _ (e : Term ml) (n cap limit : ℕ) (made : Counts) (size-is : n ≡ leng
   goes (suc k) (raised c) b b′ r y more i h q = absurd (no-both (sym (rw (h, ne-eqb (made .steps) limit (λ z. omega arith)) at q)))
   goes zero (next u) b b′ r y more i h q = absurd (no-both (sym (rw (h .1, eq-eqb (made .steps) limit (omega arith)) at q)))
   goes (suc k) (next u) b b′ r y more i h q =
-      let f = fits (leb (size u) cap) u (λ v. spec.run k cap (spec.counted (countsOf made)) v) (h .0) y more
-      (rw (h .1, ne-eqb (made .steps) limit (λ z. omega arith), h .2) at q) in
+      let f = fits-by u (λ v. spec.run k cap (spec.counted (countsOf made)) v) (h .0) y (h .0 .size) more (h .2)
+      (rw (h .1, ne-eqb (made .steps) limit (λ z. omega arith)) at q) in
       let d : k ≡ limit - (made .steps + 1) = omega arith in
       record {
         term = u;

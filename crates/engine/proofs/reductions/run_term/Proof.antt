@@ -21,11 +21,21 @@ loop-holds c =
     let s = start .args in
     running-start (s .first .now) (s .second .now) (s .count) (s .cap) (s .limit) (start .pre .1)
 
+-- The moments of a round: its start, and the step that was taken.
+module _ (c : tie.After-decide Inv-loop μ-loop) where
+  abbrev after-advance : tie.After-advance Inv-loop μ-loop
+  after-advance = c .before .before .before .before .before
+
+  abbrev at-loop : tie.At-loop Inv-loop μ-loop
+  at-loop = after-advance .before .before .before
+
+  abbrev start : tie.Start Inv-loop μ-loop
+  start = at-loop .before .before .before
+
 advance-requires : tie.Need-advance-requires Inv-loop μ-loop
 advance-requires c κs =
     let at-loop = c .before .before in
-    let start = c .before .before .before .before .before in
-    let s = start in
+    let s = at-loop .before .before .before in
     let i = at-loop .loop .inv in (
       s .pre .0,
       omega (arith, i .room, i .first-length, s .pre .2),
@@ -36,44 +46,50 @@ advance-requires c κs =
 
 decide-requires : tie.Need-decide-requires Inv-loop μ-loop
 decide-requires c κs =
-    let at-loop = c .before .before .before .before .before .before .before in
-    at-loop .loop .inv .left
+    let after-advance = c .before .before .before .before in
+    after-advance .before .before .before .loop .inv .left
 
 enum-known-report : tie.Need-enum-known-report Inv-loop μ-loop
 enum-known-report c = search needs
 
 same-length : tie.Need-same-length Inv-loop μ-loop
 same-length c =
-    let after-advance = c .before .before .before .before .before .before .before .before in
-    let at-loop = c .before .before .before .before .before .before .before .before .before .before .before in
-    after-advance .advance .kept .1 .1 .0 ∙ at-loop .loop .inv .first-length
+    let d = c .before .before .before in
+    after-advance d .advance .kept .1 .1 .0 ∙ at-loop d .loop .inv .first-length
 
 same-length-2 : tie.Need-same-length-2 Inv-loop μ-loop
 same-length-2 c =
-    let after-advance = c .before .before .before .before .before .before .before .before in
-    let at-loop = c .before .before .before .before .before .before .before .before .before .before .before in
-    after-advance .advance .kept .1 .1 .1 .0 ∙ at-loop .loop .inv .second-length
+    let d = c .before .before .before in
+    after-advance d .advance .kept .1 .1 .1 .0 ∙ at-loop d .loop .inv .second-length
 
 returns : tie.Need-returns Inv-loop μ-loop
 returns c =
-    let after-report = c .before in
-    let after-decide = c .before .before .before in
-    let after-advance = c .before .before .before .before .before .before .before .before in
-    let at-loop = c .before .before .before .before .before .before .before .before .before .before .before in
-    let start = c .before .before .before .before .before .before .before .before .before .before .before .before .before .before in
-    let s = start in
-    let a = after-advance .advance in
-    running-end (at-loop .loop .inv) (a .ensures) (s .pre .2) (s .pre .3) (after-report .report .given .0 .0)
-    (sym (after-decide .decide .ensures) ∙ after-report .report .given .1)
+    let d = c .before .before .before in
+    let g = c .before .report .given in
+    let s = start d in
+    running-end (at-loop d .loop .inv) (after-advance d .advance .ensures) (s .pre .2) (s .pre .3) (g .0 .0) (sym (d .decide .ensures) ∙ g .1)
 
 enum-known-change : tie.Need-enum-known-change Inv-loop μ-loop
 enum-known-change c = search needs
 
 loop-less : tie.Need-loop-less Inv-loop μ-loop
-loop-less c = ?
+loop-less c =
+    let d = c .before .before .before .before in
+    let g = c .before .before .change .given in
+    let l = at-loop d .loop in
+    let s = start d .args in
+    let f = go-fits (l .n) (s .cap) (s .limit) (l .made) (l .inv .left) (after-advance d .advance .result) (g .0 .0) (g .0 .1 .0)
+    (sym (d .decide .ensures) ∙ g .1) in
+    omega (arith, f .2, f .3)
 
 loop-again : tie.Need-loop-again Inv-loop μ-loop
-loop-again c = ?
+loop-again c =
+    let d = c .before .before .before .before in
+    let g = c .before .before .change .given in
+    let s = start d in
+    let a = after-advance d .advance in
+    running-next (at-loop d .loop .inv) (a .ensures) (s .pre .2) (s .pre .3) (g .0 .0) (g .0 .1 .0) (sym (d .decide .ensures) ∙ g .1)
+    (a .kept .1 .1 .0) (a .kept .1 .1 .1 .0)
 
 pub run-term-spec : {M : Type 1} → statement M
 run-term-spec =
