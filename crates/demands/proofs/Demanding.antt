@@ -18,7 +18,8 @@ use Rattle.nodes.specs.Refusals.{numberOf, placeOf, refusal}
 use Rattle.checker.specs.declared.Checked.{Checked}
 use Rattle.checker.specs.declared.Checked.the-variants.{Refused, Accepted}
 use Rattle.checker.specs.Checks.{checked, accepting}
-use Rattle.demands.specs.Demanded.{Lent, Given, Recipe, Checks, Twice}
+use Rattle.demands.specs.Demanded.{Recipe, Checks, Twice}
+use Rattle.engine.specs.Lent.{Lent, Given}
 use Rattle.demands.proofs.Running.{Promised, grow}
 
 -- A refusal is its number and place.

@@ -29,7 +29,8 @@ use Rattle.engine.specs.declared.runs.Answer.{Answer}
 use Rattle.engine.specs.declared.runs.Answer.the-variants.{Refused, Ended}
 use Rattle.engine.specs.Results.{Line, lineOf, endOf, told}
 use Rattle.engine.specs.Answered.{spoken, Answered}
-use Rattle.demands.specs.Demanded.{Lent, Given, room, Finishes, refuses, ends, Reduces, Fitting, Over, RefusedBy, Exact, Once, Same}
+use Rattle.demands.specs.Demanded.{Finishes, refuses, ends, Reduces, Fitting, Over, RefusedBy, Exact, Once, Same}
+use Rattle.engine.specs.Lent.{Lent, Given, room}
 
 -- What `run` promises of what it is lent and gives back.
 abbrev pub Promised : Lent → Given → Type 0

@@ -7,7 +7,7 @@ use lib.ListN.{length, take, replicate}
 use Rattle.calculus.specs.Trees.{Ty, ml, Term}
 use Rattle.calculus.specs.Words.{size}
 use Rattle.calculus.specs.Verdicts.{refused}
-use Rattle.calculus.specs.Run.{Final, capacity}
+use Rattle.calculus.specs.Run.{Final}
 use Rattle.calculus.specs.Endings.{Ending}
 use Rattle.calculus.specs.File.{check, padded}
 use Rattle.calculus.specs.Accepted.{Accepted}
@@ -21,29 +21,7 @@ use Rattle.engine.specs.declared.ends.Report.{Report}
 use Rattle.engine.specs.declared.runs.Answer.{Answer}
 use Rattle.engine.specs.declared.runs.Answer.the-variants.{Refused, Ended}
 use Rattle.engine.specs.Results.{lineOf, endOf, told}
-
--- "Lent: the file, a step limit, two word buffers": the bytes, the limit, and what both buffers hold.
-pub record Lent : Type 0 where
-  pub bytes : List ℕ
-  pub limit : ℕ
-  pub first : List ℕ
-  pub second : List ℕ
-
-abbrev pub lent : List ℕ → ℕ → List ℕ → List ℕ → Lent
-lent bytes limit first second = record { bytes = bytes; limit = limit; first = first; second = second }
-
--- What a run gives back: its answer, and what both buffers hold then.
-pub record Given : Type 0 where
-  pub answer : Answer
-  pub first : List ℕ
-  pub second : List ℕ
-
-abbrev pub given : Answer → List ℕ → List ℕ → Given
-given x first second = record { answer = x; first = first; second = second }
-
--- "Capacity is the shorter length, at most 16,384": of what is lent.
-abbrev pub room : Lent → ℕ
-room l = capacity (length (l .first)) (length (l .second))
+use Rattle.engine.specs.Lent.{Lent, Given, room}
 
 -- Demand 1: "finishes: with one of the eight refusals in document 01, both buffers then all zero, or with one of its four ends".
 pub data Finishes (l : Lent) (g : Given) : Type 0 where

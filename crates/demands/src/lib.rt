@@ -5,7 +5,8 @@ use checker::Checked;
 use checker::check;
 use engine::runs::Answer;
 use engine::runs::run;
-ghost use Rattle.demands.specs.Demanded.{lent, given, Checks, Once, Twice};
+ghost use Rattle.engine.specs.Lent.{lent, given};
+ghost use Rattle.demands.specs.Demanded.{Checks, Once, Twice};
 
 // Three answers on one file: the check's, and those of two runs.
 pub struct Answers {

@@ -9,8 +9,8 @@ use nodes::refusals::Refusal;
 ghost use mathlib.Core.Path.{_≡_};
 ghost use Prim.Native.Nat.{_≤_};
 ghost use lib.ListN.{length};
-ghost use Rattle.calculus.specs.File.{operate};
-ghost use Rattle.engine.specs.Answered.{Answered, Begun};
+ghost use Rattle.engine.specs.Lent.{lent, given};
+ghost use Rattle.engine.specs.Answered.{Answered, Runs, Begun};
 ghost use Rattle.nodes.specs.Refusals.{refusal};
 
 pub enum Answer {
@@ -41,7 +41,11 @@ pub fn begin(terms: &[u32], limit: u32, first: &mut [u32], second: &mut [u32]) -
 
 // A run of a file in two lent buffers, for every file, every limit and every pair of buffers, whatever they held.
 pub fn run(file: &[u8], limit: u32, first: &mut [u32], second: &mut [u32]) -> Answer
-    ensures { λ x. ⌜ Answered (operate (now (file .entry)) limit (length (now (first .entry))) (length (now (second .entry)))) x (now (first .entry)) (now (second .entry)) (now (first .exit)) (now (second .exit)) ⌝ }
+    ensures { λ x. ⌜
+        Runs
+        (lent (now (file .entry)) limit (now (first .entry)) (now (second .entry)))
+        (given x (now (first .exit)) (now (second .exit)))
+        ⌝ }
 {
     let mut all = [0u32; 4096];
     match admit(file, &mut all) {

@@ -1,7 +1,11 @@
 -- What a C program gets.
 use Prim.Native.Nat.{ℕ, _+_, _*_}
-use Rattle.calculus.specs.Verdicts.{Verdict, refused, passed}
-use Rattle.engine.specs.Results.{numberOfEnd, Line, told}
+use mathlib.Core.List.{List}
+use lib.ListN.{length}
+use Rattle.calculus.specs.Verdicts.{Verdict, refused, passed, andThen}
+use Rattle.calculus.specs.File.{firstAfter, secondAfter}
+use Rattle.engine.specs.Results.{numberOfEnd, Line, lineOf, told}
+use Rattle.engine.specs.Lent.{Lent, operated}
 use Rattle.engine.specs.declared.ends.Report.{Report}
 use Rattle.exports.specs.declared.runs.RecipeRun.{RecipeRun}
 
@@ -32,3 +36,13 @@ endedNumbers x = lineNumbers (told x)
 abbrev pub runNumbers : Verdict Line → RecipeRun
 runNumbers (refused n p) = refusedNumbers n p
 runNumbers (passed x) = lineNumbers x
+
+-- The numbers of a run of what is lent, and what it leaves in both buffers.
+abbrev pub numbersOf : Lent → RecipeRun
+numbersOf l = runNumbers (andThen (operated l) (λ x. passed (lineOf x)))
+
+abbrev pub firstOf : Lent → List ℕ
+firstOf l = firstAfter (length (l .first)) (operated l)
+
+abbrev pub secondOf : Lent → List ℕ
+secondOf l = secondAfter (length (l .second)) (operated l)

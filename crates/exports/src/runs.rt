@@ -7,12 +7,9 @@ use nodes::refusals::Refusal;
 use nodes::refusals::numbered;
 ghost use mathlib.Core.Path.{_≡_};
 ghost use Prim.Native.Nat.{_≤_};
-ghost use lib.ListN.{length};
-ghost use Rattle.calculus.specs.Verdicts.{passed, andThen};
-ghost use Rattle.calculus.specs.File.{operate, firstAfter, secondAfter};
 ghost use Rattle.nodes.specs.Refusals.{placeOf, refusal};
-ghost use Rattle.engine.specs.Results.{lineOf};
-ghost use Rattle.exports.specs.Numbers.{endedNumbers, runNumbers};
+ghost use Rattle.engine.specs.Lent.{lent};
+ghost use Rattle.exports.specs.Numbers.{endedNumbers, runNumbers, numbersOf, firstOf, secondOf};
 
 #[repr(C)]
 pub struct RecipeRun {
@@ -73,9 +70,9 @@ pub extern "C" fn recipe_run(
     first: &mut [u32],
     second: &mut [u32],
 ) -> RecipeRun
-    ensures answer { λ r. ⌜ r ≡ runNumbers (andThen (operate (now (file .entry)) limit (length (now (first .entry))) (length (now (second .entry)))) (λ x. passed (lineOf x))) ⌝ }
-    ensures first { λ r. ⌜ now (first .exit) ≡ firstAfter (length (now (first .entry))) (operate (now (file .entry)) limit (length (now (first .entry))) (length (now (second .entry)))) ⌝ }
-    ensures second { λ r. ⌜ now (second .exit) ≡ secondAfter (length (now (second .entry))) (operate (now (file .entry)) limit (length (now (first .entry))) (length (now (second .entry)))) ⌝ }
+    ensures answer { λ r. ⌜ r ≡ numbersOf (lent (now (file .entry)) limit (now (first .entry)) (now (second .entry))) ⌝ }
+    ensures first { λ _. ⌜ now (first .exit) ≡ firstOf (lent (now (file .entry)) limit (now (first .entry)) (now (second .entry))) ⌝ }
+    ensures second { λ _. ⌜ now (second .exit) ≡ secondOf (lent (now (file .entry)) limit (now (first .entry)) (now (second .entry))) ⌝ }
 {
     match run(file, limit, first, second) {
         Answer::Refused(r) => refused_by(r),
