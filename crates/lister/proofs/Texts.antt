@@ -11,9 +11,8 @@ use Rattle.calculus.specs.File.{operate, leftBy, firstAfter}
 use Rattle.calculus.proofs.Refusing.{operate-number}
 use Rattle.calculus.proofs.Bounds.{operate-bounded}
 use Rattle.file.proofs.Padding.{padded-take, padded-length}
-use Rattle.engine.specs.Results.{lineOf}
+use Rattle.engine.specs.Results.{lineOf, numberOfEnd}
 use Rattle.exports.specs.Numbers.{runNumbers}
-use Rattle.engine.specs.Results.{numberOfEnd}
 use Rattle.exports.specs.declared.runs.RecipeRun.{RecipeRun}
 use Rattle.text.specs.Characters.{characters}
 use Rattle.lister.specs.Listing.{lineFeed, wordsLine, endName, textOf, listing}
