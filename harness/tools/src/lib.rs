@@ -7,7 +7,6 @@ pub mod compare;
 pub mod engine;
 pub mod make;
 pub mod output;
-pub mod port;
 pub mod progress;
 pub mod random;
 pub mod recipe;

@@ -36,12 +36,12 @@ takes less time.
 
 /// How a step is measured, printed before the tables of steps.
 const STEPS: &str = "\
-run and growth: steps. tree: the model's reducer on trees. engine: recipe_run. port: the engine's algorithm on words in
-plain Rust, from the term's words on. copy: the words of each next term copied, one copy_from_slice a step, no more.
+run and growth: steps. tree: the model's reducer on trees. engine: recipe_run. copy: the words of each next term
+copied, one copy_from_slice a step, no more.
 A step's time is a difference: the time of the run under its limit less the time of the same run, of the same file in
 the same buffers, under the limit before the first step measured, divided by the steps. So the reading and the check of
 the file, the first words put into the buffer and the clearing of both buffers at the end are not in it. Two buffers
 are lent of just the words needed (lent: the largest term's or the file's, whichever is more, rounded up to 64); they
-are not cleared beforehand but hold what the last run left. words: of a term, on average. A ratio over 1 says that the
-engine takes less time than tree or port, or more than copy.
+are not cleared beforehand but hold what the last run left. words: of a term, on average. tree/engine over 1 says that
+the engine takes less time, engine/copy over 1 that it takes more.
 ";

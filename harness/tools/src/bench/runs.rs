@@ -1,4 +1,4 @@
-//! Whole recipes: a step of the engine's run against the reducer on trees, the port and a plain copy.
+//! Whole recipes: a step of the engine's run against the reducer on trees and a plain copy.
 
 use super::recipes::recipes;
 use super::table::head;

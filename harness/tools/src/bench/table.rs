@@ -11,7 +11,6 @@ pub struct Measured {
     pub tree: f64,
     /// None where the engine is not linked.
     pub engine: Option<f64>,
-    pub port: f64,
     pub copy: f64,
 }
 
@@ -20,13 +19,13 @@ const NAME: usize = 23;
 
 /// The lines that stand over the columns.
 pub fn head() -> [String; 2] {
-    let works = ["tree", "engine", "port", "copy"];
-    let columns = works.iter().chain(&works).chain(&["engine", "engine", "copy"]);
+    let works = ["tree", "engine", "copy"];
+    let columns = works.iter().chain(&works).chain(&["engine", "copy"]);
     let mut names = format!("{:<NAME$} {:>6} {:>5} {:>5}", "recipe", "steps", "words", "lent");
     columns.for_each(|column| names += &format!("{column:>7}"));
     let groups = format!(
-        "{:<NAME$} {:>18}{:>28}{:>28}{:>7}{:>7}{:>8}",
-        "", "", "nanoseconds a step", "nanoseconds a word", "tree/", "port/", "engine/"
+        "{:<NAME$} {:>18}{:>21}{:>21}{:>7}{:>8}",
+        "", "", "nanoseconds a step", "nanoseconds a word", "tree/", "engine/"
     );
     [groups, names]
 }
@@ -34,11 +33,11 @@ pub fn head() -> [String; 2] {
 impl Measured {
     /// The row's text.
     pub fn row(&self) -> String {
-        let works = [Some(self.tree), self.engine, Some(self.port), Some(self.copy)];
+        let works = [Some(self.tree), self.engine, Some(self.copy)];
         let each = |count: usize| works.map(|work| figure(work.map(|seconds| 1e9 * seconds / count.max(1) as f64)));
         let times = each(self.steps).into_iter().chain(each(self.words));
-        let over = |work: f64| figure(self.engine.map(|engine| work / engine));
-        let ratios = [over(self.tree), over(self.port), figure(self.engine.map(|engine| engine / self.copy))];
+        let ratios =
+            [self.engine.map(|engine| self.tree / engine), self.engine.map(|engine| engine / self.copy)].map(figure);
         let mean = self.words.checked_div(self.steps).unwrap_or(0);
         let mut text = format!("{:<NAME$.NAME$} {:>6} {mean:>5} {:>5}", self.name, self.steps, self.lent);
         times.chain(ratios).for_each(|figure| text += &format!("{figure:>7}"));

@@ -1,11 +1,9 @@
-//! The works on a recipe's steps: on trees, by the engine, by the port, and a plain copy of the same words.
+//! The works on a recipe's steps: on trees, by the engine, and a plain copy of the same words.
 
 use super::recipes::Recipe;
 use super::table::Measured;
 use super::timing::{side_by_side, Work};
 use crate::engine::{linked_run, Run};
-use crate::port;
-use model::file::{regions, words_of};
 use model::node::Node;
 use model::rules::RuleCounts;
 use model::run::{reduce, MOST_WORDS};
@@ -25,13 +23,12 @@ pub fn measured(recipe: &Recipe, from: u32, limit: u32) -> Measured {
     let mut works = vec![copying(steps, lent)];
     for limit in [from, limit] {
         works.push(on_trees(&tree, limit));
-        works.push(by_port(file, limit, lent));
         works.extend(linked_run().map(|engine| by_engine(engine, file, limit, lent)));
     }
     let (copy, runs) = split(side_by_side(&mut works));
     let differences: Vec<f64> = runs.0.iter().zip(&runs.1).map(|(before, whole)| whole - before).collect();
-    let (tree, port, engine) = (differences[0], differences[1], differences.get(2).copied());
-    Measured { name: recipe.name.clone(), steps: count, words, lent, tree, engine, port, copy }
+    let (tree, engine) = (differences[0], differences.get(1).copied());
+    Measured { name: recipe.name.clone(), steps: count, words, lent, tree, engine, copy }
 }
 
 /// The first time, and the others in two halves.
@@ -73,17 +70,6 @@ fn by_engine(engine: Run, file: &[u8], limit: u32, lent: usize) -> Work<'_> {
     let (mut first, mut second) = (vec![0; lent], vec![0; lent]);
     Box::new(move || {
         black_box(engine(black_box(file), limit, &mut first, &mut second));
-    })
-}
-
-/// The run by the port, from the words of the term.
-fn by_port(file: &[u8], limit: u32, lent: usize) -> Work<'_> {
-    let words = words_of(file).expect("an accepted file has words");
-    let term = regions(&words).expect("an accepted file has a header").term.to_vec();
-    let (mut first, mut second) = (vec![0; lent], vec![0; lent]);
-    Box::new(move || {
-        let ended = port::run_term(black_box(&term), limit, &mut first, &mut second);
-        let _ = black_box(ended);
     })
 }
 

@@ -1,4 +1,4 @@
-//! Benchmarks of the engine against the model, the port and a plain copy: works measured side by side in one run.
+//! Benchmarks of the engine against the model and a plain copy: works measured side by side in one run.
 #![forbid(unsafe_code)]
 
 use model::on_large_stack;
@@ -11,7 +11,7 @@ const HELP: &str = "\
 usage: bench [check | run | growth]
 
 check    the check of growing files: engine and checker on trees
-run      recipes run: a step of the engine, of the reducer on trees and of the port, a plain copy of the same words
+run      recipes run: a step of the engine and of the reducer on trees, a plain copy of the same words
 growth   how a step's time grows with the words of the term
 All three where none is named. Build with --release and --features run; without the engine its columns are left out.
 ";
