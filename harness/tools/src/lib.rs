@@ -6,6 +6,7 @@ pub mod bench;
 pub mod compare;
 pub mod engine;
 pub mod make;
+pub mod old_engine;
 pub mod output;
 pub mod progress;
 pub mod random;

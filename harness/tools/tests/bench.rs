@@ -1,33 +1,55 @@
 //! The tables of the benchmarks: their figures and their width. Nothing here is timed.
 
 use tools::bench::table::{head, Measured};
-use tools::bench::{ABOUT, PARTS};
+use tools::bench::{ABOUT, ABOUT_OLD, PARTS};
 
 /// Ten steps of terms of 100 words, with times that are easily divided.
-fn measured(engine: Option<f64>) -> Measured {
+fn measured(engine: Option<f64>, old: Option<f64>) -> Measured {
     let name = "a-name-of-23-letters...".to_string();
-    Measured { name, steps: 10, words: 1_000, lent: 128, tree: 4e-6, engine, copy: 2e-7 }
+    Measured { name, steps: 10, words: 1_000, lent: 128, tree: 4e-6, engine, old, copy: 2e-7 }
+}
+
+/// A row without its name.
+fn figures(row: &str) -> Vec<&str> {
+    row.split_whitespace().skip(1).collect()
 }
 
 #[test]
 fn a_row_has_times_for_each_step_and_word_and_ratios() {
-    let row = measured(Some(2e-6)).row();
-    let figures: Vec<&str> = row.split_whitespace().skip(1).collect();
+    let row = measured(Some(2e-6), None).row();
     let expected = ["10", "100", "128", "400", "200", "20.0", "4.00", "2.00", "0.20", "2.00", "10.0"];
-    assert_eq!(figures, expected);
+    assert_eq!(figures(&row), expected);
+}
+
+#[test]
+fn an_old_archive_has_its_times_and_the_ratio_of_new_to_old() {
+    let row = measured(Some(2e-6), Some(1e-6)).row();
+    let steps = ["10", "100", "128", "400", "200", "100", "20.0"];
+    assert_eq!(figures(&row), [&steps[..], &["4.00", "2.00", "1.00", "0.20", "2.00", "10.0", "2.00"]].concat());
 }
 
 #[test]
 fn without_the_engine_its_figures_are_dashes() {
-    let row = measured(None).row();
+    let row = measured(None, None).row();
     assert_eq!(row.split_whitespace().filter(|figure| *figure == "-").count(), 4);
 }
 
 #[test]
+fn a_name_stands_over_each_figure() {
+    for old in [None, Some(1e-6)] {
+        let row = measured(Some(2e-6), old).row();
+        let [groups, names] = head(old.is_some());
+        assert_eq!((groups.len(), names.len()), (row.len(), row.len()));
+        assert_eq!(names.split_whitespace().count(), row.split_whitespace().count());
+    }
+}
+
+#[test]
 fn tables_fit_120_columns() {
-    let large = Measured { steps: 20_000, words: 20_000 * 16_384, lent: 16_384, tree: 20.0, ..measured(Some(9.0)) };
-    let texts = PARTS.map(|part| part.about.to_string()).into_iter().chain([ABOUT.to_string()]);
-    for text in head().into_iter().chain([large.row()]).chain(texts) {
+    let small = measured(Some(9.0), Some(9.0));
+    let large = Measured { steps: 20_000, words: 20_000 * 16_384, lent: 16_384, tree: 20.0, ..small };
+    let texts = PARTS.map(|part| part.about.to_string()).into_iter().chain([ABOUT, ABOUT_OLD].map(str::to_string));
+    for text in head(false).into_iter().chain(head(true)).chain([large.row()]).chain(texts) {
         assert!(text.lines().all(|line| line.len() <= 120), "{text}");
     }
 }

@@ -1,10 +1,12 @@
-//! The engine's check against the checker on trees, and how both grow with the file.
+//! The engine's check against the checker on trees, and how both grow with the file; where it is linked, against the
+//! archive of the landing before.
 
 use super::recipes::plain;
 use super::table::figure;
 use super::timing::{side_by_side, Work};
-use crate::engine::linked_check;
+use crate::engine::Check;
 use crate::make::edges;
+use crate::{engine, old_engine};
 use model::check;
 use std::hint::black_box;
 
@@ -12,32 +14,54 @@ use std::hint::black_box;
 pub fn tables() -> Vec<String> {
     let plain_files = [512, 1_024, 2_048, 4_080].map(plain).map(|recipe| (recipe.name, vec![recipe.file]));
     let edge_files = ("the files at the edges, all together".to_string(), edges());
-    let mut lines = vec!["                                               nanoseconds a word     tree/".to_string()];
-    lines.push("files                                     words      tree     engine  engine".to_string());
-    lines.extend(plain_files.into_iter().chain([edge_files]).map(|(name, files)| row(&name, &files)));
-    lines
+    let rows = plain_files.into_iter().chain([edge_files]).map(|(name, files)| row(&name, &files));
+    head(old_engine::linked_check().is_some()).into_iter().chain(rows).collect()
+}
+
+/// The lines that stand over the columns, with those of the old archive or without.
+fn head(old: bool) -> [String; 2] {
+    let mut groups = "                                               nanoseconds a word     tree/".to_string();
+    let mut names = "files                                     words      tree     engine  engine".to_string();
+    if old {
+        groups += "               new/";
+        names += "        old     old";
+    }
+    [groups, names]
 }
 
 /// The row of some files checked together.
 fn row(name: &str, files: &[Vec<u8>]) -> String {
     let words = files.iter().map(Vec::len).sum::<usize>() / 4;
-    let times = measured(files);
-    let (tree, engine) = (times[0], times.get(1).copied());
+    let Seconds { tree, engine, old } = measured(files);
     let each = |seconds: f64| 1e9 * seconds / words as f64;
-    let (ratio, tree, engine) =
-        (figure(engine.map(|engine| tree / engine)), figure(Some(each(tree))), figure(engine.map(each)));
-    format!("{name:<38} {words:>8} {tree:>9}  {engine:>9} {ratio:>7}")
+    let mut text = format!("{name:<38} {words:>8} {:>9}  {:>9}", figure(Some(each(tree))), figure(engine.map(each)));
+    text += &format!(" {:>7}", figure(engine.map(|engine| tree / engine)));
+    if let Some(old) = old {
+        text += &format!("  {:>9} {:>7}", figure(Some(each(old))), figure(engine.map(|engine| engine / old)));
+    }
+    text
 }
 
-/// Seconds of checking the files: on trees, and by the engine where it is linked.
-fn measured(files: &[Vec<u8>]) -> Vec<f64> {
+/// The seconds that checking some files takes.
+struct Seconds {
+    tree: f64,
+    engine: Option<f64>,
+    old: Option<f64>,
+}
+
+/// The files checked: on trees, by the engine and by the old archive, where they are linked.
+fn measured(files: &[Vec<u8>]) -> Seconds {
+    let (new, old) = (engine::linked_check(), old_engine::linked_check());
+    let by = |check: Check| {
+        each(files, move |file| {
+            black_box(check(file));
+        })
+    };
     let mut works = vec![each(files, |file| drop(black_box(check(file))))];
-    if let Some(engine) = linked_check() {
-        works.push(each(files, move |file| {
-            black_box(engine(file));
-        }));
-    }
-    side_by_side(&mut works)
+    works.extend(new.into_iter().chain(old).map(by));
+    let mut times = side_by_side(&mut works).into_iter();
+    let mut next = || times.next().expect("a time for each work");
+    Seconds { tree: next(), engine: new.map(|_| next()), old: old.map(|_| next()) }
 }
 
 /// The work of doing something with every file.

@@ -3,6 +3,7 @@
 use super::recipes::{spinning_first, spinning_last, Recipe};
 use super::table::head;
 use super::works::measured;
+use crate::old_engine::linked_run;
 
 /// Rows of the list that stands four times in the term: terms of some 200 to 16,000 words.
 const SIZES: [usize; 5] = [2, 10, 43, 87, 173];
@@ -29,5 +30,5 @@ pub fn tables() -> Vec<String> {
 /// The rows of one kind of term, from small to large.
 fn table(about: &str, make: fn(usize) -> Recipe) -> Vec<String> {
     let rows = SIZES.map(|rows| measured(&make(rows), BEFORE, BEFORE + STEPS_MEASURED).row());
-    ["".to_string(), about.to_string()].into_iter().chain(head()).chain(rows).collect()
+    ["".to_string(), about.to_string()].into_iter().chain(head(linked_run().is_some())).chain(rows).collect()
 }

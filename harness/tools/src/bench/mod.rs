@@ -28,10 +28,16 @@ The works of a row are measured in turn, again and again in this run, and the le
 Figures of different runs are not to be compared: compare the works of one run.
 ";
 
+/// What the columns of an old archive are, printed after that where one is linked.
+pub const ABOUT_OLD: &str = "\
+old: the same function of the archive of the landing before, which RECIPE_OLD_ARCHIVE named when this was built.
+new/old is the engine's time over that one's: under 1 says that it takes less time than it took.
+";
+
 /// What the figures of files checked are.
 const CHECKS: &str = "\
-check: files checked. tree: the model's reading and checking. engine: recipe_check. A ratio over 1 says that the engine
-takes less time.
+check: files checked. tree: the model's reading and checking. engine: recipe_check. tree/engine over 1 says that the
+engine takes less time.
 ";
 
 /// How a step is measured, printed before the tables of steps.

@@ -1,9 +1,10 @@
-//! The works on a recipe's steps: on trees, by the engine, and a plain copy of the same words.
+//! The works on a recipe's steps: on trees, by the engine, and a plain copy of the same words; where it is linked, by the
+//! archive of the landing before.
 
 use super::recipes::Recipe;
 use super::table::Measured;
 use super::timing::{side_by_side, Work};
-use crate::engine::{linked_run, Run};
+use crate::{engine, old_engine};
 use model::node::Node;
 use model::rules::RuleCounts;
 use model::run::{reduce, MOST_WORDS};
@@ -20,22 +21,33 @@ pub fn measured(recipe: &Recipe, from: u32, limit: u32) -> Measured {
     let lent = lent(&sizes, file.len() / 4);
     let steps = sizes.get(1 + from as usize..).unwrap_or(&[]).to_vec();
     let (count, words) = (steps.len(), steps.iter().sum());
+    let (new, old) = (engine::linked_run(), old_engine::linked_run());
+    assert!(same_steps(new, old, file, limit, lent), "{}: the old archive makes other steps", recipe.name);
     let mut works = vec![copying(steps, lent)];
     for limit in [from, limit] {
         works.push(on_trees(&tree, limit));
-        works.extend(linked_run().map(|engine| by_engine(engine, file, limit, lent)));
+        works.extend(new.map(|run| on_words(run, file, limit, lent)));
+        works.extend(old.map(|run| on_words(run, file, limit, lent)));
     }
-    let (copy, runs) = split(side_by_side(&mut works));
-    let differences: Vec<f64> = runs.0.iter().zip(&runs.1).map(|(before, whole)| whole - before).collect();
-    let (tree, engine) = (differences[0], differences.get(1).copied());
-    Measured { name: recipe.name.clone(), steps: count, words, lent, tree, engine, copy }
+    let times = side_by_side(&mut works);
+    let (copy, mut differences) = differences(&times);
+    let mut next = || differences.next().expect("a time for each work");
+    let (tree, engine, old) = (next(), new.map(|_| next()), old.map(|_| next()));
+    Measured { name: recipe.name.clone(), steps: count, words, lent, tree, engine, old, copy }
 }
 
-/// The first time, and the others in two halves.
-fn split(times: Vec<f64>) -> (f64, (Vec<f64>, Vec<f64>)) {
-    let (copy, runs) = (times[0], &times[1..]);
-    let (before, whole) = runs.split_at(runs.len() / 2);
-    (copy, (before.to_vec(), whole.to_vec()))
+/// Whether both archives, where both are linked, make as many steps: else a ratio of their times would say nothing.
+fn same_steps(new: Option<engine::Run>, old: Option<old_engine::Run>, file: &[u8], limit: u32, lent: usize) -> bool {
+    let (mut first, mut second) = (vec![0; lent], vec![0; lent]);
+    let new = new.map(|run| run(file, limit, &mut first, &mut second).steps);
+    let old = old.map(|run| run(file, limit, &mut first, &mut second).steps);
+    old.is_none() || new == old
+}
+
+/// The first time, and by how much each of the second half of the others passes its fellow of the first half.
+fn differences(times: &[f64]) -> (f64, impl Iterator<Item = f64> + '_) {
+    let (before, whole) = times[1..].split_at(times.len() / 2);
+    (times[0], before.iter().zip(whole).map(|(before, whole)| whole - before))
 }
 
 /// The words of each term that a run reaches, the first included.
@@ -65,11 +77,16 @@ fn on_trees(term: &Rc<Ml>, limit: u32) -> Work<'_> {
     })
 }
 
-/// The run by the engine, the file read and checked each time.
-fn by_engine(engine: Run, file: &[u8], limit: u32, lent: usize) -> Work<'_> {
+/// The run by an archive, whatever it answers with, the file read and checked each time.
+fn on_words<A: 'static>(
+    run: fn(&[u8], u32, &mut [u32], &mut [u32]) -> A,
+    file: &[u8],
+    limit: u32,
+    lent: usize,
+) -> Work<'_> {
     let (mut first, mut second) = (vec![0; lent], vec![0; lent]);
     Box::new(move || {
-        black_box(engine(black_box(file), limit, &mut first, &mut second));
+        black_box(run(black_box(file), limit, &mut first, &mut second));
     })
 }
 

@@ -1,10 +1,11 @@
-//! Benchmarks of the engine against the model and a plain copy: works measured side by side in one run.
+//! Benchmarks of the engine against the model, a plain copy and an older archive: works measured side by side in one run.
 #![forbid(unsafe_code)]
 
 use model::on_large_stack;
 use std::process::ExitCode;
 use tools::args::Args;
-use tools::bench::{Part, ABOUT, PARTS};
+use tools::bench::{Part, ABOUT, ABOUT_OLD, PARTS};
+use tools::old_engine::linked_run;
 use tools::output::say;
 
 const HELP: &str = "\
@@ -13,7 +14,10 @@ usage: bench [check | run | growth]
 check    the check of growing files: engine and checker on trees
 run      recipes run: a step of the engine and of the reducer on trees, a plain copy of the same words
 growth   how a step's time grows with the words of the term
-All three where none is named. Build with --release and --features run; without the engine its columns are left out.
+All three where none is named. Build with --release and --features run; without the engine its columns are dashes.
+
+RECIPE_OLD_ARCHIVE=PATH, set when this is built, links an archive of the landing before beside the engine's (PATH is
+absolute, or from the top of the repository). Every table then has its times and the ratio new/old too.
 ";
 
 fn main() -> ExitCode {
@@ -36,6 +40,7 @@ fn main() -> ExitCode {
 /// What the figures are, each said once, and then the tables.
 fn print_parts(parts: &[&Part]) {
     let mut abouts = vec![ABOUT];
+    abouts.extend(linked_run().map(|_| ABOUT_OLD));
     abouts.extend(parts.iter().map(|part| part.about));
     abouts.dedup();
     say(abouts.concat());
