@@ -73,13 +73,11 @@ pub fn admit(file: &[u8], all: &mut [u32; 4096]) -> Opened
     ensures answer { λ r. ⌜ opened r ≡ admitting (now (file .entry)) ⌝ }
     ensures array { λ r. ⌜ now (all .exit) ≡ padded 4096 (kept (now (file .entry))) ⌝ }
 {
-    let mut found = [0u32; 4096];
-    let answer = open(file, &mut found);
-    *all = found;
+    let answer = open(file, all);
     let Opened::Recipe(types, n) = answer else {
         return answer;
     };
-    match judge(&found[..n], types) {
+    match judge(&all[..n], types) {
         Checked::Refused(r) => Opened::Refused(r),
         Checked::Accepted => answer,
     }

@@ -1,22 +1,11 @@
 // What a run leaves in the two buffers.
 
-ghost use mathlib.Core.Path.{_≡_};
+use writing::clear;
+use writing::copy;
 ghost use mathlib.Core.List.{[]};
 ghost use Prim.Native.Nat.{_≤_};
 ghost use lib.ListN.{length, take};
-ghost use Rattle.calculus.specs.File.{padded};
 ghost use Rattle.engine.specs.Buffered.{held, Settled};
-
-// The first n words stay; the others become zero.
-fn clear(buffer: &mut [u32], n: usize)
-    ensures { λ _. ⌜ now (buffer .exit) ≡ padded (length (now (buffer .entry))) (take n (now (buffer .entry))) ⌝ }
-{
-    let mut i = n;
-    while i < buffer.len() {
-        buffer[i] = 0;
-        i += 1;
-    }
-}
 
 // Both buffers all zero.
 pub fn wipe(first: &mut [u32], second: &mut [u32])
@@ -36,7 +25,7 @@ pub fn settle(front: bool, first: &mut [u32], second: &mut [u32], n: usize)
         clear(second, 0);
         return;
     }
-    writing::copy(&second[..n], first, 0);
+    copy(&second[..n], first, 0);
     clear(first, n);
     clear(second, 0);
 }

@@ -22,6 +22,6 @@ headed ws = unless (isHeader ws) 2 0 (passed (typeCount ws, length ws))
 abbrev pub opening : List ℕ → Verdict (ℕ × ℕ)
 opening bytes = unless (isSize (length bytes)) 1 0 (headed (wordsOf bytes))
 
--- The words that stand in the array: none where the size is refused.
+-- The words that stand in the buffer: none where the size is refused.
 abbrev pub kept : List ℕ → List ℕ
 kept bytes = cond (isSize (length bytes)) (wordsOf bytes) []

@@ -1,14 +1,16 @@
 // What comes in: a file's bytes as words, its size and its header. Refusals 1 and 2.
 use nodes::refusals::Refusal;
+use writing::clear;
 ghost use mathlib.Core.Path.{_≡_};
 ghost use Prim.Native.Nat.{min};
+ghost use lib.ListN.{length};
 ghost use Rattle.calculus.specs.File.{wordOf, wordsOf, isSize, padded};
 ghost use Rattle.file.specs.Opening.{opened, headed, opening, kept};
 
 // What opening a file finds: a refusal, or how many words the declared type has, and how many words the file has.
 pub enum Opened {
     Refused(Refusal),
-    Recipe(usize, usize),
+    Recipe { type_count: usize, count: usize },
 }
 
 // The word of four bytes, the least significant first.
@@ -28,19 +30,18 @@ fn fewer(a: usize, b: usize) -> usize
     b
 }
 
-// The file's words, as many as the array takes, and zeros after them.
-pub fn words(file: &[u8]) -> [u32; 4096]
-    ensures { λ r. ⌜ r ≡ padded 4096 (wordsOf (now (file .entry))) ⌝ }
+// The file's words, as many as the buffer takes, and zeros after them.
+pub fn words(file: &[u8], out: &mut [u32])
+    ensures { λ _. ⌜ now (out .exit) ≡ padded (length (now (out .entry))) (wordsOf (now (file .entry))) ⌝ }
 {
-    let mut out = [0u32; 4096];
-    let n = fewer(file.len() / 4, 4096);
+    clear(out, 0);
+    let n = fewer(file.len() / 4, out.len());
     let mut i = 0;
     while i < n {
         let k = 4 * i;
         out[i] = word(file[k], file[k + 1], file[k + 2], file[k + 3]);
         i += 1;
     }
-    out
 }
 
 // Whether a file can have n bytes.
@@ -71,38 +72,41 @@ pub fn header(words: &[u32]) -> Opened
     if n < 4 {
         return Opened::Refused(Refusal::Header);
     }
-    let types = wide(words[0]);
-    let terms = wide(words[2]);
+    let type_count = wide(words[0]);
+    let term_count = wide(words[2]);
     let from = wide(words[3]);
-    if types == 0 {
+    if type_count == 0 {
         return Opened::Refused(Refusal::Header);
     }
     if words[1] != 4 {
         return Opened::Refused(Refusal::Header);
     }
-    if terms == 0 {
+    if term_count == 0 {
         return Opened::Refused(Refusal::Header);
     }
-    if from != 4 + types {
+    if from != 4 + type_count {
         return Opened::Refused(Refusal::Header);
     }
-    if from + terms != n {
+    if from + term_count != n {
         return Opened::Refused(Refusal::Header);
     }
-    Opened::Recipe(types, n)
+    Opened::Recipe {
+        type_count: type_count,
+        count: n,
+    }
 }
 
-// The size, then the header. The array is left with the file's words and zeros after them; all zero where the size is refused.
-pub fn open(file: &[u8], all: &mut [u32; 4096]) -> Opened
+// The size, then the header. The buffer, of 4,096 words, is left with the file's words and zeros after them; all zero where the size is refused.
+pub fn open(file: &[u8], all: &mut [u32]) -> Opened
+    requires { ⌜ length (now all) ≡ 4096 ⌝ }
     ensures answer { λ r. ⌜ opened r ≡ opening (now (file .entry)) ⌝ }
-    ensures array { λ r. ⌜ now (all .exit) ≡ padded 4096 (kept (now (file .entry))) ⌝ }
+    ensures buffer { λ r. ⌜ now (all .exit) ≡ padded 4096 (kept (now (file .entry))) ⌝ }
 {
     if !is_size(file.len()) {
-        *all = [0; 4096];
+        clear(all, 0);
         return Opened::Refused(Refusal::Bytes);
     }
-    let found = words(file);
-    *all = found;
+    words(file, all);
     let n = file.len() / 4;
-    header(&found[..n])
+    header(&all[..n])
 }

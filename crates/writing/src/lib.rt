@@ -3,7 +3,8 @@
 ghost use mathlib.Core.Path.{_≡_};
 ghost use mathlib.Core.List.{[], _∷_};
 ghost use Prim.Native.Nat.{_+_, _-_, _<_, _≤_, _^_, min};
-ghost use lib.ListN.{length};
+ghost use lib.ListN.{length, take};
+ghost use Rattle.calculus.specs.File.{padded};
 ghost use Rattle.writing.specs.Wrote.{Wrote};
 ghost use Rattle.writing.specs.Stretches.{stretch, Within};
 
@@ -69,6 +70,17 @@ fn copy_long(source: &[u32], target: &mut [u32], n: usize) -> usize
     }
     let m = copy(&source[..k], target, n);
     copy(&source[k..], target, m)
+}
+
+// The first n words stay; the others become zero.
+pub fn clear(buffer: &mut [u32], n: usize)
+    ensures { λ _. ⌜ now (buffer .exit) ≡ padded (length (now (buffer .entry))) (take n (now (buffer .entry))) ⌝ }
+{
+    let mut i = n;
+    while i < buffer.len() {
+        buffer[i] = 0;
+        i += 1;
+    }
 }
 
 // The words of src from a to e, from the place n on. Returns the place after them.

@@ -1,13 +1,13 @@
--- `engine::buffers::clear` meets its contract: the words from n up to i are zero. Assumes nothing.
+-- `writing::clear` meets its contract: the words from n up to i are zero. Assumes nothing.
 use Prim.Native.Nat.{_+_, _-_, _≤_}
 use mathlib.Core.Path.{_≡_, refl}
 use native.Mathlib.Omega.{arith}
 use lib.ListN.{length, length-set}
 use lib.Seq.{sets}
 use borrow.Author.Needs.{needs}
 use Rattle.writing.proofs.Clearing.{zeros, cleared-more, cleared-all}
-use Rattle.engine.proofs.buffers.clear.Statement.{statement}
-use Rattle.engine.proofs.buffers.clear.Tie as tie
+use Rattle.writing.proofs.clear.Statement.{statement}
+use Rattle.writing.proofs.clear.Tie as tie
 
 abbrev Inv-loop : tie.InvT-loop
 Inv-loop buffer₀ n i₀ buffer i = (n ≤ i) × (i ≤ n + (length buffer - n)) × (length buffer ≡ length buffer₀) × (buffer ≡ sets buffer₀ n (zeros n i))
