@@ -14,10 +14,10 @@ use Rattle.nodes.specs.declared.refusals.Refusal.the-variants.{Untyped, Mistype
 use Rattle.types.specs.References.{Written}
 use Rattle.types.specs.Comparisons.{Equality}
 use Rattle.types.proofs.Meanings.{written-means}
-use Rattle.rules.specs.Answers.{Answer, whole, bad}
-use Rattle.rules.specs.Variables.{Scope}
-use Rattle.inference.specs.Infers.{Told, Infers}
-use Rattle.inference.proofs.Scoping.{no-part, good-part, advanced}
+use Rattle.typing.specs.Answers.{Answer, whole, bad}
+use Rattle.typing.specs.Variables.{Scope}
+use Rattle.typing.specs.Infers.{Told, Infers}
+use Rattle.typing.proofs.Scoping.{no-part, good-part, advanced}
 use Rattle.checker.specs.Checks.{Decides}
 use Rattle.checker.specs.declared.Checked.the-variants.{Refused, Accepted}
 

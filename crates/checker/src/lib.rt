@@ -2,14 +2,14 @@
 
 use file::Opened;
 use file::open;
-use inference::infer;
 use nodes::kinds::Kinds;
 use nodes::refusals::Refusal;
 use nodes::scopes::scoped;
 use nodes::walks::Walked;
 use nodes::walks::ordered;
-use rules::Inferred;
 use types::same;
+use typing::infer;
+use typing::rules::Inferred;
 ghost use mathlib.Core.Path.{_≡_};
 ghost use Prim.Native.Nat.{_+_, _<_, _≤_};
 ghost use lib.ListN.{length};

@@ -2,7 +2,7 @@
 use borrow.Author.Needs.{needs}
 use mathlib.Core.Path.{ap, _∙_}
 use borrow.Rule.Slice.PartAt.{part-to-end}
-use Rattle.rules.specs.Answers.{inferred}
+use Rattle.typing.specs.Answers.{inferred}
 use Rattle.checker.proofs.Deciding.{no-type, declared-one, other-one}
 use Rattle.checker.proofs.typed_by.Statement.{statement}
 use Rattle.checker.proofs.typed_by.Tie as tie

@@ -1,4 +1,0 @@
-pub mod Formers
-pub mod Operations
-pub mod Results
-pub mod Scopes

@@ -1,0 +1,11 @@
+pub mod Formers
+pub mod Operations
+pub mod Results
+pub mod Variables
+pub mod Nodes
+pub mod Leading
+pub mod Linking
+pub mod Scoping
+pub mod Leaves
+pub mod Walking
+pub mod Concluding

@@ -1,0 +1,33 @@
+-- `typing::rules::result_3` meets its contract: each way out is one law of Results. Assumes nothing.
+use borrow.Author.Needs.{needs}
+use Rattle.typing.proofs.Results.{three-test, three-same, three-differ}
+use Rattle.typing.proofs.rules.result_3.Statement.{statement}
+use Rattle.typing.proofs.rules.result_3.Tie as tie
+
+former-at-requires : tie.Need-former-at-requires
+former-at-requires c κs = search needs
+
+returns : tie.Need-returns
+returns c =
+    let at-former-at = c .before in
+    three-test _ _ _ _ _ _ (at-former-at .former-at .ensures) (c .if1 .taken)
+
+same-requires : tie.Need-same-requires
+same-requires c κs = search needs
+
+returns-2 : tie.Need-returns-2
+returns-2 c =
+    let at-same = c .before in
+    let at-else1 = at-same .before in
+    let at-former-at = at-else1 .before in
+    three-same _ _ _ _ _ _ (at-former-at .former-at .ensures) (at-else1 .if1 .left) _ (at-same .same .ensures) (c .if2 .taken)
+
+returns-3 : tie.Need-returns-3
+returns-3 c =
+    let at-same = c .before in
+    let at-else1 = at-same .before in
+    let at-former-at = at-else1 .before in
+    three-differ _ _ _ _ _ _ (at-former-at .former-at .ensures) (at-else1 .if1 .left) _ (at-same .same .ensures) (c .if2 .left)
+
+pub result-3-spec : {M : Type 1} → statement M
+result-3-spec = tie.close (tie.spec former-at-requires returns same-requires returns-2 returns-3)

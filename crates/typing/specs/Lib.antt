@@ -1,0 +1,5 @@
+pub mod Answers
+pub mod Operators
+pub mod Variables
+pub mod Parts
+pub mod Infers
