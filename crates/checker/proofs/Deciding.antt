@@ -17,7 +17,7 @@ use Rattle.types.proofs.Meanings.{written-means}
 use Rattle.typing.specs.Answers.{Answer, whole, bad}
 use Rattle.typing.specs.Variables.{Scope}
 use Rattle.typing.specs.Infers.{Told, Infers}
-use Rattle.typing.proofs.Scoping.{no-part, good-part, advanced}
+use Rattle.typing.proofs.Lasting.{no-part, good-part, advanced}
 use Rattle.checker.specs.Checks.{Decides}
 use Rattle.checker.specs.declared.Checked.the-variants.{Refused, Accepted}
 

@@ -19,13 +19,14 @@ use Rattle.types.specs.References.{shapeAt, Means}
 use Rattle.types.proofs.Meanings.{shape-of, means-in}
 use Rattle.types.proofs.Frames.{means-widen, means-frame}
 use Rattle.typing.specs.Answers.{Reference, Answer, whole, bad, Refers, Passes, Advances, Answers, conclusion}
-use Rattle.typing.specs.Operators.{Found, Result1, Result2, Result3}
+use Rattle.typing.specs.Operators.{Finds, Result1, Result2, Result3}
 use Rattle.typing.proofs.Results.{answered, passed}
 use Rattle.typing.specs.Parts.{Function}
 use Rattle.typing.specs.Infers.{Infers}
-use Rattle.typing.proofs.Scoping.{binds-static, refers-later, good-part, passes-on}
-use Rattle.typing.proofs.Nodes.{Branches, a-lambda, one, more, Several, Of, word-told, shape-told, told}
-use Rattle.typing.proofs.Walking.{Reached, Goal, further, whole-node, part, reached, sees, body, One, reached-1, first-good, Two, reached-2, three-bad}
+use Rattle.typing.proofs.Lasting.{binds-static, refers-later, good-part, passes-on}
+use Rattle.typing.proofs.Rows.{Branches, a-lambda, one, more, Several, Of, word-told, shape-told, told}
+use Rattle.typing.proofs.Walking.{Reached, Goal, further, whole-node, part, reached, sees, body, One, reached-1, first-good}
+use Rattle.typing.proofs.Walking.{Two, reached-2, three-bad}
 
 -- The answer r for an operator of one part, and of two, and for if0, by what the parts' references mean.
 pub record Concluded1 (l : Lang) (w ls : List ℕ) (at : ℕ) (t : Reference l) (next : ℕ) (r : Answer l) : Type 0 where
@@ -44,28 +45,34 @@ pub record Concluded3 (l : Lang) (w ls : List ℕ) (at : ℕ) (t u v : Reference
       → Answers l w ls at next at next (result3 l a b c) r
 
 -- ML's rules answer so.
-found-to : (w ls : List ℕ) (at next p : ℕ) (r : Answer ml) → r ≡ conclusion at p next → (o : Option Ty) → Found w ls at next o p
-    → Answers ml w ls at next at next o r
-found-to w ls at next p r e o f = subst (Answers ml w ls at next at next o) (sym e) (answered w ls at next at p next o f)
+module _ (w ls : List ℕ) (at next p : ℕ) (r : Answer ml) (e : r ≡ conclusion at p next) where
+  to-next : Passes next r
+  to-next = subst (Passes next) (sym e) (passed at p next)
+
+  found-to : (o : Option Ty) → Finds w ls at next o p → Answers ml w ls at next at next o r
+  found-to o f = subst (Answers ml w ls at next at next o) (sym e) (answered w ls at next at p next o f)
 
 module _ {w ls : List ℕ} {at next : ℕ} {r : Answer ml} (p : ℕ) (e : r ≡ conclusion at p next) (h : next ≤ length w) where
   pub by-result1 : {t x : ℕ} → x ≡ getD w at 0 → Result1 w ls x at t p → Concluded1 ml w ls at t next r
   by-result1 y f =
       record {
-        passes = subst (Passes next) (sym e) (passed at p next);
-        is = λ o a q k m. found-to w ls at next p r e (result1 o a) (f o a at next h (y ∙ q) k m);
+        passes = to-next w ls at next p r e;
+        is = λ o a q k m. found-to w ls at next p r e (result1 o a) (f o (y ∙ q) k a at next h m);
       }
 
   pub by-result2 : {t u x : ℕ} → x ≡ getD w at 0 → Result2 w ls x t u p → Concluded2 ml w ls at t u next r
   by-result2 y f =
       record {
-        passes = subst (Passes next) (sym e) (passed at p next);
+        passes = to-next w ls at next p r e;
         is = λ o a b q m n. found-to w ls at next p r e (result2 ml o a b) (f o (y ∙ q) a b at next h m n);
       }
 
   pub by-result3 : {t u v : ℕ} → Result3 w ls t u v p → Concluded3 ml w ls at t u v next r
   by-result3 f =
-      record { passes = subst (Passes next) (sym e) (passed at p next); is = λ a b c m n k. found-to w ls at next p r e (result3 ml a b c) (f a b c at next h m n k) }
+      record {
+        passes = to-next w ls at next p r e;
+        is = λ a b c m n k. found-to w ls at next p r e (result3 ml a b c) (f a b c at next h m n k);
+      }
 
 -- Scheme asks nothing of its operators.
 module _ {w ls : List ℕ} {at next : ℕ} where
@@ -100,7 +107,7 @@ module _ {l : Lang} {row : code.Row} {start : ℕ} {ls2 : List ℕ} {t : Referen
   one-part : (o : Op1 l) (a : Term l) {r : Answer l} → Concluded1 l w ls2 at t second r → Goal l w ls at scope ls2 r (op1 o a)
   unfolding infer fault size put
   one-part o a {r} f Γ k d s =
-      let N = A .opened .node in
+      let N = A .entering .node in
       let g = first-good A (op1 o a) k d refl (λ h. omega (arith, h)) a Γ k (past-word at _ w _ d) s in
       let n : second ≡ at + suc (size a) = omega (arith, g .ends) in
       rw (g .typed)
@@ -110,8 +117,8 @@ module _ {l : Lang} {row : code.Row} {start : ℕ} {ls2 : List ℕ} {t : Referen
 
   pub an-operator-1 : {r : Answer l} → Concluded1 l w ls2 at t second r → row .shape ≡ 4 → Infers l w at scope ls ls2 r
   an-operator-1 {r} f h =
-      whole-node (reached (A .opened)) (A .infers) (passes-on at (length w) second r (reached-1 A .past) (reached-1 A .within) (f .passes))
-      (λ e k d. by e (told (A .opened .node .read) 4 h l e k d))
+      whole-node (reached (A .entering)) (A .infers) (passes-on at (length w) second r (reached-1 A .past) (reached-1 A .within) (f .passes))
+      (λ e k d. by e (told (A .entering .node .read) 4 h l e k d))
     where
       by : (e : Term l) → Shaped l 4 e → Goal l w ls at scope ls2 r e
       by e (node.one-part o a) = one-part o a f
@@ -137,7 +144,7 @@ module _ {l : Lang} {row : code.Row} {start : ℕ} {ls3 : List ℕ} {t u : Refer
           let m′ = refers-later l w ls3 ls3 p third at third u (j .static) (omega arith) (omega arith) (λ i v. refl) (j .refers) in
           rw (g .typed, j .typed)
           (subst (λ (i : ℕ). Answers l w ls3 at i at i (result2 l o (g .static) (j .static)) r) n
-          (f .is o (g .static) (j .static) (word-told (A .one .opened .node .read) (op2 o a c) k d) m m′))
+          (f .is o (g .static) (j .static) (word-told (A .one .entering .node .read) (op2 o a c) k d) m m′))
 
   -- Three.
   pub a-choice : {ls4 : List ℕ} {r3 : Answer l} (K : Infers l w third scope ls3 ls4 r3) {v : Reference l} {next : ℕ} → r3 ≡ whole v next
@@ -178,14 +185,14 @@ module _ {row : code.Row} {start : ℕ} {ls2 : List ℕ} {t second : ℕ} {w : L
         same = f .same ∙ G .same;
         kept = λ i j. f .kept i (λ q. omega (arith, q)) ∙ G .kept i j;
         advances = subst (Advances at (length w)) (sym (f .answer)) (G .past, G .within);
-        is = λ e Γ k d s. record { answer = by e (told (A .opened .node .read) 3 h ml e k d) Γ k d s };
+        is = λ e Γ k d s. record { answer = by e (told (A .entering .node .read) 3 h ml e k d) Γ k d s };
       }
     where
       by : (e : Term ml) → Shaped ml 3 e → Goal ml w ls at scope ls′ r e
       by e (node.a-lambda {t = τ} {b = b}) Γ k d s =
-          let N = A .opened .node in
+          let N = A .entering .node in
           let p = at + 1 + sizeTy τ in
-          let g = good-part (body (A .opened) (A .infers) h τ b Γ k d s) refl in
+          let g = good-part (body (A .entering) (A .infers) h τ b Γ k d s) refl in
           let u = g .static in
           let n : second ≡ at + suc (sizeTy τ + size b) = omega (arith, g .ends) in
           let inside = means-in w ls2 p second t u (g .refers) in
@@ -208,11 +215,11 @@ module _ {row : code.Row} {start : ℕ} {ls2 : List ℕ} {second : ℕ} {w : Lis
   pub a-scheme-part : ((e : Term sc) (k : List ℕ) → drop at w ≡ put e k → Several sc e → ⊥) → Infers sc w at scope ls ls2 (whole tt second)
   unfolding infer fault size put Answers
   a-scheme-part single =
-      whole-node (reached (A .opened)) (A .infers) (reached-1 A .past, reached-1 A .within) (λ e k d. by e (sees (A .opened) sc e k d))
+      whole-node (reached (A .entering)) (A .infers) (reached-1 A .past, reached-1 A .within) (λ e k d. by e (sees (A .entering) sc e k d))
     where
       by : (e : Term sc) → Branches sc e → Goal sc w ls at scope ls2 (whole tt second) e
       by e (a-lambda τ b) Γ k d s =
-          let g = good-part (body (A .opened) (A .infers) (shape-told (A .opened .node .read) (lam τ b) k d) τ b Γ k d s) refl in
+          let g = good-part (body (A .entering) (A .infers) (shape-told (A .entering .node .read) (lam τ b) k d) τ b Γ k d s) refl in
           rw (g .typed) (tt, ap (whole tt) (omega (arith, g .ends)), tt)
       by e (one o a) Γ k d s = one-part A o a scheme1 Γ k d s
       by e (more x) Γ k d s = absurd (single e k d x)

@@ -18,7 +18,7 @@ use Rattle.nodes.specs.Table.{sortNumber, shapeNumber}
 use Rattle.types.specs.References.{Written}
 use Rattle.types.specs.Comparisons.{Ends}
 use Rattle.typing.specs.Parts.{lead, Read, PartsStart}
-use Rattle.typing.proofs.Nodes.{leads, lead-row}
+use Rattle.typing.proofs.Rows.{leads, lead-row}
 
 clash : true ≡ false → ⊥
 clash q = subst T q tt
@@ -69,8 +69,8 @@ module _ {w : List ℕ} {at : ℕ} {row : code.Row} (R : Read w at row) where
   told b q l e k d = lead-told l e ∙ sym (lead-row R e k d) ∙ q
 
   -- The ways out: past the type, or right behind the word.
-  pub past-type : {r : ℕ} → row .parts % 5 ≡ 1 → Ends w (at + 1) r → PartsStart w at r
-  past-type {r} q n =
+  pub past-lead : {r : ℕ} → row .parts % 5 ≡ 1 → Ends w (at + 1) r → PartsStart w at r
+  past-lead {r} q n =
       record {
         least = omega (arith, n .least);
         most = n .most;

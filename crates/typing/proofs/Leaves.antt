@@ -24,12 +24,12 @@ use Rattle.typing.specs.Variables.{Scope, Variable}
 use Rattle.typing.specs.Parts.{leadStatic, Leaf}
 use Rattle.typing.specs.Infers.{Infers}
 use Rattle.typing.proofs.Leading.{lead-written}
-use Rattle.typing.proofs.Scoping.{passes-on}
-use Rattle.typing.proofs.Nodes.{Bare, bare-variable, bare-number, bare-nil, bare-wrong, word-told, shape-told, told, bare}
+use Rattle.typing.proofs.Lasting.{passes-on}
+use Rattle.typing.proofs.Rows.{Bare, bare-variable, bare-number, bare-nil, bare-wrong, word-told, shape-told, told, bare}
 
 -- Nothing is written past the end.
-pub run-out : (l : Lang) (w ls : List ℕ) (at scope : ℕ) → length (drop at w) ≡ 0 → Infers l w at scope ls ls (bad at)
-run-out l w ls at scope z =
+pub no-words : (l : Lang) (w ls : List ℕ) (at scope : ℕ) → length (drop at w) ≡ 0 → Infers l w at scope ls ls (bad at)
+no-words l w ls at scope z =
     record {
       same = refl;
       kept = λ i h. refl;
@@ -42,7 +42,7 @@ pub lead-lam : (l : Lang) (t : Static l) → found (leadStatic l t) 0 (λ u. siz
 lead-lam ml t = refl
 lead-lam sc t = refl
 
-module _ {w : List ℕ} {at : ℕ} {row : code.Row} {next : ℕ} (F : Leaf w at row next) (ls : List ℕ) (scope : ℕ) where
+module _ {table w ls : List ℕ} {at : ℕ} {row : code.Row} {next : ℕ} (F : Leaf table w ls at row next) (scope : ℕ) where
   index : (l : Lang) (i : ℕ) → getD w at 0 ≡ word (by-language l 16 32) i → getD w at 0 / 256 ≡ i
   index ml i q = omega (arith, q)
   index sc i q = omega (arith, q)
@@ -65,7 +65,8 @@ module _ {w : List ℕ} {at : ℕ} {row : code.Row} {next : ℕ} (F : Leaf w at 
           (v .is Γ at (at + 1) s)
 
   other-leaf : {l : Lang} (p : Reference l)
-      → ((e : Term l) → Bare l e → (Γ : Lambdas) (k : List ℕ) → drop at w ≡ put e k → (s : Static l) × (infer Γ e ≡ some s) × Refers l w ls at next p s)
+      → ((e : Term l) → Bare l e → (Γ : Lambdas) (k : List ℕ) → drop at w ≡ put e k
+      → (s : Static l) × (infer Γ e ≡ some s) × Refers l w ls at next p s)
       → Infers l w at scope ls ls (whole p next)
   unfolding Answers size
   other-leaf {l} p f =

@@ -2,10 +2,10 @@ pub mod Formers
 pub mod Operations
 pub mod Results
 pub mod Variables
-pub mod Nodes
+pub mod Rows
 pub mod Leading
 pub mod Linking
-pub mod Scoping
+pub mod Lasting
 pub mod Leaves
 pub mod Walking
 pub mod Concluding

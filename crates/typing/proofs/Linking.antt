@@ -5,14 +5,15 @@ use mathlib.Core.Path.{_≡_, refl, _∙_}
 use lib.ListN.{length, getD, set, length-set}
 use lib.Seq.{getD-set-same, getD-set-other}
 use native.Mathlib.Omega.{arith}
+use Rattle.typing.specs.Links.{LinkTo}
 use Rattle.typing.specs.Answers.{whole}
-use Rattle.typing.specs.Parts.{Linked, Entered, Function}
+use Rattle.typing.specs.Parts.{ScopeWithin, Function}
 
-module _ (ls : List ℕ) (at p x : ℕ) (i : at < length ls) (h : Linked p x) where
-  own : Linked p (getD (set ls at x) at 0)
+module _ (ls : List ℕ) (at p x : ℕ) (i : at < length ls) (h : LinkTo p x) where
+  own : LinkTo p (getD (set ls at x) at 0)
   own k = getD-set-same ls at x 0 i ∙ h k
 
-  pub entered : (shape : ℕ) → shape ≡ 3 → Entered shape at p ls (set ls at x) at
+  pub entered : (shape : ℕ) → shape ≡ 3 → ScopeWithin shape at p ls (set ls at x) at
   entered shape e =
       record {
         same = length-set ls at x;
@@ -31,7 +32,7 @@ module _ (ls : List ℕ) (at p x : ℕ) (i : at < length ls) (h : Linked p x) wh
       }
 
 -- A node that is no lambda.
-pub not-entered : (ls : List ℕ) (at scope shape : ℕ) → (shape ≡ 3 → ⊥) → Entered shape at scope ls ls scope
+pub not-entered : (ls : List ℕ) (at scope shape : ℕ) → (shape ≡ 3 → ⊥) → ScopeWithin shape at scope ls ls scope
 not-entered ls at scope shape n =
     record {
       same = refl;

@@ -14,14 +14,14 @@ use Rattle.nodes.specs.declared.kinds.Row as code
 use Rattle.nodes.specs.Table.{sortNumber, rowOf}
 use Rattle.types.proofs.Meanings.{written-means}
 use Rattle.typing.specs.Answers.{Reference, whole, bad, WrittenStatic, Refers, Answers}
-use Rattle.typing.specs.Variables.{Binds, Scope, Behind, Lambda, Variable}
+use Rattle.typing.specs.Variables.{Binds, Scope, Behind, LambdaOf, Variable}
 
 module _ (w ls : List ℕ) (sort scope between : ℕ) where
   -- The answer r is the lambda of the variable.
   abbrev Looks : ℕ → Lang → Lambdas → Type 0
   Looks r l Γ = (hi : ℕ) → sort ≡ sortNumber (term l) → hi ≤ length w → Scope w ls hi scope Γ → Behind l w (typeAt l Γ between) r
 
-  pub no-scope : scope ≡ 0 → Lambda w ls sort scope between 0
+  pub no-scope : scope ≡ 0 → LambdaOf w ls sort scope between 0
   unfolding Scope
   no-scope z = record { there = omega arith; is = go }
     where
@@ -30,9 +30,9 @@ module _ (w ls : List ℕ) (sort scope between : ℕ) where
       go l (x ∷ Γ) hi e few s = absurd (omega (arith, s .0))
 
   module _ (inside : scope ≡ 0 → ⊥) where
-    pub past-end : length w ≤ scope → Lambda w ls sort scope between 0
+    pub scope-past-end : length w ≤ scope → LambdaOf w ls sort scope between 0
     unfolding Scope
-    past-end h = record { there = omega arith; is = go }
+    scope-past-end h = record { there = omega arith; is = go }
       where
         go : (l : Lang) (Γ : Lambdas) → Looks 0 l Γ
         go l [] hi e few s = refl
@@ -42,7 +42,7 @@ module _ (w ls : List ℕ) (sort scope between : ℕ) where
       -- The innermost lambda is the one.
       innermost : (r : ℕ) → between ≡ 0 → r ≤ length w
           → ((l : Lang) (x : Entry) → sort ≡ sortNumber (term l) → 0 < scope → Binds w scope x → Behind l w (entryType l x) r)
-          → Lambda w ls sort scope between r
+          → LambdaOf w ls sort scope between r
       unfolding Scope
       innermost r z h f = record { there = h; is = go }
         where
@@ -54,7 +54,7 @@ module _ (w ls : List ℕ) (sort scope between : ℕ) where
         of-sort : (n : ℕ) → rowOf (getD w scope 0 % 256) .sort ≡ n → row .sort ≡ n
         of-sort n e = ap (λ (y : code.Row). y .sort) found ∙ e
 
-        pub own : between ≡ 0 → row .sort ≡ sort → Lambda w ls sort scope between scope
+        pub own : between ≡ 0 → row .sort ≡ sort → LambdaOf w ls sort scope between scope
         own z k = innermost scope z (omega arith) go
           where
             go : (l : Lang) (x : Entry) → sort ≡ sortNumber (term l) → 0 < scope → Binds w scope x → Behind l w (entryType l x) scope
@@ -63,7 +63,7 @@ module _ (w ls : List ℕ) (sort scope between : ℕ) where
             go sc (of ml t) e h b = absurd (omega (arith, of-sort 2 (b .0)))
             go sc (of sc t) e h b = (h, tt)
 
-        pub foreign : between ≡ 0 → (row .sort ≡ sort → ⊥) → Lambda w ls sort scope between 0
+        pub foreign : between ≡ 0 → (row .sort ≡ sort → ⊥) → LambdaOf w ls sort scope between 0
         foreign z n = innermost 0 z (omega arith) go
           where
             go : (l : Lang) (x : Entry) → sort ≡ sortNumber (term l) → 0 < scope → Binds w scope x → Behind l w (entryType l x) 0
@@ -73,7 +73,7 @@ module _ (w ls : List ℕ) (sort scope between : ℕ) where
             go sc (of sc t) e h b = absurd (n (of-sort 3 (b .0) ∙ sym e))
 
       -- It is further out.
-      pub outer : (between ≡ 0 → ⊥) → (p r : ℕ) → p ≡ getD ls scope 0 → Lambda w ls sort p (between - 1) r → Lambda w ls sort scope between r
+      pub outer : (between ≡ 0 → ⊥) → (p r : ℕ) → p ≡ getD ls scope 0 → LambdaOf w ls sort p (between - 1) r → LambdaOf w ls sort scope between r
       unfolding Scope
       outer n p r k rest = record { there = rest .there; is = go }
         where
@@ -88,7 +88,7 @@ module _ (w ls : List ℕ) (sort scope between : ℕ) where
               (rest .is l Γ scope e (omega arith) (subst (λ (j : ℕ). Scope w ls scope j Γ) (sym k) (s .3)))
 
 -- A variable whose lambda is at p.
-module _ (l : Lang) (w ls : List ℕ) (scope x at p : ℕ) (a : Lambda w ls (sortNumber (term l)) scope (x / 256) p) (i : at < length w) where
+module _ (l : Lang) (w ls : List ℕ) (scope x at p : ℕ) (a : LambdaOf w ls (sortNumber (term l)) scope (x / 256) p) (i : at < length w) where
   told : (Γ : Lambdas) → Scope w ls at scope Γ → Behind l w (typeAt l Γ (x / 256)) p
   told Γ s = a .is l Γ at refl (omega arith) s
 

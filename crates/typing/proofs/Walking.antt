@@ -17,17 +17,18 @@ use Rattle.nodes.specs.Table.{shapeNumber}
 use Rattle.nodes.proofs.Ways.{part-length}
 use Rattle.nodes.proofs.Terms as node
 use Rattle.nodes.proofs.Terms.{Shaped}
+use Rattle.typing.specs.Links.{Linked, KeptBefore}
 use Rattle.typing.specs.Answers.{Reference, Answer, whole, bad, Advances, Answers, other, Crossed}
 use Rattle.typing.specs.Variables.{Scope}
-use Rattle.typing.specs.Parts.{leadSize, Begins, Read, PartsStart, Kept, Entered}
+use Rattle.typing.specs.Parts.{leadSize, Begins, Read, PartsStart, ScopeWithin}
 use Rattle.typing.specs.Infers.{Told, Infers}
 use Rattle.typing.proofs.Leading.{lead-written}
 use Rattle.typing.proofs.Leaves.{lead-lam}
-use Rattle.typing.proofs.Scoping.{scope-later, scope-inside, binds-static, answers-wider, no-part, Good, good-part, advances-later, advanced}
-use Rattle.typing.proofs.Nodes.{Branches, a-lambda, one, more, Several, two, three, Of, sort-told, shape-told, told, branches}
+use Rattle.typing.proofs.Lasting.{scope-later, scope-inside, binds-static, answers-wider, no-part, Good, good-part, advances-later, advanced}
+use Rattle.typing.proofs.Rows.{Branches, a-lambda, one, more, Several, two, three, Of, sort-told, shape-told, told, branches}
 
 -- A node, and where the first term among its parts starts.
-pub record Node (w : List ℕ) (at : ℕ) (row : code.Row) (start : ℕ) : Type 0 where
+pub record AtNode (w : List ℕ) (at : ℕ) (row : code.Row) (start : ℕ) : Type 0 where
   pub read : Read w at row
   pub starts : PartsStart w at start
   pub behind : 0 < at
@@ -38,22 +39,26 @@ pub record Reached (w ls : List ℕ) (at p : ℕ) (now : List ℕ) : Type 0 wher
   pub past : at < p
   pub within : p ≤ length w
   pub same : length now ≡ length ls
-  pub kept : Kept at ls now
+  pub kept : KeptBefore at ls now
 
--- What is handed on for the part at p: fewer words, from its own on.
-pub hands-on : {table w term : List ℕ} {at : ℕ} {ls : List ℕ} → Begins table w term at ls → {p : ℕ} {now : List ℕ} → Reached w ls at p now
-    → {t : ℕ} → length term ≡ t → let part = take (length w - p) (drop p w) in (length part < t) × Begins table w part p now
-hands-on {table} {w} {term} {at} {ls} B {p} {now} G {t} q = (
-  omega (arith, part-length w p, ap length (B .here), length-drop at w, G .past, G .within, B .within),
-  record {
-    tabled = B .tabled;
-    here = part-to-end w p;
-    behind = omega (arith, G .past);
-    within = G .within;
-    few = B .few;
-    linked = G .same ∙ B .linked;
-  },
-)
+-- There: the links serve as they did, and what is handed on for the part there, fewer words, from its own on.
+module _ {table w term : List ℕ} {at : ℕ} {ls : List ℕ} {p : ℕ} {now : List ℕ} where
+  pub links-at : Begins table w term at ls → Reached w ls at p now → Linked table w now
+  links-at B G = record { tabled = B .tabled; linked = G .same ∙ B .linked }
+
+  pub hands-on : {t : ℕ} → (length term ≡ t) × Begins table w term at ls → Reached w ls at p now
+      → let part = take (length w - p) (drop p w) in (length part < t) × Begins table w part p now
+  hands-on (q, B) G = (
+    omega (arith, part-length w p, ap length (B .here), length-drop at w, G .past, G .within, B .within),
+    record {
+      tabled = B .tabled;
+      here = part-to-end w p;
+      behind = omega (arith, G .past);
+      within = G .within;
+      few = B .few;
+      linked = G .same ∙ B .linked;
+    },
+  )
 
 -- What there is to show of a term.
 abbrev pub Goal : (l : Lang) → List ℕ → List ℕ → ℕ → ℕ → List ℕ → Answer l → Term l → Type 0
@@ -97,7 +102,7 @@ module _ {l : Lang} {w ls : List ℕ} {at p : ℕ} {before : List ℕ} (G : Reac
       → Infers l w at scope ls after r
   bad-node z f = whole-node G I (subst (Advances at (length w)) (sym z) tt) f
 
-module _ {w : List ℕ} {at : ℕ} {row : code.Row} {start : ℕ} (N : Node w at row start) where
+module _ {w : List ℕ} {at : ℕ} {row : code.Row} {start : ℕ} (N : AtNode w at row start) where
   pub begun : (ls : List ℕ) → Reached w ls at start ls
   begun ls = record { past = N .starts .least; within = N .starts .most; same = refl; kept = λ i h. refl }
 
@@ -125,15 +130,15 @@ module _ {w : List ℕ} {at : ℕ} {row : code.Row} {start : ℕ} (N : Node w at
           (omega arith) (omega arith) (x .answer))
 
 -- Another node that has parts which are terms, where the first of them is about to be inferred, inside the lambda where the node is one.
-pub record Opened (row : code.Row) (start : ℕ) (now : List ℕ) (inner : ℕ) (w : List ℕ) (at : ℕ) (ls : List ℕ) (scope : ℕ) : Type 0 where
-  pub node : Node w at row start
+pub record Entering (row : code.Row) (start : ℕ) (now : List ℕ) (inner : ℕ) (w : List ℕ) (at : ℕ) (ls : List ℕ) (scope : ℕ) : Type 0 where
+  pub node : AtNode w at row start
   pub many : 2 ≤ row .parts
   pub plain : row .shape ≡ 9 → ⊥
-  pub enters : Entered (row .shape) at scope ls now inner
+  pub enters : ScopeWithin (row .shape) at scope ls now inner
 
 module _ {row : code.Row} {start : ℕ} {now : List ℕ} {inner : ℕ} {w : List ℕ} {at : ℕ} {ls : List ℕ} {scope : ℕ}
-    (O : Opened row start now inner w at ls scope) where
-  abbrev N : Node w at row start
+    (O : Entering row start now inner w at ls scope) where
+  abbrev N : AtNode w at row start
   N = O .node
 
   pub reached : Reached w ls at start now
@@ -181,23 +186,23 @@ pub record One (l : Lang) (row : code.Row) (start : ℕ) (ls2 : List ℕ) (t : R
     : Type 0 where
   pub now : List ℕ
   pub inner : ℕ
-  pub opened : Opened row start now inner w at ls scope
+  pub entering : Entering row start now inner w at ls scope
   pub infers : Infers l w start inner now ls2 (whole t second)
 
 pub one-of : {row : code.Row} {start : ℕ} {now : List ℕ} {inner : ℕ} {w : List ℕ} {at : ℕ} {ls : List ℕ} {scope : ℕ}
-    → Opened row start now inner w at ls scope → {l : Lang} {ls2 : List ℕ} {r : Answer l} → Infers l w start inner now ls2 r
+    → Entering row start now inner w at ls scope → {l : Lang} {ls2 : List ℕ} {r : Answer l} → Infers l w start inner now ls2 r
     → {t : Reference l} {second : ℕ} → r ≡ whole t second → One l row start ls2 t second w at ls scope
 one-of {row} {start} {now} {inner} {w} O {l} {ls2} I T =
-    record { now = now; inner = inner; opened = O; infers = subst (Infers l w start inner now ls2) T I }
+    record { now = now; inner = inner; entering = O; infers = subst (Infers l w start inner now ls2) T I }
 
 module _ {l : Lang} {row : code.Row} {start : ℕ} {ls2 : List ℕ} {t : Reference l} {second : ℕ} {w : List ℕ} {at : ℕ} {ls : List ℕ} {scope : ℕ}
     (A : One l row start ls2 t second w at ls scope) where
   pub reached-1 : Reached w ls at second ls2
-  reached-1 = further (reached (A .opened)) (A .infers) refl
+  reached-1 = further (reached (A .entering)) (A .infers) refl
 
   pub first-good : (e : Term l) (k : List ℕ) → drop at w ≡ put e k → leadSize e ≡ 0 → (shapeNumber (term l) e ≡ 3 → ⊥) → (a : Term l)
       (Γ : Lambdas) (j : List ℕ) → drop (at + 1) w ≡ put a j → Scope w ls at scope Γ → Good l w ls2 (at + 1) Γ a t second
-  first-good e k d z n a Γ j d′ s = good-part (first (A .opened) (A .infers) e k d z n a Γ j d′ s) refl
+  first-good e k d z n a Γ j d′ s = good-part (first (A .entering) (A .infers) e k d z n a Γ j d′ s) refl
 
   pub two-bad : {ls3 : List ℕ} {r2 : Answer l} → Infers l w second scope ls2 ls3 r2 → {b : ℕ} → r2 ≡ bad b → Of l w at (Several l)
       → Infers l w at scope ls ls3 r2

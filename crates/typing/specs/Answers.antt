@@ -67,17 +67,12 @@ other sc = ml
 
 -- What a boundary with the type τ around a term of the other language has: "ms t of a well-formed Scheme term has type t"; "sm t of an ML term
 -- is well formed exactly if that term has type t".
-abbrev pub crossing : (l : Lang) → Ty → Static (other l) → Option (Static l)
-crossing ml τ s = some τ
-crossing sc τ s = cond (sameType ml s τ) (some tt) none
+abbrev pub boundaryType : (l : Lang) → Ty → Static (other l) → Option (Static l)
+boundaryType ml τ s = some τ
+boundaryType sc τ s = cond (sameType ml s τ) (some tt) none
 
 -- The answer r for the boundary at `at`, by the answer for the term in it.
 pub record Crossed (l : Lang) (w ls : List ℕ) (at : ℕ) (one : Answer (other l)) (r : Answer l) : Type 0 where
   pub advances : (end : ℕ) → Advances at end one → Advances at end r
   pub is : (τ : Ty) (o : Option (Static (other l))) (lo hi fault next : ℕ) → Written w (at + 1) τ → Answers (other l) w ls lo hi fault next o one
-      → Answers l w ls lo hi (found o fault (λ u. at)) next (found o none (λ u. crossing l τ u)) r
-
--- That of ms: the type is written behind it.
-abbrev pub carried : ℕ → Answer sc → Answer ml
-carried at (whole p next) = whole (at + 1) next
-carried at (bad f) = bad f
+      → Answers l w ls lo hi (found o fault (λ u. at)) next (found o none (λ u. boundaryType l τ u)) r

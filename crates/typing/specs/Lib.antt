@@ -1,3 +1,4 @@
+pub mod Links
 pub mod Answers
 pub mod Operators
 pub mod Variables

@@ -9,6 +9,7 @@ use Rattle.calculus.specs.Verdicts.{found}
 use Rattle.calculus.specs.Words.{put, sizeTy}
 use Rattle.nodes.specs.declared.kinds.Row as code
 use Rattle.nodes.specs.Table.{rowOf, kinds}
+use Rattle.typing.specs.Links.{Linked, LinkTo, KeptBefore}
 use Rattle.typing.specs.Answers.{Answer, whole}
 
 -- The type that the words of a node begin with, behind its own word.
@@ -45,6 +46,11 @@ pub record Read (w : List ℕ) (at : ℕ) (row : code.Row) : Type 0 where
   pub within : at < length w
   pub known : row ≡ rowOf (getD w at 0 % 256)
 
+-- The same, by the table.
+pub record ReadBy (table w : List ℕ) (at : ℕ) (row : code.Row) : Type 0 where
+  pub tabled : table ≡ kinds
+  pub read : Read w at row
+
 -- The place past the type that a node begins with, where the first term among its parts starts.
 pub record PartsStart (w : List ℕ) (at r : ℕ) : Type 0 where
   pub least : at < r
@@ -52,30 +58,23 @@ pub record PartsStart (w : List ℕ) (at r : ℕ) : Type 0 where
   pub is : (l : Lang) (e : Term l) (k : List ℕ) → drop at w ≡ put e k → r ≡ at + 1 + leadSize e
 
 -- A node that has no part which is a term, and ends before `next`.
-pub record Leaf (w : List ℕ) (at : ℕ) (row : code.Row) (next : ℕ) : Type 0 where
+pub record Leaf (table w ls : List ℕ) (at : ℕ) (row : code.Row) (next : ℕ) : Type 0 where
+  pub links : Linked table w ls
   pub read : Read w at row
   pub starts : PartsStart w at next
   pub behind : 0 < at
   pub leaf : row .parts < 2
 
--- A place as a link.
-abbrev pub Linked : ℕ → ℕ → Type 0
-Linked p r = p < 65536 → r ≡ p
-
--- The links before the place are as they were.
-abbrev pub Kept : ℕ → List ℕ → List ℕ → Type 0
-Kept at before after = (i : ℕ) → i < at → getD after i 0 ≡ getD before i 0
-
 -- A lambda links to the next lambda around it, and is itself the one around its body; another node changes nothing.
-pub record Entered (shape at scope : ℕ) (before after : List ℕ) (r : ℕ) : Type 0 where
+pub record ScopeWithin (shape at scope : ℕ) (before after : List ℕ) (r : ℕ) : Type 0 where
   pub same : length after ≡ length before
-  pub kept : Kept at before after
+  pub kept : KeptBefore at before after
   pub other : (shape ≡ 3 → ⊥) → (r ≡ scope) × (after ≡ before)
-  pub own : shape ≡ 3 → (r ≡ at) × Linked scope (getD after at 0)
+  pub own : shape ≡ 3 → (r ≡ at) × LinkTo scope (getD after at 0)
 
 -- An ML lambda links to the type of its body, and no other link changes.
 pub record Function (at t next : ℕ) (before after : List ℕ) (r : Answer ml) : Type 0 where
   pub same : length after ≡ length before
   pub answer : r ≡ whole at next
   pub kept : (i : ℕ) → (i ≡ at → ⊥) → getD after i 0 ≡ getD before i 0
-  pub own : Linked t (getD after at 0)
+  pub own : LinkTo t (getD after at 0)

@@ -25,7 +25,7 @@ abbrev pub Behind : (l : Lang) → List ℕ → Option (Static l) → ℕ → Ty
 Behind l w none r = r ≡ 0
 Behind l w (some t) r = (0 < r) × WrittenStatic l w (r + 1) t
 
-pub record Lambda (w ls : List ℕ) (sort scope between r : ℕ) : Type 0 where
+pub record LambdaOf (w ls : List ℕ) (sort scope between r : ℕ) : Type 0 where
   pub there : r ≤ length w
   pub is : (l : Lang) (Γ : Lambdas) (hi : ℕ) → sort ≡ sortNumber (term l) → hi ≤ length w → Scope w ls hi scope Γ → Behind l w (typeAt l Γ between) r
 

@@ -17,7 +17,7 @@ use rules::Formed;
 use rules::Inferred;
 use rules::at_ms;
 use rules::at_sm;
-use rules::concluded;
+use rules::conclusion;
 use rules::result_1;
 use rules::result_2;
 use rules::result_3;
@@ -68,20 +68,20 @@ pub fn infer(
         return function(at, link, t, second);
     }
     if row.shape == nodes::kinds::OPERATOR_1 {
-        return concluded(at, result_1(table, words, link, w, at, t), second);
+        return conclusion(at, result_1(table, words, link, w, at, t), second);
     }
     let two = infer(table, words, &words[second..], second, link, scope);
     let Inferred::Typed(u, third) = two else {
         return two;
     };
     if row.shape == nodes::kinds::OPERATOR_2 {
-        return concluded(at, result_2(table, words, link, w, t, u), third);
+        return conclusion(at, result_2(table, words, link, w, t, u), third);
     }
     let three = infer(table, words, &words[third..], third, link, scope);
     let Inferred::Typed(v, next) = three else {
         return three;
     };
-    concluded(at, result_3(table, words, link, t, u, v), next)
+    conclusion(at, result_3(table, words, link, t, u, v), next)
 }
 
 // Whether the Scheme term that starts at the place `at`, inside the lambda at `scope`, is well formed.

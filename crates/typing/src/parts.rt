@@ -7,18 +7,17 @@ use crate::rules::variable;
 use nodes::kinds::Kinds;
 use nodes::kinds::Row;
 use types::type_end;
-ghost use mathlib.Core.Path.{_≡_};
 ghost use Prim.Native.Nat.{_<_};
 ghost use lib.ListN.{length};
 ghost use Rattle.calculus.specs.Trees.{ml, sc};
-ghost use Rattle.nodes.specs.Table.{kinds};
 ghost use Rattle.typing.specs.Answers.{inferred, formed};
-ghost use Rattle.typing.specs.Parts.{Read, PartsStart, Leaf, Linked, Entered, Function};
+ghost use Rattle.typing.specs.Links.{LinkTo};
+ghost use Rattle.typing.specs.Parts.{ReadBy, PartsStart, Leaf, ScopeWithin, Function};
 ghost use Rattle.typing.specs.Infers.{Infers};
 
 // The place of the first term among the parts of the node at `at`: past the type that the node begins with, if it does.
 pub fn parts_start(table: &Kinds, all: &[u32], row: Row, at: usize) -> usize
-    requires { ⌜ (now table ≡ kinds) × Read (now all) at row ⌝ }
+    requires { ⌜ ReadBy (now table) (now all) at row ⌝ }
     ensures { λ r. ⌜ PartsStart (now (all .entry)) at r ⌝ }
 {
     let first = at + 1;
@@ -38,7 +37,7 @@ pub fn leaf(
     at: usize,
     next: usize,
 ) -> Inferred
-    requires { ⌜ (now table ≡ kinds) × (length (now link) ≡ length (now all)) × Leaf (now all) at row next ⌝ }
+    requires { ⌜ Leaf (now table) (now all) (now link) at row next ⌝ }
     ensures { λ r. ⌜ Infers ml (now (all .entry)) at scope (now (link .entry)) (now (link .entry)) (inferred r) ⌝ }
 {
     if row.shape == nodes::kinds::VARIABLE {
@@ -60,7 +59,7 @@ pub fn scheme_leaf(
     at: usize,
     next: usize,
 ) -> Formed
-    requires { ⌜ (now table ≡ kinds) × (length (now link) ≡ length (now all)) × Leaf (now all) at row next ⌝ }
+    requires { ⌜ Leaf (now table) (now all) (now link) at row next ⌝ }
     ensures { λ r. ⌜ Infers sc (now (all .entry)) at scope (now (link .entry)) (now (link .entry)) (formed r) ⌝ }
 {
     if row.shape == nodes::kinds::VARIABLE {
@@ -69,9 +68,9 @@ pub fn scheme_leaf(
     Formed::Whole(next)
 }
 
-// A place as a link. A place of a file is below 65,536.
+// A place of a file as a link.
 fn link_to(p: usize) -> u16
-    ensures { λ r. ⌜ Linked p r ⌝ }
+    ensures { λ r. ⌜ LinkTo p r ⌝ }
 {
     if p < 65536 {
         return p as u16;
@@ -82,7 +81,7 @@ fn link_to(p: usize) -> u16
 // The lambda around the parts of the node at `at`: the node itself, where it is a lambda, with a link to the next lambda around it.
 pub fn scope_within(shape: u64, at: usize, link: &mut [u16], scope: usize) -> usize
     requires { ⌜ at < length (now link) ⌝ }
-    ensures { λ r. ⌜ Entered shape at scope (now (link .entry)) (now (link .exit)) r ⌝ }
+    ensures { λ r. ⌜ ScopeWithin shape at scope (now (link .entry)) (now (link .exit)) r ⌝ }
 {
     if shape != nodes::kinds::LAMBDA {
         return scope;

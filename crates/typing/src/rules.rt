@@ -7,13 +7,14 @@ use types::former_at;
 use types::same;
 use types::type_end;
 ghost use mathlib.Core.Path.{_≡_};
-ghost use Prim.Native.Nat.{_+_, _<_};
-ghost use lib.ListN.{length};
+ghost use mathlib.Core.List.{List};
+ghost use Prim.Native.Nat.{ℕ, _<_};
 ghost use Rattle.nodes.specs.Table.{kinds};
-ghost use Rattle.calculus.specs.Trees.{ml, sc};
-ghost use Rattle.typing.specs.Answers.{inferred, formed, conclusion, carried, Crossed};
-ghost use Rattle.typing.specs.Operators.{ArgumentEnd, elementOf, Fixed, Applied, Paired, Result1, Result2, Result3};
-ghost use Rattle.typing.specs.Variables.{Lambda, Variable};
+ghost use Rattle.calculus.specs.Trees.{ml, sc, FIX, APP, CONS};
+ghost use Rattle.typing.specs.Links.{Linked, LinkedAt};
+ghost use Rattle.typing.specs.Answers.{inferred, formed, conclusion, Crossed};
+ghost use Rattle.typing.specs.Operators.{ArgumentEnd, elementOf, Rule1, Rule2, Result1, Result2, Result3};
+ghost use Rattle.typing.specs.Variables.{LambdaOf, Variable};
 
 // The type of an ML term, as a reference, and the place past the term; or the place of its fault.
 pub enum Inferred {
@@ -27,19 +28,8 @@ pub enum Formed {
     Bad(usize),
 }
 
-// The words of the operators that the rules tell apart.
-const APPLICATION: u32 = 19;
-
-const FIX: u32 = 20;
-
-const CONS: u32 = 25;
-
-const HD: u32 = 26;
-
-const TL: u32 = 27;
-
 // The answer for the node at `at`, which ends before `next` and has the type t.
-pub fn concluded(at: usize, t: usize, next: usize) -> Inferred
+pub fn conclusion(at: usize, t: usize, next: usize) -> Inferred
     ensures { λ r. ⌜ inferred r ≡ conclusion at t next ⌝ }
 {
     if t == 0 {
@@ -49,7 +39,7 @@ pub fn concluded(at: usize, t: usize, next: usize) -> Inferred
 }
 
 // From the lambda at `scope` outwards, the one with so many others between, if it is of the sort; else 0.
-fn lambda(
+fn lambda_of(
     table: &Kinds,
     all: &[u32],
     link: &[u16],
@@ -57,8 +47,8 @@ fn lambda(
     scope: usize,
     between: usize,
 ) -> usize
-    requires { ⌜ (now table ≡ kinds) × (length (now link) ≡ length (now all)) ⌝ }
-    ensures { λ r. ⌜ Lambda (now (all .entry)) (now (link .entry)) sort scope between r ⌝ }
+    requires { ⌜ Linked (now table) (now all) (now link) ⌝ }
+    ensures { λ r. ⌜ LambdaOf (now (all .entry)) (now (link .entry)) sort scope between r ⌝ }
 {
     if scope == 0 {
         return 0;
@@ -73,7 +63,7 @@ fn lambda(
         return 0;
     }
     let out = link[scope] as usize;
-    lambda(table, all, link, sort, out, between - 1)
+    lambda_of(table, all, link, sort, out, between - 1)
 }
 
 // The ML variable at `at`, whose word is w, inside the lambda at `scope`.
@@ -85,11 +75,11 @@ pub fn variable(
     w: u32,
     at: usize,
 ) -> Inferred
-    requires { ⌜ (now table ≡ kinds) × (length (now link) ≡ length (now all)) × (at < length (now all)) ⌝ }
+    requires { ⌜ LinkedAt (now table) (now all) (now link) at ⌝ }
     ensures { λ r. ⌜ Variable ml (now (all .entry)) (now (link .entry)) scope w at (inferred r) ⌝ }
 {
     let between = (w / 256) as usize;
-    let p = lambda(table, all, link, nodes::kinds::ML, scope, between);
+    let p = lambda_of(table, all, link, nodes::kinds::ML, scope, between);
     if p == 0 {
         return Inferred::Bad(at);
     }
@@ -105,11 +95,11 @@ pub fn scheme_variable(
     w: u32,
     at: usize,
 ) -> Formed
-    requires { ⌜ (now table ≡ kinds) × (length (now link) ≡ length (now all)) × (at < length (now all)) ⌝ }
+    requires { ⌜ LinkedAt (now table) (now all) (now link) at ⌝ }
     ensures { λ r. ⌜ Variable sc (now (all .entry)) (now (link .entry)) scope w at (formed r) ⌝ }
 {
     let between = (w / 256) as usize;
-    if lambda(table, all, link, nodes::kinds::SCHEME, scope, between) == 0 {
+    if lambda_of(table, all, link, nodes::kinds::SCHEME, scope, between) == 0 {
         return Formed::Bad(at);
     }
     Formed::Whole(at + 1)
@@ -138,9 +128,9 @@ fn element(table: &Kinds, all: &[u32], t: usize) -> usize
 }
 
 // fix of a t.
-fn fixed(table: &Kinds, all: &[u32], link: &[u16], t: usize) -> usize
-    requires { ⌜ (now table ≡ kinds) × (length (now link) ≡ length (now all)) ⌝ }
-    ensures { λ r. ⌜ Fixed (now (all .entry)) (now (link .entry)) t r ⌝ }
+fn fix_type(table: &Kinds, all: &[u32], link: &[u16], t: usize) -> usize
+    requires { ⌜ Linked (now table) (now all) (now link) ⌝ }
+    ensures { λ r. ⌜ Rule1 FIX (now (all .entry)) (now (link .entry)) t r ⌝ }
 {
     let end = argument_end(table, all, t);
     if end == 0 {
@@ -155,9 +145,9 @@ fn fixed(table: &Kinds, all: &[u32], link: &[u16], t: usize) -> usize
 }
 
 // A t applied to a u.
-fn applied(table: &Kinds, all: &[u32], link: &[u16], t: usize, u: usize) -> usize
-    requires { ⌜ (now table ≡ kinds) × (length (now link) ≡ length (now all)) ⌝ }
-    ensures { λ r. ⌜ Applied (now (all .entry)) (now (link .entry)) t u r ⌝ }
+fn application_type(table: &Kinds, all: &[u32], link: &[u16], t: usize, u: usize) -> usize
+    requires { ⌜ Linked (now table) (now all) (now link) ⌝ }
+    ensures { λ r. ⌜ Rule2 APP (now (all .entry)) (now (link .entry)) t u r ⌝ }
 {
     let end = argument_end(table, all, t);
     if end == 0 {
@@ -171,9 +161,9 @@ fn applied(table: &Kinds, all: &[u32], link: &[u16], t: usize, u: usize) -> usiz
 }
 
 // cons of a t and a u.
-fn paired(table: &Kinds, all: &[u32], link: &[u16], t: usize, u: usize) -> usize
-    requires { ⌜ (now table ≡ kinds) × (length (now link) ≡ length (now all)) ⌝ }
-    ensures { λ r. ⌜ Paired (now (all .entry)) (now (link .entry)) t u r ⌝ }
+fn cons_type(table: &Kinds, all: &[u32], link: &[u16], t: usize, u: usize) -> usize
+    requires { ⌜ Linked (now table) (now all) (now link) ⌝ }
+    ensures { λ r. ⌜ Rule2 CONS (now (all .entry)) (now (link .entry)) t u r ⌝ }
 {
     let e = element(table, all, u);
     if e == 0 {
@@ -187,20 +177,20 @@ fn paired(table: &Kinds, all: &[u32], link: &[u16], t: usize, u: usize) -> usize
 
 // The operator of one part at `at`, whose word is w, of a t.
 pub fn result_1(table: &Kinds, all: &[u32], link: &[u16], w: u32, at: usize, t: usize) -> usize
-    requires { ⌜ (now table ≡ kinds) × (length (now link) ≡ length (now all)) ⌝ }
+    requires { ⌜ Linked (now table) (now all) (now link) ⌝ }
     ensures { λ r. ⌜ Result1 (now (all .entry)) (now (link .entry)) w at t r ⌝ }
 {
-    if w == FIX {
-        return fixed(table, all, link, t);
+    if w == nodes::words::FIX {
+        return fix_type(table, all, link, t);
     }
     let e = element(table, all, t);
     if e == 0 {
         return 0;
     }
-    if w == HD {
+    if w == nodes::words::ML_HD {
         return e;
     }
-    if w == TL {
+    if w == nodes::words::ML_TL {
         return t;
     }
     at
@@ -208,14 +198,14 @@ pub fn result_1(table: &Kinds, all: &[u32], link: &[u16], w: u32, at: usize, t: 
 
 // The operator of two parts whose word is w, of a t and a u.
 pub fn result_2(table: &Kinds, all: &[u32], link: &[u16], w: u32, t: usize, u: usize) -> usize
-    requires { ⌜ (now table ≡ kinds) × (length (now link) ≡ length (now all)) ⌝ }
+    requires { ⌜ Linked (now table) (now all) (now link) ⌝ }
     ensures { λ r. ⌜ Result2 (now (all .entry)) (now (link .entry)) w t u r ⌝ }
 {
-    if w == APPLICATION {
-        return applied(table, all, link, t, u);
+    if w == nodes::words::ML_APPLICATION {
+        return application_type(table, all, link, t, u);
     }
-    if w == CONS {
-        return paired(table, all, link, t, u);
+    if w == nodes::words::ML_CONS {
+        return cons_type(table, all, link, t, u);
     }
     if former_at(table, all, t) != nodes::kinds::NUMBERS {
         return 0;
@@ -228,7 +218,7 @@ pub fn result_2(table: &Kinds, all: &[u32], link: &[u16], w: u32, t: usize, u: u
 
 // if0 of a t, a u and a v.
 pub fn result_3(table: &Kinds, all: &[u32], link: &[u16], t: usize, u: usize, v: usize) -> usize
-    requires { ⌜ (now table ≡ kinds) × (length (now link) ≡ length (now all)) ⌝ }
+    requires { ⌜ Linked (now table) (now all) (now link) ⌝ }
     ensures { λ r. ⌜ Result3 (now (all .entry)) (now (link .entry)) t u v r ⌝ }
 {
     if former_at(table, all, t) != nodes::kinds::NUMBERS {
@@ -243,7 +233,7 @@ pub fn result_3(table: &Kinds, all: &[u32], link: &[u16], t: usize, u: usize, v:
 // ms, which stands at `at` with its type behind it, of a Scheme term.
 pub fn at_ms(at: usize, one: Formed) -> Inferred
     requires { ⌜ at < 4096 ⌝ }
-    ensures { λ r. ⌜ inferred r ≡ carried at (formed one) ⌝ }
+    ensures { λ r. ⌜ ((w ls : List ℕ) → Crossed ml w ls at (formed one) (inferred r)) ⌝ }
 {
     match one {
         Formed::Whole(next) => Inferred::Typed(at + 1, next),
@@ -253,7 +243,7 @@ pub fn at_ms(at: usize, one: Formed) -> Inferred
 
 // sm, which stands at `at` with its type behind it, of an ML term.
 pub fn at_sm(table: &Kinds, all: &[u32], link: &[u16], at: usize, one: Inferred) -> Formed
-    requires { ⌜ (now table ≡ kinds) × (length (now link) ≡ length (now all)) × (at < length (now all)) ⌝ }
+    requires { ⌜ LinkedAt (now table) (now all) (now link) at ⌝ }
     ensures { λ r. ⌜ Crossed sc (now (all .entry)) (now (link .entry)) at (inferred one) (formed r) ⌝ }
 {
     match one {

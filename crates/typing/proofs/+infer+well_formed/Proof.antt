@@ -2,24 +2,23 @@
 -- both is the number of the term's words. Assumes nothing.
 use Prim.Native.Nat.{ℕ, _%_, _<_}
 use mathlib.Core.List.{List}
-use mathlib.Core.Path.{_≡_, sym, ap, _∙_, subst}
+use mathlib.Core.Path.{_≡_, sym, ap, _∙_}
 use lib.ListN.{length, getD, length-drop}
 use native.Mathlib.Nat.{pos-of-ne-zero}
 use native.Mathlib.Omega.{arith}
 use borrow.Author.Needs.{needs}
-use borrow.Fn.Kinds.{In}
+use borrow.Fn.Kinds.{In, Out}
 use borrow.Fn.PlainCycle.{Measures, is, falls, and}
 use Rattle.calculus.specs.Trees.{ml, sc}
 use Rattle.nodes.specs.declared.kinds.Row as code
 use Rattle.nodes.specs.Table.{rowOf}
 use Rattle.nodes.proofs.Terms.{Shaped}
-use Rattle.typing.specs.Answers.{inferred, formed, Crossed}
-use Rattle.typing.proofs.Results.{ms-crossed}
+use Rattle.typing.specs.Answers.{inferred, formed}
 use Rattle.typing.specs.Parts.{Begins, Read, PartsStart, Leaf}
-use Rattle.typing.proofs.Nodes.{Of, first-word, told, several, choice, scheme-one, scheme-several, scheme-two, scheme-three}
-use Rattle.typing.proofs.Leaves.{run-out}
-use Rattle.typing.proofs.Walking.{Node, further, hands-on, begun, a-boundary, Opened, reached, one-bad, One, one-of, reached-1, two-bad}
-use Rattle.typing.proofs.Walking.{Two, two-of, reached-2, three-bad}
+use Rattle.typing.proofs.Rows.{Several, Of, first-word, told, several, choice, scheme-one, scheme-several, scheme-two, scheme-three}
+use Rattle.typing.proofs.Leaves.{no-words}
+use Rattle.typing.proofs.Walking.{AtNode, Reached, further, links-at, hands-on, begun, a-boundary, Entering, reached, one-bad, One, one-of}
+use Rattle.typing.proofs.Walking.{reached-1, two-bad, Two, two-of, reached-2, three-bad}
 use Rattle.typing.proofs.Concluding.{by-result1, by-result2, by-result3, an-operator-1, an-operator-2, a-choice, an-ml-lambda}
 use Rattle.typing.proofs.Concluding.{scheme2, a-scheme-part, scheme-choice}
 use Rattle.typing.proofs.infer.Reads as infer
@@ -36,7 +35,7 @@ use Rattle.typing.proofs.parts.scope_within.Reads as scope-within
 use Rattle.nodes.proofs.kinds.row_at.Reads as row-at
 use Rattle.typing.proofs.rules.at_ms.Reads as at-ms
 use Rattle.typing.proofs.rules.at_sm.Reads as at-sm
-use Rattle.typing.proofs.rules.concluded.Reads as concluded
+use Rattle.typing.proofs.rules.conclusion.Reads as conclusion
 use Rattle.typing.proofs.rules.result_1.Reads as result-1
 use Rattle.typing.proofs.rules.result_2.Reads as result-2
 use Rattle.typing.proofs.rules.result_3.Reads as result-3
@@ -46,8 +45,8 @@ use Rattle.typing.proofs.+infer+well_formed.Tie.{close}
 abbrev μ-infer : Measures 4 infer-kinds.ps ℕ
 μ-infer κs a = length (a .1 .1 .0 .now)
 
-abbrev μ-formed : Measures 4 well-formed-kinds.ps ℕ
-μ-formed κs a = length (a .1 .1 .0 .now)
+abbrev μ-well-formed : Measures 4 well-formed-kinds.ps ℕ
+μ-well-formed κs a = length (a .1 .1 .0 .now)
 
 abbrev infer-at : ℕ → In 4 infer-kinds.ps
 infer-at t = and 4 infer-kinds.ps (is 4 infer-kinds.ps μ-infer t) infer.Pre
@@ -55,11 +54,11 @@ infer-at t = and 4 infer-kinds.ps (is 4 infer-kinds.ps μ-infer t) infer.Pre
 abbrev infer-below : ℕ → In 4 infer-kinds.ps
 infer-below t = and 4 infer-kinds.ps (falls 4 infer-kinds.ps _<_ μ-infer t) infer.Pre
 
-abbrev formed-at : ℕ → In 4 well-formed-kinds.ps
-formed-at t = and 4 well-formed-kinds.ps (is 4 well-formed-kinds.ps μ-formed t) well-formed.Pre
+abbrev well-formed-at : ℕ → In 4 well-formed-kinds.ps
+well-formed-at t = and 4 well-formed-kinds.ps (is 4 well-formed-kinds.ps μ-well-formed t) well-formed.Pre
 
-abbrev formed-below : ℕ → In 4 well-formed-kinds.ps
-formed-below t = and 4 well-formed-kinds.ps (falls 4 well-formed-kinds.ps _<_ μ-formed t) well-formed.Pre
+abbrev well-formed-below : ℕ → In 4 well-formed-kinds.ps
+well-formed-below t = and 4 well-formed-kinds.ps (falls 4 well-formed-kinds.ps _<_ μ-well-formed t) well-formed.Pre
 
 -- The contracts that each of the two cites.
 abbrev in-infer : ℕ → i.Claims
@@ -70,7 +69,7 @@ in-infer t = (
   parts-start.Learnt,
   leaf.Asked,
   leaf.Learnt,
-  formed-below t,
+  well-formed-below t,
   well-formed.Post,
   at-ms.Asked,
   at-ms.Learnt,
@@ -82,16 +81,16 @@ in-infer t = (
   function.Learnt,
   result-1.Asked,
   result-1.Learnt,
-  concluded.Asked,
-  concluded.Learnt,
+  conclusion.Asked,
+  conclusion.Learnt,
   result-2.Asked,
   result-2.Learnt,
   result-3.Asked,
   result-3.Learnt,
 )
 
-abbrev in-formed : ℕ → f.Claims
-in-formed t = (
+abbrev in-well-formed : ℕ → f.Claims
+in-well-formed t = (
   row-at.Asked,
   row-at.Learnt,
   parts-start.Asked,
@@ -104,7 +103,7 @@ in-formed t = (
   at-sm.Learnt,
   scope-within.Asked,
   scope-within.Learnt,
-  formed-below t,
+  well-formed-below t,
   well-formed.Post,
 )
 
@@ -122,363 +121,394 @@ read-at {table} {w} {term} {at} B n e =
 
 node-at : {table w term : List ℕ} {at : ℕ} {ls : List ℕ} {row : code.Row} {start : ℕ} → Begins table w term at ls → Read w at row
     → PartsStart w at start
-    → Node w at row start
+    → AtNode w at row start
 node-at B R S = record { read = R; starts = S; behind = B .behind; few = B .few }
 
-leaf-of : {w : List ℕ} {at : ℕ} {row : code.Row} {start : ℕ} → Node w at row start → row .parts < 2 → Leaf w at row start
-leaf-of N h = record { read = N .read; starts = N .starts; behind = N .behind; leaf = h }
+leaf-of : {table w term : List ℕ} {at : ℕ} {ls : List ℕ} {row : code.Row} {start : ℕ} → Begins table w term at ls → AtNode w at row start
+    → row .parts < 2 → Leaf table w ls at row start
+leaf-of B N h = record { links = links-at B (begun N _); read = N .read; starts = N .starts; behind = N .behind; leaf = h }
 
 -- `infer`.
--- Its moments: the row of the word is read; the first term among the parts is found; it is about to be inferred; it is whole; so is the second.
+abbrev Ml : ℕ → (i.Claims → In 4 infer-kinds.ps → Out 4 infer-kinds.ps infer-kinds.r → Type 0) → Type 0
+Ml t M = M (in-infer t) (infer-at t) infer.Post
+
 module _ {t : ℕ} where
-  abbrev ml-start : i.After-row-at (in-infer t) (infer-at t) infer.Post → i.Start (in-infer t) (infer-at t) infer.Post
+  -- Its moments, each by a later one: the row of the word is read; the first term among the parts is found; it is about to be inferred; it is
+  -- inferred; it is whole; there are more; the second is inferred; it is whole; the third is inferred.
+  abbrev ml-start : Ml t i.After-row-at → Ml t i.Start
   ml-start c = c .before .before .before .before .before .before
 
-  abbrev ml-row : i.After-scope-within (in-infer t) (infer-at t) infer.Post → i.After-row-at (in-infer t) (infer-at t) infer.Post
-  ml-row c = c .before .before .before .before .before .before .before
+  abbrev ml-parts : Ml t i.After-scope-within → Ml t i.After-parts-start
+  ml-parts c = c .before .before .before .before .before .before
 
-  abbrev ml-enters : i.After-known-told (in-infer t) (infer-at t) infer.Post → i.After-scope-within (in-infer t) (infer-at t) infer.Post
-  ml-enters c = c .before .before .before .before .before .before .before .before .before .before
+  abbrev ml-enters : Ml t i.After-infer → Ml t i.After-scope-within
+  ml-enters c = c .before .before .before .before .before
 
-  abbrev ml-whole : i.After-known-told2 (in-infer t) (infer-at t) infer.Post → i.After-known-told (in-infer t) (infer-at t) infer.Post
-  ml-whole c = c .before .before .before .before .before .before .before .before .before .before .before .before
+  abbrev ml-first : Ml t i.After-known-told → Ml t i.After-infer
+  ml-first c = c .before .before .before .before .before
 
-  abbrev ml-asked : i.After-known-told (in-infer t) (infer-at t) infer.Post → i.Start (in-infer t) (infer-at t) infer.Post
-  ml-asked c = ml-start (ml-row (ml-enters c))
+  abbrev ml-whole : Ml t i.Else5 → Ml t i.After-known-told
+  ml-whole c = c .before .before .before .before
 
-  -- Of its words, its place, its links and its scope.
-  abbrev ml-Of : i.Start (in-infer t) (infer-at t) infer.Post → (List ℕ → ℕ → List ℕ → ℕ → Type 0) → Type 0
-  ml-Of s P = P (s .args .words .now) (s .args .at) (s .args .link .now) (s .args .scope)
+  abbrev ml-more : Ml t i.After-infer2 → Ml t i.Else5
+  ml-more c = c .before .before .before
 
-  ml-read : (c : i.After-row-at (in-infer t) (infer-at t) infer.Post) → Read (ml-start c .args .words .now) (ml-start c .args .at) (c .row-at .result)
-  ml-read c = read-at (ml-start c .pre .1) (c .before .before .if1 .left) (c .row-at .ensures)
+  abbrev ml-second : Ml t i.After-known-told2 → Ml t i.After-infer2
+  ml-second c = c .before .before .before .before .before
 
-  ml-node : (c : i.After-parts-start (in-infer t) (infer-at t) infer.Post)
-      → Node (ml-start (c .before) .args .words .now) (ml-start (c .before) .args .at) (c .before .row-at .result) (c .parts-start .result)
-  ml-node c = node-at (ml-start (c .before) .pre .1) (ml-read (c .before)) (c .parts-start .ensures)
+  abbrev ml-whole-2 : Ml t i.After-infer3 → Ml t i.After-known-told2
+  ml-whole-2 c = c .before .before .before .before .before
 
-  ml-opened : (c : i.After-scope-within (in-infer t) (infer-at t) infer.Post) → ml-Of (ml-start (ml-row c))
-      (Opened (ml-row c .row-at .result) (c .before .before .before .before .before .before .parts-start .result) (c .scope-within .last .1 .1 .0)
-      (c .scope-within .result))
-  ml-opened c =
+  abbrev ml-third : Ml t i.After-result-3-arg → Ml t i.After-infer3
+  ml-third c = c .before .before .before .before .before .before
+
+  abbrev ml-found : Ml t i.After-known-told → Ml t i.After-parts-start
+  ml-found c = ml-parts (ml-enters (ml-first c))
+
+  abbrev ml-found-2 : Ml t i.After-known-told2 → Ml t i.After-parts-start
+  ml-found-2 c = ml-found (ml-whole (ml-more (ml-second c)))
+
+  -- What it asks; and of its words, its place, its links and its scope.
+  ml-begins : (c : Ml t i.After-row-at)
+      → let a = ml-start c .args in Begins (a .table .now) (a .words .now) (a .term .now) (a .at) (a .link .now)
+  ml-begins c = ml-start c .pre .1
+
+  abbrev ml-Of : Ml t i.After-parts-start → (List ℕ → ℕ → List ℕ → ℕ → Type 0) → Type 0
+  ml-Of c P = let a = ml-start (c .before) .args in P (a .words .now) (a .at) (a .link .now) (a .scope)
+
+  ml-read : (c : Ml t i.After-row-at) → Read (ml-start c .args .words .now) (ml-start c .args .at) (c .row-at .result)
+  ml-read c = read-at (ml-begins c) (c .before .before .if1 .left) (c .row-at .ensures)
+
+  ml-node : (c : Ml t i.After-parts-start)
+      → ml-Of c (λ w at ls scope. AtNode w at (c .before .row-at .result) (c .parts-start .result))
+  ml-node c = node-at (ml-begins (c .before)) (ml-read (c .before)) (c .parts-start .ensures)
+
+  ml-entering : (c : Ml t i.After-scope-within) → let p = ml-parts c in
+      ml-Of p (Entering (p .before .row-at .result) (p .parts-start .result) (c .scope-within .last .1 .1 .0) (c .scope-within .result))
+  ml-entering c =
       record {
-        node = ml-node (c .before .before .before .before .before .before);
+        node = ml-node (ml-parts c);
         many = c .before .before .before .before .if2 .left;
         plain = c .before .before .if3 .left;
         enters = c .scope-within .ensures;
       }
 
-  ml-one : (c : i.After-known-told (in-infer t) (infer-at t) infer.Post) → ml-Of (ml-asked c)
-      (One ml (ml-row (ml-enters c) .row-at .result) (ml-enters c .before .before .before .before .before .before .parts-start .result)
-      (c .before .before .before .before .before .infer .last .1 .1 .1 .1 .0) (c .before .one .given .0 .0) (c .before .one .given .0 .1 .0))
-  ml-one c = one-of (ml-opened (ml-enters c)) (c .before .before .before .before .before .infer .ensures) (ap inferred (c .before .one .given .1))
+  ml-one : (c : Ml t i.After-known-told) → let p = ml-found c in
+      ml-Of p (One ml (p .before .row-at .result) (p .parts-start .result) (ml-first c .infer .last .1 .1 .1 .1 .0) (c .before .one .given .0 .0)
+      (c .before .one .given .0 .1 .0))
+  ml-one c = one-of (ml-entering (ml-enters (ml-first c))) (ml-first c .infer .ensures) (ap inferred (c .before .one .given .1))
 
-  ml-two : (c : i.After-known-told2 (in-infer t) (infer-at t) infer.Post) → ml-Of (ml-asked (ml-whole c))
-      (Two ml (ml-row (ml-enters (ml-whole c)) .row-at .result) (ml-enters
-      (ml-whole c) .before .before .before .before .before .before .parts-start .result)
-      (c .before .before .before .before .before .infer2 .last .1 .1 .1 .1 .0) (ml-whole c .before .one .given .0 .0) (c .before .two .given .0 .0)
-      (c .before .two .given .0 .1 .0))
-  ml-two c = two-of (ml-one (ml-whole c)) (c .before .before .before .before .before .infer2 .ensures) (ap inferred (c .before .two .given .1))
+  ml-two : (c : Ml t i.After-known-told2) → let k = ml-whole (ml-more (ml-second c)) in let p = ml-found k in
+      ml-Of p (Two ml (p .before .row-at .result) (p .parts-start .result) (ml-second c .infer2 .last .1 .1 .1 .1 .0) (k .before .one .given .0 .0)
+      (c .before .two .given .0 .0) (c .before .two .given .0 .1 .0))
+  ml-two c =
+      two-of (ml-one (ml-whole (ml-more (ml-second c)))) (ml-second c .infer2 .ensures) (ap inferred (c .before .two .given .1))
 
-  -- An if0 is no other node.
-  ml-choice : (c : i.After-infer3 (in-infer t) (infer-at t) infer.Post) → let s = ml-asked (ml-whole (c .before .before .before .before .before)) in
-      Of ml (s .args .words .now) (s .args .at) (Shaped ml 6)
+  -- A node that is neither a lambda nor an operator of one part; an if0 is no operator of two either.
+  ml-several : (c : Ml t i.Else5) → ml-Of (ml-found (ml-whole c)) (λ w at ls scope. Of ml w at (Several ml))
+  ml-several c =
+      let O = ml-one (ml-whole c) .entering in
+      several (O .node .read) (O .many) (O .plain) (c .before .before .if4 .left) (c .if5 .left) ml
+
+  ml-choice : (c : Ml t i.After-infer3) → ml-Of (ml-found-2 (ml-whole-2 c)) (λ w at ls scope. Of ml w at (Shaped ml 6))
   ml-choice c =
-      let h = c .before .before .before .before .before .before .before .before .before .before .before .before .before in
-      let O = ml-opened (ml-enters (h .before .before .before .before)) in
+      let h = ml-more (ml-second (ml-whole-2 c)) in
+      let O = ml-one (ml-whole h) .entering in
       choice (O .node .read) (O .many) (O .plain) (h .before .before .if4 .left) (h .if5 .left) (c .before .before .before .if6 .left) ml
 
-ml-returns : (t : ℕ) → i.Need-returns (in-infer t) (infer-at t) infer.Post
-ml-returns t c = run-out ml _ _ _ _ (sym (ap length (c .before .before .before .before .pre .1 .here)) ∙ c .if1 .taken)
+  ml-returns : Ml t i.Need-returns
+  ml-returns c = no-words ml _ _ _ _ (sym (ap length (c .before .before .before .before .pre .1 .here)) ∙ c .if1 .taken)
 
-ml-parts-start-requires : (t : ℕ) → i.Need-parts-start-requires (in-infer t) (infer-at t) infer.Post
-ml-parts-start-requires t c κs = (ml-start c .pre .1 .tabled, ml-read c)
+  ml-parts-start-requires : Ml t i.Need-parts-start-requires
+  ml-parts-start-requires c κs = record { tabled = ml-begins c .tabled; read = ml-read c }
 
-ml-leaf-requires : (t : ℕ) → i.Need-leaf-requires (in-infer t) (infer-at t) infer.Post
-ml-leaf-requires t c κs =
-    let k = c .before .before .before in
-    let b = ml-start (k .before) .pre .1 in (b .tabled, b .linked, leaf-of (ml-node k) (c .before .if2 .taken))
+  ml-leaf-requires : Ml t i.Need-leaf-requires
+  ml-leaf-requires c κs =
+      let p = c .before .before .before in leaf-of (ml-begins (p .before)) (ml-node p) (c .before .if2 .taken)
 
-ml-well-formed-requires : (t : ℕ) → i.Need-well-formed-requires (in-infer t) (infer-at t) infer.Post
-ml-well-formed-requires t c κs =
-    let k = c .before .before .before .before .before .before in
-    let s = ml-start (k .before) in
-    hands-on (s .pre .1) (begun (ml-node k) _) (s .pre .0)
+  ml-well-formed-requires : Ml t i.Need-well-formed-requires
+  ml-well-formed-requires c κs =
+      let p = c .before .before .before .before .before .before in hands-on (ml-start (p .before) .pre) (begun (ml-node p) _)
 
-ml-returns-3 : (t : ℕ) → i.Need-returns-3 (in-infer t) (infer-at t) infer.Post
-ml-returns-3 t c =
-    a-boundary (ml-node (c .before .before .before .before .before .before .before .before .before .before))
-    (c .before .before .before .well-formed .ensures) (c .before .before .before .before .before .before .if3 .taken)
-    (subst (Crossed ml _ _ _ _) (sym (c .at-ms .ensures)) (ms-crossed _ _ _ _))
+  ml-returns-3 : Ml t i.Need-returns-3
+  ml-returns-3 c =
+      let crossing = c .before .before .before in
+      let then = crossing .before .before .before in
+      a-boundary (ml-node (then .before .before .before .before)) (crossing .well-formed .ensures) (then .if3 .taken) (c .at-ms .ensures _ _)
 
-ml-infer-requires : (t : ℕ) → i.Need-infer-requires (in-infer t) (infer-at t) infer.Post
-ml-infer-requires t c κs =
-    let k = c .before .before .before .before in
-    let s = ml-start (ml-row k) in
-    hands-on (s .pre .1) (reached (ml-opened k)) (s .pre .0)
+  ml-infer-requires : Ml t i.Need-infer-requires
+  ml-infer-requires c κs =
+      let k = c .before .before .before .before in hands-on (ml-start (ml-parts k .before) .pre) (reached (ml-entering k))
 
-ml-returns-4 : (t : ℕ) → i.Need-returns-4 (in-infer t) (infer-at t) infer.Post
-ml-returns-4 t c =
-    one-bad (ml-opened (c .before .before .before .before .before .before .before .before .before))
-    (c .before .before .before .before .infer .ensures) (ap inferred (c .enum-told .given .1))
+  ml-returns-4 : Ml t i.Need-returns-4
+  ml-returns-4 c =
+      let first = c .before .before .before .before in
+      one-bad (ml-entering (ml-enters first)) (first .infer .ensures) (ap inferred (c .enum-told .given .1))
 
-ml-function-requires : (t : ℕ) → i.Need-function-requires (in-infer t) (infer-at t) infer.Post
-ml-function-requires t c κs =
-    let k = c .before .before .before in omega (arith, ml-one k .opened .node .read .within, reached-1 (ml-one k) .same, ml-asked k .pre .1 .linked)
+  ml-function-requires : Ml t i.Need-function-requires
+  ml-function-requires c κs =
+      let k = c .before .before .before in
+      omega (arith, ml-read (ml-found k .before) .within, reached-1 (ml-one k) .same, ml-begins (ml-found k .before) .linked)
 
-ml-returns-5 : (t : ℕ) → i.Need-returns-5 (in-infer t) (infer-at t) infer.Post
-ml-returns-5 t c =
-    an-ml-lambda (ml-one (c .before .before .before .before .before .before)) (c .before .before .before .before .if4 .taken)
-    (c .before .before .function .ensures)
+  ml-returns-5 : Ml t i.Need-returns-5
+  ml-returns-5 c =
+      let then = c .before .before .before .before in
+      an-ml-lambda (ml-one (then .before .before)) (then .if4 .taken) (c .before .before .function .ensures)
 
-ml-result-1-requires : (t : ℕ) → i.Need-result-1-requires (in-infer t) (infer-at t) infer.Post
-ml-result-1-requires t c κs =
-    let k = c .before .before .before .before .before in
-    let b = ml-asked k .pre .1 in
-    (b .tabled, reached-1 (ml-one k) .same ∙ b .linked)
+  ml-result-1-requires : Ml t i.Need-result-1-requires
+  ml-result-1-requires c κs =
+      let k = c .before .before .before .before .before in links-at (ml-begins (ml-found k .before)) (reached-1 (ml-one k))
 
-ml-returns-6 : (t : ℕ) → i.Need-returns-6 (in-infer t) (infer-at t) infer.Post
-ml-returns-6 t c =
-    let k = c .before .before .before .before .before .before .before in
-    an-operator-1 (ml-one k)
-    (by-result1 _ (c .concluded .ensures) (reached-1 (ml-one k) .within) (word-at (ml-asked k .pre .1)) (c .before .result-1 .ensures))
-    (c .before .before .before .if5 .taken)
+  ml-returns-6 : Ml t i.Need-returns-6
+  ml-returns-6 c =
+      let then = c .before .before .before in
+      let k = then .before .before .before .before in
+      an-operator-1 (ml-one k)
+      (by-result1 _ (c .conclusion .ensures) (reached-1 (ml-one k) .within) (word-at (ml-begins (ml-found k .before))) (c .before .result-1 .ensures))
+      (then .if5 .taken)
 
-ml-mul-infer-2 : (t : ℕ) → i.Need-mul-infer-2 (in-infer t) (infer-at t) infer.Post
-ml-mul-infer-2 t c =
-    let k = c .before .before .before .before in
-    record { fits = omega (arith, reached-1 (ml-one k) .within, ml-asked k .pre .1 .few) }
+  ml-mul-infer-2 : Ml t i.Need-mul-infer-2
+  ml-mul-infer-2 c =
+      let k = ml-whole c in record { fits = omega (arith, reached-1 (ml-one k) .within, ml-begins (ml-found k .before) .few) }
 
-ml-infer-requires-2 : (t : ℕ) → i.Need-infer-requires-2 (in-infer t) (infer-at t) infer.Post
-ml-infer-requires-2 t c κs =
-    let k = c .before .before .before .before .before .before in
-    let s = ml-asked k in
-    hands-on (s .pre .1) (reached-1 (ml-one k)) (s .pre .0)
+  ml-infer-requires-2 : Ml t i.Need-infer-requires-2
+  ml-infer-requires-2 c κs =
+      let k = ml-whole (c .before .before) in hands-on (ml-start (ml-found k .before) .pre) (reached-1 (ml-one k))
 
-ml-returns-7 : (t : ℕ) → i.Need-returns-7 (in-infer t) (infer-at t) infer.Post
-ml-returns-7 t c =
-    let k = c .before .before .before .before in
-    let h = k .before .before .before in
-    let A = ml-one (h .before .before .before .before) in
-    let O = A .opened in
-    two-bad A (k .infer2 .ensures) (ap inferred (c .enum-told2 .given .1))
-    (several (O .node .read) (O .many) (O .plain) (h .before .before .if4 .left) (h .if5 .left) ml)
+  ml-returns-7 : Ml t i.Need-returns-7
+  ml-returns-7 c =
+      let second = c .before .before .before .before in
+      let h = ml-more second in
+      two-bad (ml-one (ml-whole h)) (second .infer2 .ensures) (ap inferred (c .enum-told2 .given .1)) (ml-several h)
 
-ml-result-2-requires : (t : ℕ) → i.Need-result-2-requires (in-infer t) (infer-at t) infer.Post
-ml-result-2-requires t c κs =
-    let k = c .before .before .before in
-    let b = ml-asked (ml-whole k) .pre .1 in
-    (b .tabled, reached-2 (ml-two k) .same ∙ b .linked)
+  ml-result-2-requires : Ml t i.Need-result-2-requires
+  ml-result-2-requires c κs =
+      let k = c .before .before .before in links-at (ml-begins (ml-found-2 k .before)) (reached-2 (ml-two k))
 
-ml-returns-8 : (t : ℕ) → i.Need-returns-8 (in-infer t) (infer-at t) infer.Post
-ml-returns-8 t c =
-    let k = c .before .before .before .before .before in
-    let A = ml-two k in
-    an-operator-2 A
-    (by-result2 _ (c .concluded2 .ensures) (reached-2 A .within) (word-at (ml-asked (ml-whole k) .pre .1)) (c .before .result-2 .ensures))
-    (told (A .one .opened .node .read) 5 (c .before .before .before .if6 .taken) ml)
+  ml-returns-8 : Ml t i.Need-returns-8
+  ml-returns-8 c =
+      let then = c .before .before .before in
+      let k = then .before .before in
+      let row = ml-found-2 k .before in
+      let A = ml-two k in
+      an-operator-2 A (by-result2 _ (c .conclusion2 .ensures) (reached-2 A .within) (word-at (ml-begins row)) (c .before .result-2 .ensures))
+      (told (ml-read row) 5 (then .if6 .taken) ml)
 
-ml-mul-infer-3 : (t : ℕ) → i.Need-mul-infer-3 (in-infer t) (infer-at t) infer.Post
-ml-mul-infer-3 t c = let k = c .before .before in record { fits = omega (arith, reached-2 (ml-two k) .within, ml-asked (ml-whole k) .pre .1 .few) }
+  ml-mul-infer-3 : Ml t i.Need-mul-infer-3
+  ml-mul-infer-3 c =
+      let k = c .before .before in record { fits = omega (arith, reached-2 (ml-two k) .within, ml-begins (ml-found-2 k .before) .few) }
 
-ml-infer-requires-3 : (t : ℕ) → i.Need-infer-requires-3 (in-infer t) (infer-at t) infer.Post
-ml-infer-requires-3 t c κs =
-    let k = c .before .before .before .before in
-    let s = ml-asked (ml-whole k) in
-    hands-on (s .pre .1) (reached-2 (ml-two k)) (s .pre .0)
+  ml-infer-requires-3 : Ml t i.Need-infer-requires-3
+  ml-infer-requires-3 c κs =
+      let k = c .before .before .before .before in hands-on (ml-start (ml-found-2 k .before) .pre) (reached-2 (ml-two k))
 
-ml-same-length-8 : (t : ℕ) → i.Need-same-length-8 (in-infer t) (infer-at t) infer.Post
-ml-same-length-8 t c =
-    let k = c .before .before .before .before in
-    k .infer3 .ensures .same ∙ reached-2 (ml-two (k .before .before .before .before .before)) .same
+  ml-same-length-8 : Ml t i.Need-same-length-8
+  ml-same-length-8 c =
+      let third = c .before .before .before .before in third .infer3 .ensures .same ∙ reached-2 (ml-two (ml-whole-2 third)) .same
 
-ml-returns-9 : (t : ℕ) → i.Need-returns-9 (in-infer t) (infer-at t) infer.Post
-ml-returns-9 t c =
-    let k = c .before .before .before .before in
-    three-bad (ml-two (k .before .before .before .before .before)) (k .infer3 .ensures) (ap inferred (c .enum-told3 .given .1)) (ml-choice k)
+  ml-returns-9 : Ml t i.Need-returns-9
+  ml-returns-9 c =
+      let third = c .before .before .before .before in
+      three-bad (ml-two (ml-whole-2 third)) (third .infer3 .ensures) (ap inferred (c .enum-told3 .given .1)) (ml-choice third)
 
-ml-result-3-requires : (t : ℕ) → i.Need-result-3-requires (in-infer t) (infer-at t) infer.Post
-ml-result-3-requires t c κs =
-    let k = c .before .before .before .before .before .before in
-    let q = k .before .before .before .before .before in
-    let b = ml-asked (ml-whole q) .pre .1 in (b .tabled, k .infer3 .ensures .same ∙ reached-2 (ml-two q) .same ∙ b .linked)
+  ml-reached-3 : (c : Ml t i.After-result-3-arg)
+      → ml-Of (ml-found-2 (ml-whole-2 (ml-third c)))
+      (λ w at ls scope. Reached w ls at (c .before .before .three .given .0 .1 .0) (ml-third c .infer3 .last .1 .1 .1 .1 .0))
+  ml-reached-3 c =
+      further (reached-2 (ml-two (ml-whole-2 (ml-third c)))) (ml-third c .infer3 .ensures) (ap inferred (c .before .before .three .given .1))
 
-ml-same-length-9 : (t : ℕ) → i.Need-same-length-9 (in-infer t) (infer-at t) infer.Post
-ml-same-length-9 t c =
-    let k = c .before .before .before .before .before .before .before .before in
-    k .infer3 .ensures .same ∙ reached-2 (ml-two (k .before .before .before .before .before)) .same
+  ml-result-3-requires : Ml t i.Need-result-3-requires
+  ml-result-3-requires c κs = links-at (ml-begins (ml-found-2 (ml-whole-2 (ml-third c)) .before)) (ml-reached-3 c)
 
-ml-returns-10 : (t : ℕ) → i.Need-returns-10 (in-infer t) (infer-at t) infer.Post
-ml-returns-10 t c =
-    let k = c .before .before .before .before .before .before .before .before in
-    let A = ml-two (k .before .before .before .before .before) in
-    let z = ap inferred (c .before .before .before .before .three .given .1) in
-    a-choice A (k .infer3 .ensures) z
-    (by-result3 _ (c .concluded3 .ensures) (further (reached-2 A) (k .infer3 .ensures) z .within) (c .before .result-3 .ensures)) (ml-choice k)
+  ml-returns-10 : Ml t i.Need-returns-10
+  ml-returns-10 c =
+      let k = c .before .before in
+      let third = ml-third k in
+      a-choice (ml-two (ml-whole-2 third)) (third .infer3 .ensures) (ap inferred (k .before .before .three .given .1))
+      (by-result3 _ (c .conclusion3 .ensures) (ml-reached-3 k .within) (c .before .result-3 .ensures)) (ml-choice third)
 
 -- `well_formed`.
--- Its moments: the row of the word is read; the first term among the parts is found; it is about to be inferred; it is whole; so is the second.
+abbrev Sc : ℕ → (f.Claims → In 4 well-formed-kinds.ps → Out 4 well-formed-kinds.ps well-formed-kinds.r → Type 0) → Type 0
+Sc t M = M (in-well-formed t) (well-formed-at t) well-formed.Post
+
 module _ {t : ℕ} where
-  abbrev sc-start : f.After-row-at (in-formed t) (formed-at t) well-formed.Post → f.Start (in-formed t) (formed-at t) well-formed.Post
+  -- Its moments, the same.
+  abbrev sc-start : Sc t f.After-row-at → Sc t f.Start
   sc-start c = c .before .before .before .before .before .before
 
-  abbrev sc-row : f.After-scope-within (in-formed t) (formed-at t) well-formed.Post → f.After-row-at (in-formed t) (formed-at t) well-formed.Post
-  sc-row c = c .before .before .before .before .before .before .before
+  abbrev sc-parts : Sc t f.After-scope-within → Sc t f.After-parts-start
+  sc-parts c = c .before .before .before .before .before .before
 
-  abbrev sc-enters : f.After-known-told (in-formed t) (formed-at t) well-formed.Post
-      → f.After-scope-within (in-formed t) (formed-at t) well-formed.Post
-  sc-enters c = c .before .before .before .before .before .before .before .before .before .before
+  abbrev sc-enters : Sc t f.After-well-formed → Sc t f.After-scope-within
+  sc-enters c = c .before .before .before .before .before
 
-  abbrev sc-whole : f.After-known-told2 (in-formed t) (formed-at t) well-formed.Post → f.After-known-told (in-formed t) (formed-at t) well-formed.Post
-  sc-whole c = c .before .before .before .before .before .before .before .before .before .before
+  abbrev sc-first : Sc t f.After-known-told → Sc t f.After-well-formed
+  sc-first c = c .before .before .before .before .before
 
-  abbrev sc-asked : f.After-known-told (in-formed t) (formed-at t) well-formed.Post → f.Start (in-formed t) (formed-at t) well-formed.Post
-  sc-asked c = sc-start (sc-row (sc-enters c))
+  abbrev sc-whole : Sc t f.Else4 → Sc t f.After-known-told
+  sc-whole c = c .before .before
 
-  -- Of its words, its place, its links and its scope.
-  abbrev sc-Of : f.Start (in-formed t) (formed-at t) well-formed.Post → (List ℕ → ℕ → List ℕ → ℕ → Type 0) → Type 0
-  sc-Of s P = P (s .args .words .now) (s .args .at) (s .args .link .now) (s .args .scope)
+  abbrev sc-more : Sc t f.After-well-formed2 → Sc t f.Else4
+  sc-more c = c .before .before .before
 
-  sc-read : (c : f.After-row-at (in-formed t) (formed-at t) well-formed.Post)
-      → Read (sc-start c .args .words .now) (sc-start c .args .at) (c .row-at .result)
-  sc-read c = read-at (sc-start c .pre .1) (c .before .before .if1 .left) (c .row-at .ensures)
+  abbrev sc-second : Sc t f.After-known-told2 → Sc t f.After-well-formed2
+  sc-second c = c .before .before .before .before .before
 
-  sc-node : (c : f.After-parts-start (in-formed t) (formed-at t) well-formed.Post)
-      → Node (sc-start (c .before) .args .words .now) (sc-start (c .before) .args .at) (c .before .row-at .result) (c .parts-start .result)
-  sc-node c = node-at (sc-start (c .before) .pre .1) (sc-read (c .before)) (c .parts-start .ensures)
+  abbrev sc-whole-2 : Sc t f.After-well-formed3 → Sc t f.After-known-told2
+  sc-whole-2 c = c .before .before .before .before .before
 
-  sc-opened : (c : f.After-scope-within (in-formed t) (formed-at t) well-formed.Post) → sc-Of (sc-start (sc-row c))
-      (Opened (sc-row c .row-at .result) (c .before .before .before .before .before .before .parts-start .result) (c .scope-within .last .1 .1 .0)
-      (c .scope-within .result))
-  sc-opened c =
+  abbrev sc-found : Sc t f.After-known-told → Sc t f.After-parts-start
+  sc-found c = sc-parts (sc-enters (sc-first c))
+
+  abbrev sc-found-2 : Sc t f.After-known-told2 → Sc t f.After-parts-start
+  sc-found-2 c = sc-found (sc-whole (sc-more (sc-second c)))
+
+  sc-begins : (c : Sc t f.After-row-at)
+      → let a = sc-start c .args in Begins (a .table .now) (a .words .now) (a .term .now) (a .at) (a .link .now)
+  sc-begins c = sc-start c .pre .1
+
+  abbrev sc-Of : Sc t f.After-parts-start → (List ℕ → ℕ → List ℕ → ℕ → Type 0) → Type 0
+  sc-Of c P = let a = sc-start (c .before) .args in P (a .words .now) (a .at) (a .link .now) (a .scope)
+
+  sc-read : (c : Sc t f.After-row-at) → Read (sc-start c .args .words .now) (sc-start c .args .at) (c .row-at .result)
+  sc-read c = read-at (sc-begins c) (c .before .before .if1 .left) (c .row-at .ensures)
+
+  sc-node : (c : Sc t f.After-parts-start)
+      → sc-Of c (λ w at ls scope. AtNode w at (c .before .row-at .result) (c .parts-start .result))
+  sc-node c = node-at (sc-begins (c .before)) (sc-read (c .before)) (c .parts-start .ensures)
+
+  sc-entering : (c : Sc t f.After-scope-within) → let p = sc-parts c in
+      sc-Of p (Entering (p .before .row-at .result) (p .parts-start .result) (c .scope-within .last .1 .1 .0) (c .scope-within .result))
+  sc-entering c =
       record {
-        node = sc-node (c .before .before .before .before .before .before);
+        node = sc-node (sc-parts c);
         many = c .before .before .before .before .if2 .left;
         plain = c .before .before .if3 .left;
         enters = c .scope-within .ensures;
       }
 
-  sc-one : (c : f.After-known-told (in-formed t) (formed-at t) well-formed.Post) → sc-Of (sc-asked c)
-      (One sc (sc-row (sc-enters c) .row-at .result) (sc-enters c .before .before .before .before .before .before .parts-start .result)
-      (c .before .before .before .before .before .well-formed .last .1 .1 .1 .1 .0) tt (c .before .one .given .0 .0))
-  sc-one c = one-of (sc-opened (sc-enters c)) (c .before .before .before .before .before .well-formed .ensures) (ap formed (c .before .one .given .1))
+  sc-one : (c : Sc t f.After-known-told) → let p = sc-found c in
+      sc-Of p (One sc (p .before .row-at .result) (p .parts-start .result) (sc-first c .well-formed .last .1 .1 .1 .1 .0) tt
+      (c .before .one .given .0 .0))
+  sc-one c = one-of (sc-entering (sc-enters (sc-first c))) (sc-first c .well-formed .ensures) (ap formed (c .before .one .given .1))
 
-  sc-two : (c : f.After-known-told2 (in-formed t) (formed-at t) well-formed.Post) → sc-Of (sc-asked (sc-whole c))
-      (Two sc (sc-row (sc-enters (sc-whole c)) .row-at .result) (sc-enters
-      (sc-whole c) .before .before .before .before .before .before .parts-start .result)
-      (c .before .before .before .before .before .well-formed2 .last .1 .1 .1 .1 .0) tt tt (c .before .two .given .0 .0))
-  sc-two c = two-of (sc-one (sc-whole c)) (c .before .before .before .before .before .well-formed2 .ensures) (ap formed (c .before .two .given .1))
+  sc-two : (c : Sc t f.After-known-told2) → let p = sc-found-2 c in
+      sc-Of p (Two sc (p .before .row-at .result) (p .parts-start .result) (sc-second c .well-formed2 .last .1 .1 .1 .1 .0) tt tt
+      (c .before .two .given .0 .0))
+  sc-two c =
+      two-of (sc-one (sc-whole (sc-more (sc-second c)))) (sc-second c .well-formed2 .ensures) (ap formed (c .before .two .given .1))
 
-sc-returns : (t : ℕ) → f.Need-returns (in-formed t) (formed-at t) well-formed.Post
-sc-returns t c = run-out sc _ _ _ _ (sym (ap length (c .before .before .before .before .pre .1 .here)) ∙ c .if1 .taken)
+  sc-returns : Sc t f.Need-returns
+  sc-returns c = no-words sc _ _ _ _ (sym (ap length (c .before .before .before .before .pre .1 .here)) ∙ c .if1 .taken)
 
-sc-parts-start-requires : (t : ℕ) → f.Need-parts-start-requires (in-formed t) (formed-at t) well-formed.Post
-sc-parts-start-requires t c κs = (sc-start c .pre .1 .tabled, sc-read c)
+  sc-parts-start-requires : Sc t f.Need-parts-start-requires
+  sc-parts-start-requires c κs = record { tabled = sc-begins c .tabled; read = sc-read c }
 
-sc-scheme-leaf-requires : (t : ℕ) → f.Need-scheme-leaf-requires (in-formed t) (formed-at t) well-formed.Post
-sc-scheme-leaf-requires t c κs =
-    let k = c .before .before .before in
-    let b = sc-start (k .before) .pre .1 in (b .tabled, b .linked, leaf-of (sc-node k) (c .before .if2 .taken))
+  sc-scheme-leaf-requires : Sc t f.Need-scheme-leaf-requires
+  sc-scheme-leaf-requires c κs =
+      let p = c .before .before .before in leaf-of (sc-begins (p .before)) (sc-node p) (c .before .if2 .taken)
 
-sc-infer-requires : (t : ℕ) → f.Need-infer-requires (in-formed t) (formed-at t) well-formed.Post
-sc-infer-requires t c κs =
-    let k = c .before .before .before .before .before .before in
-    let s = sc-start (k .before) in
-    hands-on (s .pre .1) (begun (sc-node k) _) (s .pre .0)
+  sc-infer-requires : Sc t f.Need-infer-requires
+  sc-infer-requires c κs =
+      let p = c .before .before .before .before .before .before in hands-on (sc-start (p .before) .pre) (begun (sc-node p) _)
 
-sc-returns-3 : (t : ℕ) → f.Need-returns-3 (in-formed t) (formed-at t) well-formed.Post
-sc-returns-3 t c =
-    a-boundary (sc-node (c .before .before .before .before .before .before .before .before .before .before .before))
-    (c .before .before .before .before .infer .ensures) (c .before .before .before .before .before .before .before .if3 .taken) (c .at-sm .ensures)
+  sc-at-sm-requires : Sc t f.Need-at-sm-requires
+  sc-at-sm-requires c κs =
+      let crossing = c .before .before .before in
+      let then = crossing .before .before .before in
+      let row = then .before .before .before .before .before in
+      let B = sc-begins row in
+      record { links = record { tabled = B .tabled; linked = crossing .infer .ensures .same ∙ B .linked }; within = sc-read row .within }
 
-sc-well-formed-requires : (t : ℕ) → f.Need-well-formed-requires (in-formed t) (formed-at t) well-formed.Post
-sc-well-formed-requires t c κs =
-    let k = c .before .before .before .before in
-    let s = sc-start (sc-row k) in
-    hands-on (s .pre .1) (reached (sc-opened k)) (s .pre .0)
+  sc-returns-3 : Sc t f.Need-returns-3
+  sc-returns-3 c =
+      let crossing = c .before .before .before .before in
+      let then = crossing .before .before .before in
+      a-boundary (sc-node (then .before .before .before .before)) (crossing .infer .ensures) (then .if3 .taken) (c .at-sm .ensures)
 
-sc-returns-4 : (t : ℕ) → f.Need-returns-4 (in-formed t) (formed-at t) well-formed.Post
-sc-returns-4 t c =
-    one-bad (sc-opened (c .before .before .before .before .before .before .before .before .before))
-    (c .before .before .before .before .well-formed .ensures) (ap formed (c .enum-told .given .1))
+  sc-well-formed-requires : Sc t f.Need-well-formed-requires
+  sc-well-formed-requires c κs =
+      let k = c .before .before .before .before in hands-on (sc-start (sc-parts k .before) .pre) (reached (sc-entering k))
 
-sc-returns-5 : (t : ℕ) → f.Need-returns-5 (in-formed t) (formed-at t) well-formed.Post
-sc-returns-5 t c =
-    let A = sc-one (c .before .before) in
-    let O = A .opened in a-scheme-part A (scheme-one (O .node .read) (O .many) (O .plain) (c .if4 .taken))
+  sc-returns-4 : Sc t f.Need-returns-4
+  sc-returns-4 c =
+      let first = c .before .before .before .before in
+      one-bad (sc-entering (sc-enters first)) (first .well-formed .ensures) (ap formed (c .enum-told .given .1))
 
-sc-well-formed-requires-2 : (t : ℕ) → f.Need-well-formed-requires-2 (in-formed t) (formed-at t) well-formed.Post
-sc-well-formed-requires-2 t c κs =
-    let k = c .before .before .before .before in
-    let s = sc-asked k in
-    hands-on (s .pre .1) (reached-1 (sc-one k)) (s .pre .0)
+  sc-returns-5 : Sc t f.Need-returns-5
+  sc-returns-5 c =
+      let A = sc-one (c .before .before) in
+      let O = A .entering in a-scheme-part A (scheme-one (O .node .read) (O .many) (O .plain) (c .if4 .taken))
 
-sc-returns-6 : (t : ℕ) → f.Need-returns-6 (in-formed t) (formed-at t) well-formed.Post
-sc-returns-6 t c =
-    let k = c .before .before .before .before in
-    let h = k .before .before .before in
-    let A = sc-one (h .before .before) in
-    let O = A .opened in
-    two-bad A (k .well-formed2 .ensures) (ap formed (c .enum-told2 .given .1))
-    (scheme-several (O .node .read) (O .many) (O .plain) (h .if4 .left))
+  sc-mul-well-formed-2 : Sc t f.Need-mul-well-formed-2
+  sc-mul-well-formed-2 c =
+      let k = sc-whole c in record { fits = omega (arith, reached-1 (sc-one k) .within, sc-begins (sc-found k .before) .few) }
 
-sc-returns-7 : (t : ℕ) → f.Need-returns-7 (in-formed t) (formed-at t) well-formed.Post
-sc-returns-7 t c =
-    let k = c .before .before in
-    let O = sc-opened (sc-enters (sc-whole k)) in
-    an-operator-2 (sc-two k) scheme2 (scheme-two (O .node .read) (O .many) (O .plain)
-    (k .before .before .before .before .before .before .before .before .if4 .left) (c .if5 .taken))
+  sc-well-formed-requires-2 : Sc t f.Need-well-formed-requires-2
+  sc-well-formed-requires-2 c κs =
+      let k = sc-whole (c .before .before) in hands-on (sc-start (sc-found k .before) .pre) (reached-1 (sc-one k))
 
-sc-mul-well-formed-3 : (t : ℕ) → f.Need-mul-well-formed-3 (in-formed t) (formed-at t) well-formed.Post
-sc-mul-well-formed-3 t c =
-    let k = c .before .before in
-    record { fits = omega (arith, reached-2 (sc-two k) .within, sc-asked (sc-whole k) .pre .1 .few) }
+  sc-returns-6 : Sc t f.Need-returns-6
+  sc-returns-6 c =
+      let second = c .before .before .before .before in
+      let h = sc-more second in
+      let A = sc-one (sc-whole h) in
+      let O = A .entering in
+      two-bad A (second .well-formed2 .ensures) (ap formed (c .enum-told2 .given .1))
+      (scheme-several (O .node .read) (O .many) (O .plain) (h .if4 .left))
 
-sc-well-formed-requires-3 : (t : ℕ) → f.Need-well-formed-requires-3 (in-formed t) (formed-at t) well-formed.Post
-sc-well-formed-requires-3 t c κs =
-    let k = c .before .before .before .before in
-    let s = sc-asked (sc-whole k) in
-    hands-on (s .pre .1) (reached-2 (sc-two k)) (s .pre .0)
+  sc-returns-7 : Sc t f.Need-returns-7
+  sc-returns-7 c =
+      let k = c .before .before in
+      let h = sc-more (sc-second k) in
+      let O = sc-one (sc-whole h) .entering in
+      an-operator-2 (sc-two k) scheme2 (scheme-two (O .node .read) (O .many) (O .plain) (h .if4 .left) (c .if5 .taken))
 
-sc-same-length-7 : (t : ℕ) → f.Need-same-length-7 (in-formed t) (formed-at t) well-formed.Post
-sc-same-length-7 t c =
-    let k = c .before .before in
-    k .well-formed3 .ensures .same ∙ reached-2 (sc-two (k .before .before .before .before .before)) .same
+  sc-mul-well-formed-3 : Sc t f.Need-mul-well-formed-3
+  sc-mul-well-formed-3 c =
+      let k = c .before .before in record { fits = omega (arith, reached-2 (sc-two k) .within, sc-begins (sc-found-2 k .before) .few) }
 
-sc-returns-8 : (t : ℕ) → f.Need-returns-8 (in-formed t) (formed-at t) well-formed.Post
-sc-returns-8 t c =
-    let k = c .before .before in
-    let q = k .before .before .before .before .before in
-    let O = sc-opened (sc-enters (sc-whole q)) in
-    scheme-choice (sc-two q) (k .well-formed3 .ensures)
-    (scheme-three (O .node .read) (O .many) (O .plain) (q .before .before .before .before .before .before .before .before .if4 .left)
-    (k .before .before .before .if5 .left))
+  sc-well-formed-requires-3 : Sc t f.Need-well-formed-requires-3
+  sc-well-formed-requires-3 c κs =
+      let k = c .before .before .before .before in hands-on (sc-start (sc-found-2 k .before) .pre) (reached-2 (sc-two k))
+
+  sc-same-length-7 : Sc t f.Need-same-length-7
+  sc-same-length-7 c =
+      let third = c .before .before in third .well-formed3 .ensures .same ∙ reached-2 (sc-two (sc-whole-2 third)) .same
+
+  sc-returns-8 : Sc t f.Need-returns-8
+  sc-returns-8 c =
+      let third = c .before .before in
+      let k = sc-whole-2 third in
+      let h = sc-more (sc-second k) in
+      let O = sc-one (sc-whole h) .entering in
+      scheme-choice (sc-two k) (third .well-formed3 .ensures)
+      (scheme-three (O .node .read) (O .many) (O .plain) (h .if4 .left) (third .before .before .before .if5 .left))
 
 pub +infer+well-formed-spec : {M : Type 1} → statement M
 +infer+well-formed-spec =
-    close μ-infer μ-formed
+    close μ-infer μ-well-formed
     (λ t. i.spec (in-infer t) (infer-at t) infer.Post
-    (ml-returns t) (λ c. search needs) (λ c κs. search needs) (ml-parts-start-requires t) (ml-leaf-requires t) (λ c. search needs)
-    (λ c. search needs) (λ c. search needs) (λ c. search needs) (λ c. search needs) (λ c. search needs) (ml-well-formed-requires t)
-    (λ c κs. search needs) (λ c. search needs) (ml-returns-3 t) (λ c κs. search needs) (λ c. search needs) (λ c. search needs)
-    (λ c. search needs) (λ c. search needs) (ml-infer-requires t) (λ c. search needs) (λ c. search needs) (λ c. search needs)
-    (ml-returns-4 t) (ml-function-requires t) (λ c. search needs) (ml-returns-5 t) (ml-result-1-requires t) (λ c κs. search needs)
-    (λ c. search needs) (ml-returns-6 t) (ml-mul-infer-2 t) (λ c. reached-1 (ml-one (c .before .before .before .before)) .within)
-    (λ c. reached-1 (ml-one (c .before .before .before .before)) .within) (λ c. search needs) (ml-infer-requires-2 t) (λ c. search needs)
-    (λ c. search needs) (λ c. search needs) (ml-returns-7 t) (ml-result-2-requires t) (λ c κs. search needs)
-    (λ c. reached-2 (ml-two (c .before .before .before .before .before)) .same) (ml-returns-8 t) (ml-mul-infer-3 t)
+    ml-returns (λ c. search needs) (λ c κs. search needs) ml-parts-start-requires ml-leaf-requires (λ c. search needs)
+    (λ c. search needs) (λ c. search needs) (λ c. search needs) (λ c. search needs) (λ c. search needs) ml-well-formed-requires
+    (λ c κs. search needs) (λ c. search needs) ml-returns-3 (λ c κs. search needs) (λ c. search needs) (λ c. search needs)
+    (λ c. search needs) (λ c. search needs) ml-infer-requires (λ c. search needs) (λ c. search needs) (λ c. search needs)
+    ml-returns-4 ml-function-requires (λ c. search needs) ml-returns-5 ml-result-1-requires (λ c κs. search needs)
+    (λ c. search needs) ml-returns-6 ml-mul-infer-2 (λ c. reached-1 (ml-one (ml-whole c)) .within)
+    (λ c. reached-1 (ml-one (ml-whole c)) .within) (λ c. search needs) ml-infer-requires-2 (λ c. search needs)
+    (λ c. search needs) (λ c. search needs) ml-returns-7 ml-result-2-requires (λ c κs. search needs)
+    (λ c. reached-2 (ml-two (c .before .before .before .before .before)) .same) ml-returns-8 ml-mul-infer-3
     (λ c. reached-2 (ml-two (c .before .before)) .within) (λ c. reached-2 (ml-two (c .before .before)) .within) (λ c. search needs)
-    (ml-infer-requires-3 t) (λ c. search needs) (λ c. search needs) (ml-same-length-8 t) (ml-returns-9 t) (ml-result-3-requires t)
-    (λ c κs. search needs) (ml-same-length-9 t) (ml-returns-10 t))
-    (λ t. f.spec (in-formed t) (formed-at t) well-formed.Post
-    (sc-returns t) (λ c. search needs) (λ c κs. search needs) (sc-parts-start-requires t) (sc-scheme-leaf-requires t) (λ c. search needs)
-    (λ c. search needs) (λ c. search needs) (λ c. search needs) (λ c. search needs) (λ c. search needs) (sc-infer-requires t)
-    (λ c κs. search needs) (λ c. search needs) (sc-returns-3 t) (λ c κs. search needs) (λ c. search needs) (λ c. search needs)
-    (λ c. search needs) (λ c. search needs) (sc-well-formed-requires t) (λ c. search needs) (λ c. search needs) (λ c. search needs)
-    (sc-returns-4 t) (λ c. search needs) (sc-returns-5 t)
-    (λ c. let k = c .before .before in record { fits = omega (arith, reached-1 (sc-one k) .within, sc-asked k .pre .1 .few) })
-    (λ c. reached-1 (sc-one (c .before .before)) .within) (λ c. reached-1 (sc-one (c .before .before)) .within) (λ c. search needs)
-    (sc-well-formed-requires-2 t) (λ c. search needs) (λ c. search needs) (λ c. search needs) (sc-returns-6 t) (λ c. search needs)
-    (sc-returns-7 t) (sc-mul-well-formed-3 t) (λ c. reached-2 (sc-two (c .before .before)) .within)
-    (λ c. reached-2 (sc-two (c .before .before)) .within) (λ c. search needs) (sc-well-formed-requires-3 t) (sc-same-length-7 t)
-    (sc-returns-8 t))
+    ml-infer-requires-3 (λ c. search needs) (λ c. search needs) ml-same-length-8 ml-returns-9 ml-result-3-requires
+    (λ c κs. search needs) (λ c. ml-reached-3 (c .before .before) .same) ml-returns-10)
+    (λ t. f.spec (in-well-formed t) (well-formed-at t) well-formed.Post
+    sc-returns (λ c. search needs) (λ c κs. search needs) sc-parts-start-requires sc-scheme-leaf-requires (λ c. search needs)
+    (λ c. search needs) (λ c. search needs) (λ c. search needs) (λ c. search needs) (λ c. search needs) sc-infer-requires
+    sc-at-sm-requires (λ c. search needs) sc-returns-3 (λ c κs. search needs) (λ c. search needs) (λ c. search needs)
+    (λ c. search needs) (λ c. search needs) sc-well-formed-requires (λ c. search needs) (λ c. search needs) (λ c. search needs)
+    sc-returns-4 (λ c. search needs) sc-returns-5 sc-mul-well-formed-2
+    (λ c. reached-1 (sc-one (sc-whole c)) .within) (λ c. reached-1 (sc-one (sc-whole c)) .within) (λ c. search needs)
+    sc-well-formed-requires-2 (λ c. search needs) (λ c. search needs) (λ c. search needs) sc-returns-6 (λ c. search needs)
+    sc-returns-7 sc-mul-well-formed-3 (λ c. reached-2 (sc-two (c .before .before)) .within)
+    (λ c. reached-2 (sc-two (c .before .before)) .within) (λ c. search needs) sc-well-formed-requires-3 sc-same-length-7
+    sc-returns-8)

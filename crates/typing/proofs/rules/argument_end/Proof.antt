@@ -6,9 +6,6 @@ use Rattle.typing.proofs.Formers.{no-function, function}
 use Rattle.typing.proofs.rules.argument_end.Statement.{statement}
 use Rattle.typing.proofs.rules.argument_end.Tie as tie
 
-former-at-requires : tie.Need-former-at-requires
-former-at-requires c κs = search needs
-
 returns : tie.Need-returns
 returns c =
     let at-former-at = c .before in
@@ -34,4 +31,4 @@ returns-2 c =
 
 pub argument-end-spec : {M : Type 1} → statement M
 argument-end-spec =
-    tie.close (tie.spec former-at-requires returns add-type-end type-end-requires returns-2)
+    tie.close (tie.spec (λ c κs. search needs) returns add-type-end type-end-requires returns-2)

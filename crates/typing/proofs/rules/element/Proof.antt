@@ -6,9 +6,6 @@ use Rattle.typing.proofs.Formers.{no-element, an-element}
 use Rattle.typing.proofs.rules.element.Statement.{statement}
 use Rattle.typing.proofs.rules.element.Tie as tie
 
-former-at-requires : tie.Need-former-at-requires
-former-at-requires c κs = search needs
-
 returns : tie.Need-returns
 returns c =
     let at-former-at = c .before in
@@ -26,4 +23,4 @@ returns-2 c =
     an-element _ _ _ (at-former-at .former-at .ensures) (c .if1 .left)
 
 pub element-spec : {M : Type 1} → statement M
-element-spec = tie.close (tie.spec former-at-requires returns add-result returns-2)
+element-spec = tie.close (tie.spec (λ c κs. search needs) returns add-result returns-2)

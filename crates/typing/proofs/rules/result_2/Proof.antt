@@ -1,27 +1,18 @@
 -- `typing::rules::result_2` meets its contract: each way out is one law of Results. Assumes nothing.
 use borrow.Author.Needs.{needs}
-use Rattle.typing.proofs.Results.{two-apply, two-consed, two-first, two-second, two-numbers}
+use Rattle.typing.proofs.Results.{two-apply, two-cons, two-first, two-second, two-numbers}
 use Rattle.typing.proofs.rules.result_2.Statement.{statement}
 use Rattle.typing.proofs.rules.result_2.Tie as tie
-
-applied-requires : tie.Need-applied-requires
-applied-requires c κs = search needs
 
 returns : tie.Need-returns
 returns c =
     let at-then1 = c .before in
-    two-apply _ _ _ _ _ (at-then1 .if1 .taken) _ (c .applied .ensures)
-
-paired-requires : tie.Need-paired-requires
-paired-requires c κs = search needs
+    two-apply _ _ _ _ _ (at-then1 .if1 .taken) _ (c .application-type .ensures)
 
 returns-2 : tie.Need-returns-2
 returns-2 c =
     let at-then2 = c .before in
-    two-consed _ _ _ _ _ (at-then2 .if2 .taken) _ (c .paired .ensures)
-
-former-at-requires : tie.Need-former-at-requires
-former-at-requires c κs = search needs
+    two-cons _ _ _ _ _ (at-then2 .if2 .taken) _ (c .cons-type .ensures)
 
 returns-3 : tie.Need-returns-3
 returns-3 c =
@@ -29,9 +20,6 @@ returns-3 c =
     let at-else2 = at-former-at .before in
     let at-else1 = at-else2 .before in
     two-first _ _ _ _ _ (at-else1 .if1 .left) (at-else2 .if2 .left) _ (at-former-at .former-at .ensures) (c .if3 .taken)
-
-former-at-requires-2 : tie.Need-former-at-requires-2
-former-at-requires-2 c κs = search needs
 
 returns-4 : tie.Need-returns-4
 returns-4 c =
@@ -55,14 +43,5 @@ returns-5 c =
 
 pub result-2-spec : {M : Type 1} → statement M
 result-2-spec =
-    tie.close
-    (tie.spec
-    applied-requires
-    returns
-    paired-requires
-    returns-2
-    former-at-requires
-    returns-3
-    former-at-requires-2
-    returns-4
-    returns-5)
+    tie.close (tie.spec (λ c κs. search needs) returns (λ c κs. search needs) returns-2 (λ c κs. search needs) returns-3 (λ c κs. search needs)
+    returns-4 returns-5)

@@ -4,16 +4,10 @@ use Rattle.typing.proofs.Results.{three-test, three-same, three-differ}
 use Rattle.typing.proofs.rules.result_3.Statement.{statement}
 use Rattle.typing.proofs.rules.result_3.Tie as tie
 
-former-at-requires : tie.Need-former-at-requires
-former-at-requires c κs = search needs
-
 returns : tie.Need-returns
 returns c =
     let at-former-at = c .before in
     three-test _ _ _ _ _ _ (at-former-at .former-at .ensures) (c .if1 .taken)
-
-same-requires : tie.Need-same-requires
-same-requires c κs = search needs
 
 returns-2 : tie.Need-returns-2
 returns-2 c =
@@ -30,4 +24,4 @@ returns-3 c =
     three-differ _ _ _ _ _ _ (at-former-at .former-at .ensures) (at-else1 .if1 .left) _ (at-same .same .ensures) (c .if2 .left)
 
 pub result-3-spec : {M : Type 1} → statement M
-result-3-spec = tie.close (tie.spec former-at-requires returns same-requires returns-2 returns-3)
+result-3-spec = tie.close (tie.spec (λ c κs. search needs) returns (λ c κs. search needs) returns-2 returns-3)

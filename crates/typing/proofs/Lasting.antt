@@ -11,13 +11,13 @@ use Rattle.calculus.specs.Typing.{of, Lambdas}
 use Rattle.calculus.specs.Inference.{infer}
 use Rattle.calculus.specs.Faults.{fault}
 use Rattle.types.proofs.Frames.{means-widen, means-frame}
+use Rattle.typing.specs.Links.{KeptBefore, LinkTo}
 use Rattle.typing.specs.Answers.{Reference, Answer, whole, bad, Refers, WrittenStatic, Passes, Advances, Answers}
 use Rattle.typing.specs.Variables.{Binds, Scope}
-use Rattle.typing.specs.Parts.{Kept, Linked}
 use Rattle.typing.specs.Infers.{Told}
 use Rattle.typing.proofs.Leading.{lead-written}
 
-pub scope-later : (w ls ls′ : List ℕ) (hi hi′ p : ℕ) (Γ : Lambdas) → hi ≤ hi′ → Kept hi ls ls′ → Scope w ls hi p Γ → Scope w ls′ hi′ p Γ
+pub scope-later : (w ls ls′ : List ℕ) (hi hi′ p : ℕ) (Γ : Lambdas) → hi ≤ hi′ → KeptBefore hi ls ls′ → Scope w ls hi p Γ → Scope w ls′ hi′ p Γ
 unfolding Scope
 scope-later w ls ls′ hi hi′ p [] h k s = s
 scope-later w ls ls′ hi hi′ p (x ∷ Γ) h k s = (
@@ -35,7 +35,7 @@ scope-below w ls hi p (x ∷ Γ) h s = s .1
 
 -- Inside the lambda at a place.
 pub scope-inside : (w ls ls′ : List ℕ) (at scope hi : ℕ) (l : Lang) (t : Static l) (Γ : Lambdas) → 0 < at → at < hi → at < 65536
-    → Kept at ls ls′ → Linked scope (getD ls′ at 0) → Binds w at (of l t) → Scope w ls at scope Γ → Scope w ls′ hi at (of l t ∷ Γ)
+    → KeptBefore at ls ls′ → LinkTo scope (getD ls′ at 0) → Binds w at (of l t) → Scope w ls at scope Γ → Scope w ls′ hi at (of l t ∷ Γ)
 unfolding Scope
 scope-inside w ls ls′ at scope hi l t Γ a b c k own bind s = (
   a,
@@ -49,7 +49,7 @@ pub binds-static : (l : Lang) (t : Static l) (b : Term l) (w k : List ℕ) (at :
 binds-static ml t b w k at d = lead-written ml (lam t b) w k at t d refl
 binds-static sc t b w k at d = tt
 
-pub refers-later : (l : Lang) (w ls ls′ : List ℕ) (lo hi lo′ hi′ : ℕ) (p : Reference l) (t : Static l) → lo′ ≤ lo → hi ≤ hi′ → Kept hi ls ls′
+pub refers-later : (l : Lang) (w ls ls′ : List ℕ) (lo hi lo′ hi′ : ℕ) (p : Reference l) (t : Static l) → lo′ ≤ lo → hi ≤ hi′ → KeptBefore hi ls ls′
     → Refers l w ls lo hi p t → Refers l w ls′ lo′ hi′ p t
 refers-later ml w ls ls′ lo hi lo′ hi′ p t a b k m = means-widen w ls′ lo hi lo′ hi′ p t a b (means-frame w ls ls′ lo hi p t (λ i x y. k i y) m)
 refers-later sc w ls ls′ lo hi lo′ hi′ p t a b k m = tt

@@ -1,12 +1,9 @@
--- `typing::rules::applied` meets its contract: each way out is one law of Operations. Assumes nothing.
+-- `typing::rules::application_type` meets its contract: each way out is one law of Operations. Assumes nothing.
 use borrow.Author.Needs.{needs}
 use native.Mathlib.Omega.{arith}
 use Rattle.typing.proofs.Operations.{apply-other, apply-same, apply-differ}
-use Rattle.typing.proofs.rules.applied.Statement.{statement}
-use Rattle.typing.proofs.rules.applied.Tie as tie
-
-argument-end-requires : tie.Need-argument-end-requires
-argument-end-requires c κs = search needs
+use Rattle.typing.proofs.rules.application_type.Statement.{statement}
+use Rattle.typing.proofs.rules.application_type.Tie as tie
 
 returns : tie.Need-returns
 returns c =
@@ -18,12 +15,6 @@ add-argument c =
     let at-argument-end = c .before in
     let start = at-argument-end .before .before .before in
     record { fits = omega (arith, start .good .1 .0 .1, at-argument-end .argument-end .ensures .there (c .if1 .left)) }
-
-same-requires : tie.Need-same-requires
-same-requires c κs = search needs
-
-codomain-requires : tie.Need-codomain-requires
-codomain-requires c κs = search needs
 
 returns-2 : tie.Need-returns-2
 returns-2 c =
@@ -41,14 +32,6 @@ returns-3 c =
     let at-argument-end = at-else1 .before in
     apply-differ _ _ _ _ (at-argument-end .argument-end .ensures) (at-else1 .if1 .left) _ _ (at-same .same .ensures) (c .if2 .left)
 
-pub applied-spec : {M : Type 1} → statement M
-applied-spec =
-    tie.close
-    (tie.spec
-    argument-end-requires
-    returns
-    add-argument
-    same-requires
-    codomain-requires
-    returns-2
-    returns-3)
+pub application-type-spec : {M : Type 1} → statement M
+application-type-spec =
+    tie.close (tie.spec (λ c κs. search needs) returns add-argument (λ c κs. search needs) (λ c κs. search needs) returns-2 returns-3)
