@@ -15,9 +15,9 @@ use Rattle.types.specs.Comparisons.{Equality}
 use Rattle.types.proofs.Pairs.{same-sym}
 use Rattle.types.proofs.Meanings.{written-means, means-in}
 use Rattle.typing.specs.Answers.{Answer, whole, bad, Answers, Passes, Advances, conclusion, other, boundaryType, Crossed}
-use Rattle.typing.specs.Operators.{Finds, elementOf, Rule1, Rule2, Result1, Result2, Result3}
+use Rattle.typing.specs.Operators.{Finds, elementOf, IfSame, Rule1, Rule2, Result1, Result2, Result3}
 use Rattle.typing.proofs.Formers.{is-list, no-list, is-number, no-number}
-use Rattle.typing.proofs.Operations.{element-means}
+use Rattle.typing.proofs.Operations.{element-means, finds-if}
 
 -- The operators of one part.
 module _ (w ls : List ℕ) (x at t : ℕ) where
@@ -109,14 +109,9 @@ module _ (w ls : List ℕ) (t u v f : ℕ) (ef : f ≡ formerAt w t) where
   unfolding Finds
   three-test n a b c lo hi few ma mb mc = rw (no-number w t f ef ls lo hi n a ma) refl
 
-  module _ (one : f ≡ 10) (s : Bool) (same : Equality w ls u v s) where
-    pub three-same : s ≡ true → Result3 w ls t u v u
-    unfolding Finds
-    three-same y a b c lo hi few ma mb mc = rw (is-number w t f ef ls lo hi one a ma, sym (same b c lo hi lo hi few mb mc) ∙ y) mb
-
-    pub three-differ : s ≡ false → Result3 w ls t u v 0
-    unfolding Finds
-    three-differ y a b c lo hi few ma mb mc = rw (is-number w t f ef ls lo hi one a ma, sym (same b c lo hi lo hi few mb mc) ∙ y) refl
+  pub three-rule : f ≡ 10 → (r : ℕ) → IfSame w ls u v u r → Result3 w ls t u v r
+  three-rule one r same a b c lo hi few ma mb mc =
+      rw (is-number w t f ef ls lo hi one a ma) (finds-if w ls lo hi u r b (sameType ml b c) (same b c lo hi lo hi few mb mc) (λ y. mb))
 
 -- A boundary whose term is bad.
 pub crossed-bad : (l : Lang) (w ls : List ℕ) (at f : ℕ) → Crossed l w ls at (bad f) (bad f)

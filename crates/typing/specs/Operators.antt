@@ -8,7 +8,7 @@ use lib.Dec.{eqb}
 use lib.ListN.{length}
 use Rattle.calculus.specs.Trees.{Ty, N, L, list, _to_, ml, Op1, Op2}
 use Rattle.calculus.specs.Words.{word1, word2, sizeTy}
-use Rattle.calculus.specs.Inference.{result1, result2, result3}
+use Rattle.calculus.specs.Inference.{sameType, result1, result2, result3}
 use Rattle.types.specs.References.{shapeAt, formerAt, Means}
 
 -- A reference to the type, or 0 where there is none.
@@ -30,6 +30,11 @@ pub record ArgumentEnd (w : List ℕ) (t r : ℕ) : Type 0 where
 -- The element type of the list type at t; 0 for any other type.
 abbrev pub elementOf : List ℕ → ℕ → ℕ
 elementOf w t = cond (eqb (formerAt w t) 12) (t + 1) 0
+
+-- r, where p and q mean one type; else 0.
+abbrev pub IfSame : List ℕ → List ℕ → ℕ → ℕ → ℕ → ℕ → Type 0
+IfSame w ls p q r out =
+    (t u : Ty) (lo hi lo′ hi′ : ℕ) → hi ≤ length w → Means w ls lo hi p t → Means w ls lo′ hi′ q u → out ≡ cond (sameType ml t u) r 0
 
 -- The rule of an operator of one part, and of two, on references.
 abbrev pub Rule1 : Op1 ml → List ℕ → List ℕ → ℕ → ℕ → Type 0

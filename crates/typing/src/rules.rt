@@ -13,7 +13,7 @@ ghost use Rattle.nodes.specs.Table.{kinds};
 ghost use Rattle.calculus.specs.Trees.{ml, sc, FIX, APP, CONS};
 ghost use Rattle.typing.specs.Links.{Linked, LinkedAt};
 ghost use Rattle.typing.specs.Answers.{inferred, formed, conclusion, Crossed};
-ghost use Rattle.typing.specs.Operators.{ArgumentEnd, elementOf, Rule1, Rule2, Result1, Result2, Result3};
+ghost use Rattle.typing.specs.Operators.{ArgumentEnd, elementOf, IfSame, Rule1, Rule2, Result1, Result2, Result3};
 ghost use Rattle.typing.specs.Variables.{LambdaOf, Variable};
 
 // The type of an ML term, as a reference, and the place past the term; or the place of its fault.
@@ -127,6 +127,17 @@ fn element(table: &Kinds, all: &[u32], t: usize) -> usize
     t + 1
 }
 
+// r, where p and q mean one type; else 0.
+fn if_same(table: &Kinds, all: &[u32], link: &[u16], p: usize, q: usize, r: usize) -> usize
+    requires { ⌜ Linked (now table) (now all) (now link) ⌝ }
+    ensures { λ out. ⌜ IfSame (now (all .entry)) (now (link .entry)) p q r out ⌝ }
+{
+    if same(table, all, link, p, q) {
+        return r;
+    }
+    0
+}
+
 // fix of a t.
 fn fix_type(table: &Kinds, all: &[u32], link: &[u16], t: usize) -> usize
     requires { ⌜ Linked (now table) (now all) (now link) ⌝ }
@@ -138,10 +149,7 @@ fn fix_type(table: &Kinds, all: &[u32], link: &[u16], t: usize) -> usize
     }
     let argument = t + 1;
     let result = codomain(table, all, link, t, end);
-    if same(table, all, link, argument, result) {
-        return argument;
-    }
-    0
+    if_same(table, all, link, argument, result, argument)
 }
 
 // A t applied to a u.
@@ -154,10 +162,8 @@ fn application_type(table: &Kinds, all: &[u32], link: &[u16], t: usize, u: usize
         return 0;
     }
     let argument = t + 1;
-    if same(table, all, link, argument, u) {
-        return codomain(table, all, link, t, end);
-    }
-    0
+    let result = codomain(table, all, link, t, end);
+    if_same(table, all, link, argument, u, result)
 }
 
 // cons of a t and a u.
@@ -169,10 +175,7 @@ fn cons_type(table: &Kinds, all: &[u32], link: &[u16], t: usize, u: usize) -> us
     if e == 0 {
         return 0;
     }
-    if same(table, all, link, e, t) {
-        return u;
-    }
-    0
+    if_same(table, all, link, e, t, u)
 }
 
 // The operator of one part at `at`, whose word is w, of a t.
@@ -224,10 +227,7 @@ pub fn result_3(table: &Kinds, all: &[u32], link: &[u16], t: usize, u: usize, v:
     if former_at(table, all, t) != nodes::kinds::NUMBERS {
         return 0;
     }
-    if same(table, all, link, u, v) {
-        return u;
-    }
-    0
+    if_same(table, all, link, u, v, u)
 }
 
 // ms, which stands at `at` with its type behind it, of a Scheme term.

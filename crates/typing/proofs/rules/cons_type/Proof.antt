@@ -1,6 +1,6 @@
 -- `typing::rules::cons_type` meets its contract: each way out is one law of Operations. Assumes nothing.
 use borrow.Author.Needs.{needs}
-use Rattle.typing.proofs.Operations.{cons-other, cons-same, cons-differ}
+use Rattle.typing.proofs.Operations.{cons-other, cons-rule}
 use Rattle.typing.proofs.rules.cons_type.Statement.{statement}
 use Rattle.typing.proofs.rules.cons_type.Tie as tie
 
@@ -11,17 +11,8 @@ returns c =
 
 returns-2 : tie.Need-returns-2
 returns-2 c =
-    let at-same = c .before in
-    let at-else1 = at-same .before in
-    let at-element = at-else1 .before in
-    cons-same _ _ _ _ _ (at-element .element .ensures) (at-else1 .if1 .left) _ (at-same .same .ensures) (c .if2 .taken)
-
-returns-3 : tie.Need-returns-3
-returns-3 c =
-    let at-same = c .before in
-    let at-else1 = at-same .before in
-    let at-element = at-else1 .before in
-    cons-differ _ _ _ _ _ (at-element .element .ensures) (at-else1 .if1 .left) _ (at-same .same .ensures) (c .if2 .left)
+    let at-else1 = c .before in
+    cons-rule _ _ _ _ _ (at-else1 .before .element .ensures) (at-else1 .if1 .left) _ (c .if-same .ensures)
 
 pub cons-type-spec : {M : Type 1} → statement M
-cons-type-spec = tie.close (tie.spec (λ c κs. search needs) returns (λ c κs. search needs) returns-2 returns-3)
+cons-type-spec = tie.close (tie.spec (λ c κs. search needs) returns (λ c κs. search needs) returns-2)

@@ -1,7 +1,7 @@
 -- `typing::rules::fix_type` meets its contract: each way out is one law of Operations. Assumes nothing.
 use borrow.Author.Needs.{needs}
 use native.Mathlib.Omega.{arith}
-use Rattle.typing.proofs.Operations.{fix-other, fix-same, fix-differ}
+use Rattle.typing.proofs.Operations.{fix-other, fix-rule}
 use Rattle.typing.proofs.rules.fix_type.Statement.{statement}
 use Rattle.typing.proofs.rules.fix_type.Tie as tie
 
@@ -18,22 +18,9 @@ add-argument c =
 
 returns-2 : tie.Need-returns-2
 returns-2 c =
-    let at-same = c .before in
-    let at-codomain = at-same .before in
+    let at-codomain = c .before in
     let at-else1 = at-codomain .before in
-    let at-argument-end = at-else1 .before in
-    fix-same _ _ _ _ (at-argument-end .argument-end .ensures) (at-else1 .if1 .left) _ _
-    (at-codomain .codomain .ensures) (at-same .same .ensures) (c .if2 .taken)
-
-returns-3 : tie.Need-returns-3
-returns-3 c =
-    let at-same = c .before in
-    let at-codomain = at-same .before in
-    let at-else1 = at-codomain .before in
-    let at-argument-end = at-else1 .before in
-    fix-differ _ _ _ _ (at-argument-end .argument-end .ensures) (at-else1 .if1 .left) _ _
-    (at-codomain .codomain .ensures) (at-same .same .ensures) (c .if2 .left)
+    fix-rule _ _ _ _ (at-else1 .before .argument-end .ensures) (at-else1 .if1 .left) _ (at-codomain .codomain .ensures) _ (c .if-same .ensures)
 
 pub fix-type-spec : {M : Type 1} → statement M
-fix-type-spec =
-    tie.close (tie.spec (λ c κs. search needs) returns add-argument (λ c κs. search needs) (λ c κs. search needs) returns-2 returns-3)
+fix-type-spec = tie.close (tie.spec (λ c κs. search needs) returns add-argument (λ c κs. search needs) (λ c κs. search needs) returns-2)

@@ -1,6 +1,6 @@
 -- `typing::rules::result_3` meets its contract: each way out is one law of Results. Assumes nothing.
 use borrow.Author.Needs.{needs}
-use Rattle.typing.proofs.Results.{three-test, three-same, three-differ}
+use Rattle.typing.proofs.Results.{three-test, three-rule}
 use Rattle.typing.proofs.rules.result_3.Statement.{statement}
 use Rattle.typing.proofs.rules.result_3.Tie as tie
 
@@ -11,17 +11,8 @@ returns c =
 
 returns-2 : tie.Need-returns-2
 returns-2 c =
-    let at-same = c .before in
-    let at-else1 = at-same .before in
-    let at-former-at = at-else1 .before in
-    three-same _ _ _ _ _ _ (at-former-at .former-at .ensures) (at-else1 .if1 .left) _ (at-same .same .ensures) (c .if2 .taken)
-
-returns-3 : tie.Need-returns-3
-returns-3 c =
-    let at-same = c .before in
-    let at-else1 = at-same .before in
-    let at-former-at = at-else1 .before in
-    three-differ _ _ _ _ _ _ (at-former-at .former-at .ensures) (at-else1 .if1 .left) _ (at-same .same .ensures) (c .if2 .left)
+    let at-else1 = c .before in
+    three-rule _ _ _ _ _ _ (at-else1 .before .former-at .ensures) (at-else1 .if1 .left) _ (c .if-same .ensures)
 
 pub result-3-spec : {M : Type 1} → statement M
-result-3-spec = tie.close (tie.spec (λ c κs. search needs) returns (λ c κs. search needs) returns-2 returns-3)
+result-3-spec = tie.close (tie.spec (λ c κs. search needs) returns (λ c κs. search needs) returns-2)
