@@ -24,7 +24,7 @@ use Rattle.typing.proofs.Results.{answered, passed}
 use Rattle.typing.specs.Parts.{Function}
 use Rattle.typing.specs.Infers.{Infers}
 use Rattle.typing.proofs.Lasting.{binds-static, refers-later, good-part, passes-on}
-use Rattle.typing.proofs.Rows.{Branches, a-lambda, one, more, Several, Of, word-told, shape-told, told}
+use Rattle.typing.proofs.Telling.{Branches, branch-lambda, branch-one, branch-more, Several, Of, word-told, shape-told, told}
 use Rattle.typing.proofs.Walking.{Reached, Goal, further, whole-node, part, reached, sees, body, One, reached-1, first-good}
 use Rattle.typing.proofs.Walking.{Two, reached-2, three-bad}
 
@@ -104,9 +104,9 @@ module _ {w ls : List ℕ} {at next : ℕ} where
 -- One part.
 module _ {l : Lang} {row : code.Row} {start : ℕ} {ls2 : List ℕ} {t : Reference l} {second : ℕ} {w : List ℕ} {at : ℕ} {ls : List ℕ} {scope : ℕ}
     (A : One l row start ls2 t second w at ls scope) where
-  one-part : (o : Op1 l) (a : Term l) {r : Answer l} → Concluded1 l w ls2 at t second r → Goal l w ls at scope ls2 r (op1 o a)
+  operator-1 : (o : Op1 l) (a : Term l) {r : Answer l} → Concluded1 l w ls2 at t second r → Goal l w ls at scope ls2 r (op1 o a)
   unfolding infer fault size put
-  one-part o a {r} f Γ k d s =
+  operator-1 o a {r} f Γ k d s =
       let N = A .entering .node in
       let g = first-good A (op1 o a) k d refl (λ h. omega (arith, h)) a Γ k (past-word at _ w _ d) s in
       let n : second ≡ at + suc (size a) = omega (arith, g .ends) in
@@ -121,7 +121,7 @@ module _ {l : Lang} {row : code.Row} {start : ℕ} {ls2 : List ℕ} {t : Referen
       (λ e k d. by e (told (A .entering .node .read) 4 h l e k d))
     where
       by : (e : Term l) → Shaped l 4 e → Goal l w ls at scope ls2 r e
-      by e (node.one-part o a) = one-part o a f
+      by e (node.one-part o a) = operator-1 o a f
 
 -- Two parts.
 module _ {l : Lang} {row : code.Row} {start : ℕ} {ls3 : List ℕ} {t u : Reference l} {third : ℕ} {w : List ℕ} {at : ℕ} {ls : List ℕ} {scope : ℕ}
@@ -147,10 +147,10 @@ module _ {l : Lang} {row : code.Row} {start : ℕ} {ls3 : List ℕ} {t u : Refer
           (f .is o (g .static) (j .static) (word-told (A .one .entering .node .read) (op2 o a c) k d) m m′))
 
   -- Three.
-  pub a-choice : {ls4 : List ℕ} {r3 : Answer l} (K : Infers l w third scope ls3 ls4 r3) {v : Reference l} {next : ℕ} → r3 ≡ whole v next
+  pub an-if0 : {ls4 : List ℕ} {r3 : Answer l} (K : Infers l w third scope ls3 ls4 r3) {v : Reference l} {next : ℕ} → r3 ≡ whole v next
       → {r : Answer l} → Concluded3 l w ls4 at t u v next r → Of l w at (Shaped l 6) → Infers l w at scope ls ls4 r
   unfolding infer fault size put
-  a-choice {ls4} K {v} {next} z {r} f seen =
+  an-if0 {ls4} K {v} {next} z {r} f seen =
       whole-node (reached-2 A) K (passes-on at (length w) next r (reached-3 .past) (reached-3 .within) (f .passes)) (λ e k d. by e (seen e k d))
     where
       reached-3 : Reached w ls at next ls4
@@ -218,17 +218,17 @@ module _ {row : code.Row} {start : ℕ} {ls2 : List ℕ} {second : ℕ} {w : Lis
       whole-node (reached (A .entering)) (A .infers) (reached-1 A .past, reached-1 A .within) (λ e k d. by e (sees (A .entering) sc e k d))
     where
       by : (e : Term sc) → Branches sc e → Goal sc w ls at scope ls2 (whole tt second) e
-      by e (a-lambda τ b) Γ k d s =
+      by e (branch-lambda τ b) Γ k d s =
           let g = good-part (body (A .entering) (A .infers) (shape-told (A .entering .node .read) (lam τ b) k d) τ b Γ k d s) refl in
           rw (g .typed) (tt, ap (whole tt) (omega (arith, g .ends)), tt)
-      by e (one o a) Γ k d s = one-part A o a scheme1 Γ k d s
-      by e (more x) Γ k d s = absurd (single e k d x)
+      by e (branch-one o a) Γ k d s = operator-1 A o a scheme1 Γ k d s
+      by e (branch-more x) Γ k d s = absurd (single e k d x)
 
 module _ {row : code.Row} {start : ℕ} {ls3 : List ℕ} {third : ℕ} {w : List ℕ} {at : ℕ} {ls : List ℕ} {scope : ℕ}
     (A : Two sc row start ls3 tt tt third w at ls scope) where
-  pub scheme-choice : {ls4 : List ℕ} {r3 : Answer sc} → Infers sc w third scope ls3 ls4 r3 → Of sc w at (Shaped sc 6) → Infers sc w at scope ls ls4 r3
-  scheme-choice {ls4} {r3} K seen = by r3 K
+  pub scheme-if0 : {ls4 : List ℕ} {r3 : Answer sc} → Infers sc w third scope ls3 ls4 r3 → Of sc w at (Shaped sc 6) → Infers sc w at scope ls ls4 r3
+  scheme-if0 {ls4} {r3} K seen = by r3 K
     where
       by : (r : Answer sc) → Infers sc w third scope ls3 ls4 r → Infers sc w at scope ls ls4 r
-      by (whole v next) K = a-choice A K refl scheme3 seen
+      by (whole v next) K = an-if0 A K refl scheme3 seen
       by (bad b) K = three-bad A K refl seen

@@ -32,8 +32,8 @@ module _ (w : List ℕ) (t f : ℕ) (e : f ≡ formerAt w t) where
         is = λ s ls lo hi m. by-former w t f e ls lo hi (λ s. 0 ≡ argumentEnd t s) (λ h. refl) (λ h. refl) (λ h x. refl) (λ h x y. absurd (n h)) s m;
       }
 
-  pub function : f ≡ 13 → (r : ℕ) → Ends w (t + 1) r → ArgumentEnd w t r
-  function h r g =
+  pub function-end : f ≡ 13 → (r : ℕ) → Ends w (t + 1) r → ArgumentEnd w t r
+  function-end h r g =
       record {
         there = λ z. omega (arith, behind w t f e (omega arith));
         is = λ s ls lo hi m.

@@ -18,7 +18,7 @@ use Rattle.nodes.specs.Table.{sortNumber, shapeNumber}
 use Rattle.types.specs.References.{Written}
 use Rattle.types.specs.Comparisons.{Ends}
 use Rattle.typing.specs.Parts.{lead, Read, PartsStart}
-use Rattle.typing.proofs.Rows.{leads, lead-row}
+use Rattle.typing.proofs.Telling.{leads, lead-row}
 
 clash : true ≡ false → ⊥
 clash q = subst T q tt
@@ -65,8 +65,8 @@ lead-written sc (nil u) w k at t d q = absurd (Option·none-ne-some t q)
 lead-written sc (wrong c u) w k at t d q = absurd (Option·none-ne-some t q)
 
 module _ {w : List ℕ} {at : ℕ} {row : code.Row} (R : Read w at row) where
-  told : (b : Bool) → eqb (row .parts % 5) 1 ≡ b → (l : Lang) (e : Term l) (k : List ℕ) → drop at w ≡ put e k → has (lead e) ≡ b
-  told b q l e k d = lead-told l e ∙ sym (lead-row R e k d) ∙ q
+  leads-told : (b : Bool) → eqb (row .parts % 5) 1 ≡ b → (l : Lang) (e : Term l) (k : List ℕ) → drop at w ≡ put e k → has (lead e) ≡ b
+  leads-told b q l e k d = lead-told l e ∙ sym (lead-row R e k d) ∙ q
 
   -- The ways out: past the type, or right behind the word.
   pub past-lead : {r : ℕ} → row .parts % 5 ≡ 1 → Ends w (at + 1) r → PartsStart w at r
@@ -74,7 +74,7 @@ module _ {w : List ℕ} {at : ℕ} {row : code.Row} (R : Read w at row) where
       record {
         least = omega (arith, n .least);
         most = n .most;
-        is = λ l e k d. by l e k d (lead e) refl (told true (eq-eqb (row .parts % 5) 1 q) l e k d);
+        is = λ l e k d. by l e k d (lead e) refl (leads-told true (eq-eqb (row .parts % 5) 1 q) l e k d);
       }
     where
       by : (l : Lang) (e : Term l) (k : List ℕ) → drop at w ≡ put e k → (o : Option Ty) → lead e ≡ o → has o ≡ true
@@ -87,7 +87,7 @@ module _ {w : List ℕ} {at : ℕ} {row : code.Row} (R : Read w at row) where
       record {
         least = omega arith;
         most = omega (arith, R .within);
-        is = λ l e k d. by (lead e) (told false (ne-eqb (row .parts % 5) 1 q) l e k d);
+        is = λ l e k d. by (lead e) (leads-told false (ne-eqb (row .parts % 5) 1 q) l e k d);
       }
     where
       by : (o : Option Ty) → has o ≡ false → at + 1 ≡ at + 1 + found o 0 (λ t. sizeTy t)

@@ -25,7 +25,7 @@ use Rattle.typing.specs.Parts.{leadStatic, Leaf}
 use Rattle.typing.specs.Infers.{Infers}
 use Rattle.typing.proofs.Leading.{lead-written}
 use Rattle.typing.proofs.Lasting.{passes-on}
-use Rattle.typing.proofs.Rows.{Bare, bare-variable, bare-number, bare-nil, bare-wrong, word-told, shape-told, told, bare}
+use Rattle.typing.proofs.Telling.{Bare, bare-variable, bare-number, bare-nil, bare-wrong, word-told, shape-told, told, bare}
 
 -- Nothing is written past the end.
 pub no-words : (l : Lang) (w ls : List ℕ) (at scope : ℕ) → length (drop at w) ≡ 0 → Infers l w at scope ls ls (bad at)
@@ -37,7 +37,7 @@ no-words l w ls at scope z =
       is = λ e Γ k d s. absurd (omega (arith, z, ap length d, tree-length (term l) e k, sized (view (term l) e)));
     }
 
--- The words of the type that a lambda, an empty list or a wrong begins with.
+-- The words of the type that a lambda, a nil or a wrong begins with.
 pub lead-lam : (l : Lang) (t : Static l) → found (leadStatic l t) 0 (λ u. sizeTy u) ≡ sizeStatic l t
 lead-lam ml t = refl
 lead-lam sc t = refl
@@ -48,9 +48,9 @@ module _ {table w ls : List ℕ} {at : ℕ} {row : code.Row} {next : ℕ} (F : L
   index sc i q = omega (arith, q)
 
   -- A variable, and a term of another shape.
-  pub a-variable : {l : Lang} {r : Answer l} → row .shape ≡ 1 → Variable l w ls scope (getD w at 0) at r → Infers l w at scope ls ls r
+  pub at-variable : {l : Lang} {r : Answer l} → row .shape ≡ 1 → Variable l w ls scope (getD w at 0) at r → Infers l w at scope ls ls r
   unfolding infer fault size put
-  a-variable {l} {r} h v =
+  at-variable {l} {r} h v =
       record {
         same = refl;
         kept = λ i j. refl;

@@ -2,7 +2,7 @@ pub mod Formers
 pub mod Operations
 pub mod Results
 pub mod Variables
-pub mod Rows
+pub mod Telling
 pub mod Leading
 pub mod Linking
 pub mod Lasting

@@ -89,12 +89,12 @@ module _ (w ls : List ℕ) (sort scope between : ℕ) where
 
 -- A variable whose lambda is at p.
 module _ (l : Lang) (w ls : List ℕ) (scope x at p : ℕ) (a : LambdaOf w ls (sortNumber (term l)) scope (x / 256) p) (i : at < length w) where
-  told : (Γ : Lambdas) → Scope w ls at scope Γ → Behind l w (typeAt l Γ (x / 256)) p
-  told Γ s = a .is l Γ at refl (omega arith) s
+  behind-told : (Γ : Lambdas) → Scope w ls at scope Γ → Behind l w (typeAt l Γ (x / 256)) p
+  behind-told Γ s = a .is l Γ at refl (omega arith) s
 
   pub unbound : p ≡ 0 → Variable l w ls scope x at (bad at)
   unfolding Answers
-  unbound z = record { passes = tt; is = λ Γ lo hi s. go lo hi (typeAt l Γ (x / 256)) (told Γ s) }
+  unbound z = record { passes = tt; is = λ Γ lo hi s. go lo hi (typeAt l Γ (x / 256)) (behind-told Γ s) }
     where
       go : (lo hi : ℕ) (o : Option (Static l)) → Behind l w o p → Answers l w ls lo hi at (at + 1) o (bad at)
       go lo hi none b = refl
@@ -103,7 +103,7 @@ module _ (l : Lang) (w ls : List ℕ) (scope x at p : ℕ) (a : LambdaOf w ls (s
   pub bound : (p ≡ 0 → ⊥) → (q : Reference l) → ((t : Static l) (lo hi : ℕ) → WrittenStatic l w (p + 1) t → Refers l w ls lo hi q t)
       → Variable l w ls scope x at (whole q (at + 1))
   unfolding Answers
-  bound n q f = record { passes = refl; is = λ Γ lo hi s. go lo hi (typeAt l Γ (x / 256)) (told Γ s) }
+  bound n q f = record { passes = refl; is = λ Γ lo hi s. go lo hi (typeAt l Γ (x / 256)) (behind-told Γ s) }
     where
       go : (lo hi : ℕ) (o : Option (Static l)) → Behind l w o p → Answers l w ls lo hi at (at + 1) o (whole q (at + 1))
       go lo hi none b = absurd (n b)

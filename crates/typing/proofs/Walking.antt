@@ -25,7 +25,8 @@ use Rattle.typing.specs.Infers.{Told, Infers}
 use Rattle.typing.proofs.Leading.{lead-written}
 use Rattle.typing.proofs.Leaves.{lead-lam}
 use Rattle.typing.proofs.Lasting.{scope-later, scope-inside, binds-static, answers-wider, no-part, Good, good-part, advances-later, advanced}
-use Rattle.typing.proofs.Rows.{Branches, a-lambda, one, more, Several, two, three, Of, sort-told, shape-told, told, branches}
+use Rattle.typing.proofs.Telling.{Branches, branch-lambda, branch-one, branch-more, Several, several-two, several-three}
+use Rattle.typing.proofs.Telling.{Of, sort-told, shape-told, told, branches}
 
 -- A node, and where the first term among its parts starts.
 pub record AtNode (w : List ℕ) (at : ℕ) (row : code.Row) (start : ℕ) : Type 0 where
@@ -172,12 +173,12 @@ module _ {row : code.Row} {start : ℕ} {now : List ℕ} {inner : ℕ} {w : List
     one-bad {b} z = whole-node reached I (subst (Advances at (length w)) (sym z) tt) (λ e k d. by e (sees l e k d))
       where
         by : (e : Term l) → Branches l e → Goal l w ls at scope ls2 r1 e
-        by e (a-lambda t b′) Γ k d s = let x = no-part (body (shape-told (N .read) (lam t b′) k d) t b′ Γ k d s) z in rw (x .0) (x .1)
-        by e (one o a) Γ k d s =
+        by e (branch-lambda t b′) Γ k d s = let x = no-part (body (shape-told (N .read) (lam t b′) k d) t b′ Γ k d s) z in rw (x .0) (x .1)
+        by e (branch-one o a) Γ k d s =
             let x = no-part (first (op1 o a) k d refl (λ h. omega (arith, h)) a Γ k (past-word at _ w _ d) s) z in rw (x .0) (x .1)
-        by e (more (two o a c)) Γ k d s =
+        by e (branch-more (several-two o a c)) Γ k d s =
             let x = no-part (first (op2 o a c) k d refl (λ h. omega (arith, h)) a Γ (put c k) (past-word at _ w _ d) s) z in rw (x .0) (x .1)
-        by e (more (three a c f)) Γ k d s =
+        by e (branch-more (several-three a c f)) Γ k d s =
             let x = no-part (first (if0 a c f) k d refl (λ h. omega (arith, h)) a Γ (put c (put f k)) (past-word at _ w _ d) s) z in
             rw (x .0) (x .1)
 
@@ -210,12 +211,12 @@ module _ {l : Lang} {row : code.Row} {start : ℕ} {ls2 : List ℕ} {t : Referen
   two-bad {ls3} {r2} J {b} z seen = bad-node reached-1 J z (λ e k d. by e (seen e k d))
     where
       by : (e : Term l) → Several l e → Goal l w ls at scope ls3 r2 e
-      by e (two o a c) Γ k d s =
+      by e (several-two o a c) Γ k d s =
           let y = past-word at _ w _ d in
           let g = first-good (op2 o a c) k d refl (λ h. omega (arith, h)) a Γ (put c k) y s in
           let x = no-part (part reached-1 J (g .ends) c Γ k (past-tree (term l) a (at + 1) w (put c k) y) s) z in
           rw (g .typed, x .0) (x .1)
-      by e (three a c f) Γ k d s =
+      by e (several-three a c f) Γ k d s =
           let y = past-word at _ w _ d in
           let g = first-good (if0 a c f) k d refl (λ h. omega (arith, h)) a Γ (put c (put f k)) y s in
           let x = no-part (part reached-1 J (g .ends) c Γ (put f k) (past-tree (term l) a (at + 1) w (put c (put f k)) y) s) z in

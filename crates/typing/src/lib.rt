@@ -28,7 +28,7 @@ ghost use Rattle.typing.specs.Infers.{Infers};
 
 // A row's parts are the digits of a number in base 5, the first the lowest. A node whose number is below these has no part that is a term, fewer
 // than two parts, and fewer than three.
-const SOME_TERM: u64 = 2;
+const SOME_TERM: u64 = nodes::kinds::ML;
 
 const TWO_PARTS: u64 = BASE;
 

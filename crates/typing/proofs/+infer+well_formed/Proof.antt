@@ -15,12 +15,12 @@ use Rattle.nodes.specs.Table.{rowOf}
 use Rattle.nodes.proofs.Terms.{Shaped}
 use Rattle.typing.specs.Answers.{inferred, formed}
 use Rattle.typing.specs.Parts.{Begins, Read, PartsStart, Leaf}
-use Rattle.typing.proofs.Rows.{Several, Of, first-word, told, several, choice, scheme-one, scheme-several, scheme-two, scheme-three}
+use Rattle.typing.proofs.Telling.{Several, Of, first-word, told, several, choice, scheme-one, scheme-several, scheme-two, scheme-three}
 use Rattle.typing.proofs.Leaves.{no-words}
 use Rattle.typing.proofs.Walking.{AtNode, Reached, further, links-at, hands-on, begun, a-boundary, Entering, reached, one-bad, One, one-of}
 use Rattle.typing.proofs.Walking.{reached-1, two-bad, Two, two-of, reached-2, three-bad}
-use Rattle.typing.proofs.Concluding.{by-result1, by-result2, by-result3, an-operator-1, an-operator-2, a-choice, an-ml-lambda}
-use Rattle.typing.proofs.Concluding.{scheme2, a-scheme-part, scheme-choice}
+use Rattle.typing.proofs.Concluding.{by-result1, by-result2, by-result3, an-operator-1, an-operator-2, an-if0, an-ml-lambda}
+use Rattle.typing.proofs.Concluding.{scheme2, a-scheme-part, scheme-if0}
 use Rattle.typing.proofs.infer.Reads as infer
 use Rattle.typing.proofs.infer.Kinds as infer-kinds
 use Rattle.typing.proofs.+infer+well_formed.Lts-infer as i
@@ -210,8 +210,8 @@ module _ {t : ℕ} where
       let O = ml-one (ml-whole c) .entering in
       several (O .node .read) (O .many) (O .plain) (c .before .before .if4 .left) (c .if5 .left) ml
 
-  ml-choice : (c : Ml t i.After-infer3) → ml-Of (ml-found-2 (ml-whole-2 c)) (λ w at ls scope. Of ml w at (Shaped ml 6))
-  ml-choice c =
+  ml-if0 : (c : Ml t i.After-infer3) → ml-Of (ml-found-2 (ml-whole-2 c)) (λ w at ls scope. Of ml w at (Shaped ml 6))
+  ml-if0 c =
       let h = ml-more (ml-second (ml-whole-2 c)) in
       let O = ml-one (ml-whole h) .entering in
       choice (O .node .read) (O .many) (O .plain) (h .before .before .if4 .left) (h .if5 .left) (c .before .before .before .if6 .left) ml
@@ -309,7 +309,7 @@ module _ {t : ℕ} where
   ml-returns-9 : Ml t i.Need-returns-9
   ml-returns-9 c =
       let third = c .before .before .before .before in
-      three-bad (ml-two (ml-whole-2 third)) (third .infer3 .ensures) (ap inferred (c .enum-told3 .given .1)) (ml-choice third)
+      three-bad (ml-two (ml-whole-2 third)) (third .infer3 .ensures) (ap inferred (c .enum-told3 .given .1)) (ml-if0 third)
 
   ml-reached-3 : (c : Ml t i.After-result-3-arg)
       → ml-Of (ml-found-2 (ml-whole-2 (ml-third c)))
@@ -324,8 +324,8 @@ module _ {t : ℕ} where
   ml-returns-10 c =
       let k = c .before .before in
       let third = ml-third k in
-      a-choice (ml-two (ml-whole-2 third)) (third .infer3 .ensures) (ap inferred (k .before .before .three .given .1))
-      (by-result3 _ (c .conclusion3 .ensures) (ml-reached-3 k .within) (c .before .result-3 .ensures)) (ml-choice third)
+      an-if0 (ml-two (ml-whole-2 third)) (third .infer3 .ensures) (ap inferred (k .before .before .three .given .1))
+      (by-result3 _ (c .conclusion3 .ensures) (ml-reached-3 k .within) (c .before .result-3 .ensures)) (ml-if0 third)
 
 -- `well_formed`.
 abbrev Sc : ℕ → (f.Claims → In 4 well-formed-kinds.ps → Out 4 well-formed-kinds.ps well-formed-kinds.r → Type 0) → Type 0
@@ -482,7 +482,7 @@ module _ {t : ℕ} where
       let k = sc-whole-2 third in
       let h = sc-more (sc-second k) in
       let O = sc-one (sc-whole h) .entering in
-      scheme-choice (sc-two k) (third .well-formed3 .ensures)
+      scheme-if0 (sc-two k) (third .well-formed3 .ensures)
       (scheme-three (O .node .read) (O .many) (O .plain) (h .if4 .left) (third .before .before .before .if5 .left))
 
 pub +infer+well-formed-spec : {M : Type 1} → statement M

@@ -1,13 +1,13 @@
 -- `typing::parts::leaf` meets its contract: each way out is one law of Leaves. Assumes nothing.
 use borrow.Author.Needs.{needs}
-use Rattle.typing.proofs.Leaves.{a-variable, wrongs, numbers-and-nil}
+use Rattle.typing.proofs.Leaves.{at-variable, wrongs, numbers-and-nil}
 use Rattle.typing.proofs.parts.leaf.Statement.{statement}
 use Rattle.typing.proofs.parts.leaf.Tie as tie
 
 returns : tie.Need-returns
 returns c =
     let start = c .before .before .before .before .before .before in
-    a-variable (start .pre) _ (c .before .before .if1 .taken) (c .variable .ensures)
+    at-variable (start .pre) _ (c .before .before .if1 .taken) (c .variable .ensures)
 
 returns-2 : tie.Need-returns-2
 returns-2 c = let start = c .before .before .before .before .before .before in wrongs (start .pre) _ (c .if2 .taken)

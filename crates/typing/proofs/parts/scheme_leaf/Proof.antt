@@ -1,13 +1,13 @@
 -- `typing::parts::scheme_leaf` meets its contract: each way out is one law of Leaves. Assumes nothing.
 use borrow.Author.Needs.{needs}
-use Rattle.typing.proofs.Leaves.{a-variable, in-scheme}
+use Rattle.typing.proofs.Leaves.{at-variable, in-scheme}
 use Rattle.typing.proofs.parts.scheme_leaf.Statement.{statement}
 use Rattle.typing.proofs.parts.scheme_leaf.Tie as tie
 
 returns : tie.Need-returns
 returns c =
     let start = c .before .before .before .before .before .before in
-    a-variable (start .pre) _ (c .before .before .if1 .taken) (c .scheme-variable .ensures)
+    at-variable (start .pre) _ (c .before .before .if1 .taken) (c .scheme-variable .ensures)
 
 returns-2 : tie.Need-returns-2
 returns-2 c = in-scheme (c .before .before .before .before .pre) _ (c .if1 .left)

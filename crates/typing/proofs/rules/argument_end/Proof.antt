@@ -2,7 +2,7 @@
 use borrow.Author.Needs.{needs}
 use native.Mathlib.Omega.{arith}
 use Rattle.types.proofs.Meanings.{behind}
-use Rattle.typing.proofs.Formers.{no-function, function}
+use Rattle.typing.proofs.Formers.{no-function, function-end}
 use Rattle.typing.proofs.rules.argument_end.Statement.{statement}
 use Rattle.typing.proofs.rules.argument_end.Tie as tie
 
@@ -27,7 +27,7 @@ returns-2 : tie.Need-returns-2
 returns-2 c =
     let at-else1 = c .before in
     let at-former-at = at-else1 .before in
-    function _ _ _ (at-former-at .former-at .ensures) (at-else1 .if1 .left) _ (c .type-end .ensures)
+    function-end _ _ _ (at-former-at .former-at .ensures) (at-else1 .if1 .left) _ (c .type-end .ensures)
 
 pub argument-end-spec : {M : Type 1} → statement M
 argument-end-spec =

@@ -52,13 +52,13 @@ pub data Bare : (l : Lang) → Term l → Type 0 where
   bare-wrong : {l : Lang} (c : ℕ) (t : Static l) → Bare l (wrong c t)
 
 pub data Several : (l : Lang) → Term l → Type 0 where
-  two : {l : Lang} (o : Op2) (a b : Term l) → Several l (op2 o a b)
-  three : {l : Lang} (a b c : Term l) → Several l (if0 a b c)
+  several-two : {l : Lang} (o : Op2) (a b : Term l) → Several l (op2 o a b)
+  several-three : {l : Lang} (a b c : Term l) → Several l (if0 a b c)
 
 pub data Branches : (l : Lang) → Term l → Type 0 where
-  a-lambda : {l : Lang} (t : Static l) (b : Term l) → Branches l (lam t b)
-  one : {l : Lang} (o : Op1 l) (a : Term l) → Branches l (op1 o a)
-  more : {l : Lang} {e : Term l} → Several l e → Branches l e
+  branch-lambda : {l : Lang} (t : Static l) (b : Term l) → Branches l (lam t b)
+  branch-one : {l : Lang} (o : Op1 l) (a : Term l) → Branches l (op1 o a)
+  branch-more : {l : Lang} {e : Term l} → Several l e → Branches l e
 
 -- The word of a node is the first one from its place on.
 pub first-word : (w : List ℕ) (at : ℕ) → getD (drop at w) 0 0 ≡ getD w at 0
@@ -131,10 +131,10 @@ module _ {w : List ℕ} {at : ℕ} {row : code.Row} (R : Read w at row) where
         by : {l : Lang} (e : Term l) → ltb (row .parts) 2 ≡ isLeaf (shapeNumber (term l) e) → row .shape ≡ shapeNumber (term l) e → Branches l e
         by (var i) q h = no q
         by (num n) q h = no q
-        by (lam t b) q h = a-lambda t b
-        by (op1 o a) q h = one o a
-        by (op2 o a b) q h = more (two o a b)
-        by (if0 a b c) q h = more (three a b c)
+        by (lam t b) q h = branch-lambda t b
+        by (op1 o a) q h = branch-one o a
+        by (op2 o a b) q h = branch-more (several-two o a b)
+        by (if0 a b c) q h = branch-more (several-three a b c)
         by (nil t) q h = no q
         by (wrong c t) q h = no q
         by (ms t a) q h = absurd (n9 h)
@@ -146,41 +146,41 @@ module _ {w : List ℕ} {at : ℕ} {row : code.Row} (R : Read w at row) where
       several l e k d = by e (shape-told e k d) (branches l e k d)
         where
           by : {l : Lang} (e : Term l) → row .shape ≡ shapeNumber (term l) e → Branches l e → Several l e
-          by e h (a-lambda t b) = absurd (n3 h)
-          by e h (one o a) = absurd (n4 h)
-          by e h (more s) = s
+          by e h (branch-lambda t b) = absurd (n3 h)
+          by e h (branch-one o a) = absurd (n4 h)
+          by e h (branch-more s) = s
 
       pub choice : (row .shape ≡ 5 → ⊥) → (l : Lang) → Of l w at (Shaped l 6)
       choice n5 l e k d = by e (shape-told e k d) (several l e k d)
         where
           by : {l : Lang} (e : Term l) → row .shape ≡ shapeNumber (term l) e → Several l e → Shaped l 6 e
-          by e h (two o a b) = absurd (n5 h)
-          by e h (three a b c) = node.a-choice a b c
+          by e h (several-two o a b) = absurd (n5 h)
+          by e h (several-three a b c) = node.a-choice a b c
 
     -- In Scheme the parts' sorts tell as much.
     pub scheme-one : row .parts < 5 → (e : Term sc) (k : List ℕ) → drop at w ≡ put e k → Several sc e → ⊥
-    scheme-one n e k d (two o a b) = omega (arith, scheme-row (op2 o a b) k d)
-    scheme-one n e k d (three a b c) = omega (arith, scheme-row (if0 a b c) k d)
+    scheme-one n e k d (several-two o a b) = omega (arith, scheme-row (op2 o a b) k d)
+    scheme-one n e k d (several-three a b c) = omega (arith, scheme-row (if0 a b c) k d)
 
     module _ (n5 : 5 ≤ row .parts) where
       pub scheme-several : Of sc w at (Several sc)
       scheme-several e k d = by e (scheme-row e k d) (branches sc e k d)
         where
           by : (e : Term sc) → row .parts ≡ schemeParts (shapeNumber (term sc) e) → Branches sc e → Several sc e
-          by e h (a-lambda t b) = absurd (omega (arith, h))
-          by e h (one o a) = absurd (omega (arith, h))
-          by e h (more s) = s
+          by e h (branch-lambda t b) = absurd (omega (arith, h))
+          by e h (branch-one o a) = absurd (omega (arith, h))
+          by e h (branch-more s) = s
 
       pub scheme-two : row .parts < 25 → Of sc w at (Shaped sc 5)
       scheme-two n e k d = by e (scheme-row e k d) (scheme-several e k d)
         where
           by : (e : Term sc) → row .parts ≡ schemeParts (shapeNumber (term sc) e) → Several sc e → Shaped sc 5 e
-          by e h (two o a b) = node.two-parts o a b
-          by e h (three a b c) = absurd (omega (arith, h))
+          by e h (several-two o a b) = node.two-parts o a b
+          by e h (several-three a b c) = absurd (omega (arith, h))
 
       pub scheme-three : 25 ≤ row .parts → Of sc w at (Shaped sc 6)
       scheme-three n e k d = by e (scheme-row e k d) (scheme-several e k d)
         where
           by : (e : Term sc) → row .parts ≡ schemeParts (shapeNumber (term sc) e) → Several sc e → Shaped sc 6 e
-          by e h (two o a b) = absurd (omega (arith, h))
-          by e h (three a b c) = node.a-choice a b c
+          by e h (several-two o a b) = absurd (omega (arith, h))
+          by e h (several-three a b c) = node.a-choice a b c
