@@ -128,7 +128,7 @@ leaf-of : {table w term : List ℕ} {at : ℕ} {ls : List ℕ} {row : code.Row} 
     → row .parts < 2 → Leaf table w ls at row start
 leaf-of B N h = record { links = links-at B (begun N _); read = N .read; starts = N .starts; behind = N .behind; leaf = h }
 
--- `infer`.
+-- `infer`: a moment or a need of it, by the contracts that it cites.
 abbrev Ml : ℕ → (i.Claims → In 4 infer-kinds.ps → Out 4 infer-kinds.ps infer-kinds.r → Type 0) → Type 0
 Ml t M = M (in-infer t) (infer-at t) infer.Post
 
@@ -327,7 +327,7 @@ module _ {t : ℕ} where
       an-if0 (ml-two (ml-whole-2 third)) (third .infer3 .ensures) (ap inferred (k .before .before .three .given .1))
       (by-result3 _ (c .conclusion3 .ensures) (ml-reached-3 k .within) (c .before .result-3 .ensures)) (ml-if0 third)
 
--- `well_formed`.
+-- `well_formed`, in the same way.
 abbrev Sc : ℕ → (f.Claims → In 4 well-formed-kinds.ps → Out 4 well-formed-kinds.ps well-formed-kinds.r → Type 0) → Type 0
 Sc t M = M (in-well-formed t) (well-formed-at t) well-formed.Post
 
