@@ -1,5 +1,5 @@
 -- A file that is opened and judged: refused as the check refuses it, or accepted with its counts. Assumes nothing.
-use Prim.Native.Nat.{ℕ, _+_, _≤_}
+use Prim.Native.Nat.{ℕ, _+_}
 use mathlib.Core.List.{List}
 use mathlib.Core.Path.{_≡_, refl, sym, ap, _∙_, subst}
 use lib.ListN.{length}
@@ -10,7 +10,7 @@ use Rattle.calculus.proofs.Verdicts.{not-both, passed-injective}
 use Rattle.file.specs.Opening.{opening, kept}
 use Rattle.file.proofs.Tests.{header-is}
 use Rattle.file.proofs.Opening.{Opens, opens, check-refused, check-opened}
-use Rattle.checker.specs.Checks.{accepting, judging, admitting}
+use Rattle.checker.specs.Checks.{TermAt, accepting, judging, admitting}
 
 -- What was refused, or passed, whatever passes.
 module _ {A : Type 0} (a : A) where
@@ -28,8 +28,13 @@ unfolding checkWords
 judged-as {bs} {all} {types} o =
     ap (judging (wordsOf bs)) (o .types-are) ∙ sym (o .check-is ∙ rw (header-is (wordsOf bs) (o .fits)))
 
-pub types-within : {bs all : List ℕ} {types n : ℕ} → Opens bs all types n → (4 + types ≤ length (wordsOf bs)) × (length (wordsOf bs) ≤ 4096)
-types-within o = (omega (arith, o .types-are, o .fits .terms-from, o .fits .ends), omega (arith, o .few, o .count-is))
+pub term-at : {bs all : List ℕ} {types n : ℕ} → Opens bs all types n → TermAt (wordsOf bs) (4 + types)
+term-at o =
+    record {
+      behind = omega arith;
+      within = omega (arith, o .types-are, o .fits .terms-from, o .fits .ends);
+      few = omega (arith, o .few, o .count-is);
+    }
 
 -- The ways out of admitting a file.
 pub unopened : (bs : List ℕ) {n p : ℕ} → refused n p ≡ opening bs → refused n p ≡ admitting bs

@@ -11,13 +11,13 @@ use types::same;
 use typing::infer;
 use typing::rules::Inferred;
 ghost use mathlib.Core.Path.{_≡_};
-ghost use Prim.Native.Nat.{_+_, _<_, _≤_};
+ghost use Prim.Native.Nat.{_+_};
 ghost use lib.ListN.{length};
 ghost use Rattle.calculus.specs.File.{padded};
 ghost use Rattle.calculus.specs.File as calculus;
-ghost use Rattle.nodes.specs.Table.{kinds};
+ghost use Rattle.typing.specs.Links.{Linked};
 ghost use Rattle.file.specs.Opening.{opened, kept};
-ghost use Rattle.checker.specs.Checks.{checked, accepting, judging, admitting, Decides};
+ghost use Rattle.checker.specs.Checks.{TermAt, checked, accepting, judging, admitting, Decides};
 
 pub enum Checked {
     Refused(Refusal),
@@ -27,7 +27,7 @@ pub enum Checked {
 // Refusals 6 and 7 of a file's words, whose declared type stands at 4 and whose term starts at `start`, with a link for each word. Their places
 // are 0.
 fn typed_by(table: &Kinds, words: &[u32], start: usize, link: &mut [u16]) -> Checked
-    requires { ⌜ (now table ≡ kinds) × (0 < start) × (start ≤ length (now words)) × (length (now words) ≤ 4096) × (length (now link) ≡ length (now words)) ⌝ }
+    requires { ⌜ Linked (now table) (now words) (now link) × TermAt (now words) start ⌝ }
     ensures { λ r. ⌜ Decides (now (words .entry)) start r ⌝ }
 {
     let Inferred::Typed(t, _) = infer(table, words, &words[start..], start, link, 0) else {
@@ -41,7 +41,7 @@ fn typed_by(table: &Kinds, words: &[u32], start: usize, link: &mut [u16]) -> Che
 
 // The same, with links of its own.
 fn typed(words: &[u32], start: usize) -> Checked
-    requires { ⌜ (0 < start) × (start ≤ length (now words)) × (length (now words) ≤ 4096) ⌝ }
+    requires { ⌜ TermAt (now words) start ⌝ }
     ensures { λ r. ⌜ Decides (now (words .entry)) start r ⌝ }
 {
     let table = nodes::kinds::KINDS;
@@ -50,13 +50,13 @@ fn typed(words: &[u32], start: usize) -> Checked
     typed_by(&table, words, start, &mut link[..n])
 }
 
-// Refusals 3 to 7 of words whose declared type, of so many words, stands at 4, and whose term stands behind it; what stands before 4 does not
+// Refusals 3 to 7 of words whose declared type, of n words, stands at 4, and whose term stands behind it; what stands before 4 does not
 // matter. For the rooms above.
-pub fn judge(words: &[u32], types: usize) -> Checked
-    requires { ⌜ (4 + types ≤ length (now words)) × (length (now words) ≤ 4096) ⌝ }
-    ensures { λ r. ⌜ checked r ≡ accepting (judging (now (words .entry)) types) ⌝ }
+pub fn judge(words: &[u32], n: usize) -> Checked
+    requires { ⌜ TermAt (now words) (4 + n) ⌝ }
+    ensures { λ r. ⌜ checked r ≡ accepting (judging (now (words .entry)) n) ⌝ }
 {
-    let start = 4 + types;
+    let start = 4 + n;
     let walked = ordered(&words[4..start], &words[start..]);
     if let Walked::Refused(r) = walked {
         return Checked::Refused(r);
@@ -68,16 +68,17 @@ pub fn judge(words: &[u32], types: usize) -> Checked
     typed(words, start)
 }
 
-// Opens a file and judges it. The array is left as `open` leaves it. For the rooms above.
-pub fn admit(file: &[u8], all: &mut [u32; 4096]) -> Opened
+// Opens a file and judges it. The buffer is left as `open` leaves it. For the rooms above.
+pub fn admit(file: &[u8], all: &mut [u32]) -> Opened
+    requires { ⌜ length (now all) ≡ 4096 ⌝ }
     ensures answer { λ r. ⌜ opened r ≡ admitting (now (file .entry)) ⌝ }
-    ensures array { λ r. ⌜ now (all .exit) ≡ padded 4096 (kept (now (file .entry))) ⌝ }
+    ensures buffer { λ r. ⌜ now (all .exit) ≡ padded 4096 (kept (now (file .entry))) ⌝ }
 {
     let answer = open(file, all);
-    let Opened::Recipe(types, n) = answer else {
+    let Opened::Recipe { type_count, count } = answer else {
         return answer;
     };
-    match judge(&all[..n], types) {
+    match judge(&all[..count], type_count) {
         Checked::Refused(r) => Opened::Refused(r),
         Checked::Accepted => answer,
     }
@@ -90,6 +91,6 @@ pub fn check(file: &[u8]) -> Checked
     let mut all = [0u32; 4096];
     match admit(file, &mut all) {
         Opened::Refused(r) => Checked::Refused(r),
-        Opened::Recipe(_, _) => Checked::Accepted,
+        Opened::Recipe { .. } => Checked::Accepted,
     }
 }

@@ -17,7 +17,7 @@ use Rattle.calculus.proofs.Checks.{passes-in-order}
 use Rattle.nodes.specs.declared.refusals.Refusal.{Refusal}
 use Rattle.nodes.specs.Refusals.{refusal}
 use Rattle.writing.specs.Wrote.{Wrote}
-use Rattle.checker.proofs.Admitting.{types-within, Admits}
+use Rattle.checker.proofs.Admitting.{term-at, Admits}
 use Rattle.engine.specs.declared.ends.Report.{Report}
 use Rattle.engine.specs.declared.runs.Answer.{Answer}
 use Rattle.engine.specs.declared.runs.Answer.the-variants as a
@@ -89,7 +89,7 @@ begun-ended {limit} {cap} {count} {k} {ws} {first} {second} {first₁} {first′
 
 -- Where the term of a file that was accepted stands in the array.
 pub term-within : {bytes all : List ℕ} {types n : ℕ} → Admits bytes all types n → (4 + types ≤ n) × (n ≤ 4096) × (length all ≡ 4096)
-term-within m = let o = m .opened in (omega (arith, types-within o .0, o .count-is), o .few, o .array-is)
+term-within m = let o = m .opened in (omega (arith, term-at o .within, o .count-is), o .few, o .array-is)
 
 -- A file's bytes: refused by the check, or its term begun.
 module _ (bytes : List ℕ) (limit : ℕ) {first second first′ second′ : List ℕ} {x : Answer} where

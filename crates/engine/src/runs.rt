@@ -50,9 +50,9 @@ pub fn run(file: &[u8], limit: u32, first: &mut [u32], second: &mut [u32]) -> An
     let mut all = [0u32; 4096];
     match admit(file, &mut all) {
         Opened::Refused(r) => refused(r, first, second),
-        Opened::Recipe(types, n) => {
-            let from = 4 + types;
-            begin(&all[from..n], limit, first, second)
+        Opened::Recipe { type_count, count } => {
+            let start = 4 + type_count;
+            begin(&all[start..count], limit, first, second)
         }
     }
 }

@@ -9,17 +9,23 @@ use Rattle.calculus.specs.File.{wordsOf}
 use Rattle.file.specs.Opening.{opened}
 use Rattle.file.proofs.Opening.{Opens, opens}
 use Rattle.checker.specs.Checks.{checked, accepting, judging}
-use Rattle.checker.proofs.Admitting.{types-within, unopened, judged-out, judged-in}
+use Rattle.checker.proofs.Admitting.{term-at, unopened, judged-out, judged-in}
 use Rattle.checker.proofs.admit.Statement.{statement}
 use Rattle.checker.proofs.admit.Tie as tie
 
 -- What is known of an opened file.
 module _ (c : tie.After-answer) where
+  abbrev after-open : tie.After-open
+  after-open = c .before .before .before .before
+
+  abbrev start : tie.Start
+  start = after-open .before .before .before .before
+
   abbrev file : List ℕ
-  file = c .before .before .before .before .before .args .file .now
+  file = start .args .file .now
 
   abbrev found : List ℕ
-  found = c .before .before .«open» .last .1 .0
+  found = after-open .«open» .last .1 .0
 
   abbrev types : ℕ
   types = c .answer .given .0 .0
@@ -28,7 +34,7 @@ module _ (c : tie.After-answer) where
   count = c .answer .given .0 .1 .0
 
   known : Opens file found types count
-  known = let e = c .before .before .«open» .ensures in opens _ _ (ap opened (sym (c .answer .given .1)) ∙ e .0) (e .1)
+  known = let e = after-open .«open» .ensures in opens _ _ (ap opened (sym (c .answer .given .1)) ∙ e .0) (e .1)
 
   judged-file : accepting (judging (take count found) types) ≡ accepting (judging (wordsOf file) types)
   judged-file = ap (λ (ws : List ℕ). accepting (judging ws types)) (known .words-are)
@@ -42,20 +48,23 @@ enum-known-answer c = search needs
 enum-told : tie.Need-enum-told
 enum-told c = search needs
 
+same-length : tie.Need-same-length
+same-length c = search needs
+
 returns : tie.Need-returns
 returns c =
-    let e = c .before .before .«open» .ensures in
+    let e = c .before .before .before .before .«open» .ensures in
     let g = c .enum-told .given .1 in
     (ap opened g ∙ unopened _ (ap opened (sym g) ∙ e .0), e .1)
 
-array-share-prefix-found : tie.Need-array-share-prefix-found
-array-share-prefix-found c = let k = known (c .before) in omega (arith, k .few, k .array-is)
+slice-reshare-prefix-judge : tie.Need-slice-reshare-prefix-judge
+slice-reshare-prefix-judge c = let k = known (c .before) in omega (arith, k .few, k .array-is)
 
 slice-aggregate-judge : tie.Need-slice-aggregate-judge
 slice-aggregate-judge c = let k = known (c .before .before) in rw (k .words-are) (k .count-is)
 
 judge-requires : tie.Need-judge-requires
-judge-requires c κs = let k = known (c .before .before) in rw (k .words-are) (types-within k)
+judge-requires c κs = let k = known (c .before .before) in rw (k .words-are) (term-at k)
 
 enum-known-r : tie.Need-enum-known-r
 enum-known-r c = search needs
@@ -63,17 +72,23 @@ enum-known-r c = search needs
 enum-told-2 : tie.Need-enum-told-2
 enum-told-2 c = search needs
 
+same-length-2 : tie.Need-same-length-2
+same-length-2 c = search needs
+
 returns-2 : tie.Need-returns-2
 returns-2 c =
     let f = c .before .before .before .before .before .before in
     let j = ap checked (sym (c .before .r .given .1)) ∙ c .before .before .before .judge .ensures in
-    (judged-out (known f) (j ∙ judged-file f), f .before .before .«open» .ensures .1)
+    (judged-out (known f) (j ∙ judged-file f), after-open f .«open» .ensures .1)
+
+same-length-3 : tie.Need-same-length-3
+same-length-3 c = search needs
 
 returns-3 : tie.Need-returns-3
 returns-3 c =
     let f = c .before .before .before .before .before in
     let j = ap checked (sym (c .enum-told2 .given .1)) ∙ c .before .before .judge .ensures in
-    (judged-in (known f) (j ∙ judged-file f), f .before .before .«open» .ensures .1)
+    (judged-in (known f) (j ∙ judged-file f), after-open f .«open» .ensures .1)
 
 pub admit-spec : {M : Type 1} → statement M
 admit-spec =
@@ -82,11 +97,14 @@ admit-spec =
     open-requires
     enum-known-answer
     enum-told
+    same-length
     returns
-    array-share-prefix-found
+    slice-reshare-prefix-judge
     slice-aggregate-judge
     judge-requires
     enum-known-r
     enum-told-2
+    same-length-2
     returns-2
+    same-length-3
     returns-3)

@@ -40,8 +40,8 @@ enum-known-walked c = search needs
 returns : tie.Need-returns
 returns c =
     let s = c .before .before .before .before .before .before .before in let g = c .before .walked .given in
-    not-ordered (s .args .words .now) (s .args .types) (s .pre .0) (g .0 .0)
-    (ordered-is (s .args .words .now) (s .args .types) (s .pre .0) _ (ap walked (sym (g .1)) ∙ c .before .before .before .ordered .ensures))
+    not-ordered (s .args .words .now) (s .args .n) (s .pre .within) (g .0 .0)
+    (ordered-is (s .args .words .now) (s .args .n) (s .pre .within) _ (ap walked (sym (g .1)) ∙ c .before .before .before .ordered .ensures))
 
 enum-told : tie.Need-enum-told
 enum-told c = search needs
@@ -69,10 +69,10 @@ returns-2 c =
     let s = c .before .before .before .before .before .before .before .before .before .before .before in
     let o = c .before .before .before .before .before .enum-told .given in
     let g = c .before .closed .given in
-    not-closed (s .args .words .now) (s .args .types) (s .pre .0) (o .0 .0) (g .0 .0)
-    (ordered-is (s .args .words .now) (s .args .types) (s .pre .0) _
+    not-closed (s .args .words .now) (s .args .n) (s .pre .within) (o .0 .0) (g .0 .0)
+    (ordered-is (s .args .words .now) (s .args .n) (s .pre .within) _
     (ap walked (sym (o .1)) ∙ c .before .before .before .before .before .before .before .ordered .ensures))
-    (closing-is (s .args .words .now) (s .args .types) (s .pre .0) _ (ap walked (sym (g .1)) ∙ c .before .before .before .scoped .ensures))
+    (closing-is (s .args .words .now) (s .args .n) (s .pre .within) _ (ap walked (sym (g .1)) ∙ c .before .before .before .scoped .ensures))
 
 enum-told-2 : tie.Need-enum-told-2
 enum-told-2 c = search needs
@@ -85,10 +85,10 @@ returns-3 c =
     let s = c .before .before .before .before .before .before .before .before .before .before .before in
     let o = c .before .before .before .before .before .enum-told .given in
     let g = c .before .enum-told2 .given in
-    decided (s .args .words .now) (s .args .types) (s .pre .0) (o .0 .0) (g .0 .0) (c .typed .result)
-    (ordered-is (s .args .words .now) (s .args .types) (s .pre .0) _
+    decided (s .args .words .now) (s .args .n) (s .pre .within) (o .0 .0) (g .0 .0) (c .typed .result)
+    (ordered-is (s .args .words .now) (s .args .n) (s .pre .within) _
     (ap walked (sym (o .1)) ∙ c .before .before .before .before .before .before .before .ordered .ensures))
-    (closing-is (s .args .words .now) (s .args .types) (s .pre .0) _ (ap walked (sym (g .1)) ∙ c .before .before .before .scoped .ensures))
+    (closing-is (s .args .words .now) (s .args .n) (s .pre .within) _ (ap walked (sym (g .1)) ∙ c .before .before .before .scoped .ensures))
     (c .typed .ensures)
 
 pub judge-spec : {M : Type 1} → statement M

@@ -11,11 +11,11 @@ array-borrow-prefix-link : tie.Need-array-borrow-prefix-link
 array-borrow-prefix-link c = search needs
 
 slice-aggregate-typed-by : tie.Need-slice-aggregate-typed-by
-slice-aggregate-typed-by c = sym (length-take-le _ _ (c .before .before .before .pre .2))
+slice-aggregate-typed-by c = sym (length-take-le _ _ (c .before .before .before .pre .few))
 
 typed-by-requires : tie.Need-typed-by-requires
 unfolding kinds rowOf
-typed-by-requires c κs = let s = c .before .before .before in (refl, s .pre .0, s .pre .1, s .pre .2, length-take-le _ _ (s .pre .2))
+typed-by-requires c κs = let s = c .before .before .before in (record { tabled = refl; linked = length-take-le _ _ (s .pre .few) }, s .pre)
 
 returns : tie.Need-returns
 returns c = search needs

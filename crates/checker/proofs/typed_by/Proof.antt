@@ -23,12 +23,12 @@ infer-requires : tie.Need-infer-requires
 infer-requires c κs =
     let s = c .before .before .before .before in
     record {
-      tabled = s .pre .0;
+      tabled = s .pre .0 .tabled;
       here = part-to-end (s .args .words .now) (s .args .start);
-      behind = s .pre .1;
-      within = s .pre .2;
-      few = s .pre .3;
-      linked = s .pre .4;
+      behind = s .pre .1 .behind;
+      within = s .pre .1 .within;
+      few = s .pre .1 .few;
+      linked = s .pre .0 .linked;
     }
 
 enum-known-t : tie.Need-enum-known-t
@@ -44,7 +44,10 @@ returns : tie.Need-returns
 returns c = no-type (c .before .before .before .before .infer .ensures) (ap inferred (c .enum-told .given .1))
 
 same-requires : tie.Need-same-requires
-same-requires c κs = let s = c .before .before .before .before .before .before .before .before .before .before .before in (s .pre .0, c .before .before .before .before .before .before .infer .ensures .same ∙ s .pre .4)
+same-requires c κs =
+    let i = c .before .before .before .before .before .before in
+    let s = i .before .before .before .before .before in
+    (s .pre .0 .tabled, i .infer .ensures .same ∙ s .pre .0 .linked)
 
 same-length-2 : tie.Need-same-length-2
 same-length-2 c = search needs

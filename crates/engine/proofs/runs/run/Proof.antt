@@ -1,5 +1,6 @@
 -- `engine::runs::run` meets its contract, for every file, every limit and every pair of buffers. Assumes nothing.
-use Prim.Native.Nat.{_+_, _-_}
+use mathlib.Core.List.{List}
+use Prim.Native.Nat.{ℕ, _+_, _-_}
 use mathlib.Core.Path.{sym, ap, _∙_}
 use native.Mathlib.Omega.{arith}
 use lib.ListN.{drop, length-drop}
@@ -12,10 +13,21 @@ use Rattle.engine.proofs.runs.run.Statement.{statement}
 use Rattle.engine.proofs.runs.run.Tie as tie
 
 -- What is known of a file that was accepted.
-known : (c : tie.After-types)
-    → Admits (c .before .before .before .before .before .before .before .args .file .now) (c .before .before .admit .last .1 .0)
-    (c .types .given .0 .0) (c .types .given .0 .1 .0)
-known c = let e = c .before .before .admit .ensures in admits _ _ (ap opened (sym (c .types .given .1)) ∙ e .0) (e .1)
+module _ (c : tie.After-type-count) where
+  abbrev after-admit : tie.After-admit
+  after-admit = c .before .before .before
+
+  abbrev start : tie.Start
+  start = after-admit .before .before .before .before .before
+
+  abbrev all : List ℕ
+  all = after-admit .admit .last .1 .0
+
+  known : Admits (start .args .file .now) all (c .type-count .given .0 .0) (c .type-count .given .0 .1 .0)
+  known = let e = after-admit .admit .ensures in admits _ _ (ap opened (sym (c .type-count .given .1)) ∙ e .0) (e .1)
+
+slice-aggregate-admit : tie.Need-slice-aggregate-admit
+slice-aggregate-admit c = search needs
 
 admit-requires : tie.Need-admit-requires
 admit-requires c κs = search needs
@@ -26,11 +38,11 @@ enum-known-r c = search needs
 refused-requires : tie.Need-refused-requires
 refused-requires c κs = search needs
 
-enum-known-types : tie.Need-enum-known-types
-enum-known-types c = search needs
+enum-known-type-count : tie.Need-enum-known-type-count
+enum-known-type-count c = search needs
 
-add-from : tie.Need-add-from
-add-from c = omega (arith, term-within (known (c .before)))
+add-start : tie.Need-add-start
+add-start c = omega (arith, term-within (known (c .before)))
 
 mul-begin : tie.Need-mul-begin
 mul-begin c = omega (arith, term-within (known (c .before)))
@@ -47,10 +59,9 @@ part-begin-end c = omega (arith, term-within (known (c .before .before)))
 begin-requires : tie.Need-begin-requires
 begin-requires c κs =
     let k = c .before .before .before .before .before in
-    let all = k .before .before .admit .last .1 .0 in
-    let from = 4 + k .types .given .0 .0 in
+    let from = 4 + k .type-count .given .0 .0 in
     let w = term-within (known k) in
-    omega (arith, w, length-take-le (k .types .given .0 .1 .0 - from) (drop from all) (omega (arith, w, length-drop from all)))
+    omega (arith, w, length-take-le (k .type-count .given .0 .1 .0 - from) (drop from (all k)) (omega (arith, w, length-drop from (all k))))
 
 same-length : tie.Need-same-length
 same-length c = search needs
@@ -60,12 +71,12 @@ same-length-2 c = search needs
 
 returns : tie.Need-returns
 returns c =
-    let mid = c .before .before .before .before .before .before .before .before in
-    let r = mid .r .given in
-    let s = mid .before .before .before .before .before .before .before in
-    run-refused (s .args .file .now) (s .args .limit) (r .0 .0)
-    (not-admitted (s .args .file .now) (ap opened (sym (r .1)) ∙ mid .before .before .admit .ensures .0))
-    (c .before .before .before .before .refused .ensures)
+    let after-refused = c .before .before .before .before in
+    let mid = after-refused .before .before .before .before in
+    let after-admit = mid .before .before .before in
+    let s = after-admit .before .before .before .before .before in
+    run-refused (s .args .file .now) (s .args .limit) (mid .r .given .0 .0)
+    (not-admitted (s .args .file .now) (ap opened (sym (mid .r .given .1)) ∙ after-admit .admit .ensures .0)) (after-refused .refused .ensures)
 
 same-length-3 : tie.Need-same-length-3
 same-length-3 c = search needs
@@ -75,19 +86,20 @@ same-length-4 c = search needs
 
 returns-2 : tie.Need-returns-2
 returns-2 c =
-    let k = c .before .before .before .before .before .before .before .before .before .before in
-    let s = k .before .before .before .before .before .before .before in
-    run-begun (s .args .file .now) (s .args .limit) (known k) (c .before .before .before .before .begin .ensures)
+    let after-begin = c .before .before .before .before in
+    let k = after-begin .before .before .before .before .before .before in
+    run-begun (start k .args .file .now) (start k .args .limit) (known k) (after-begin .begin .ensures)
 
 pub run-spec : {M : Type 1} → statement M
 run-spec =
     tie.close
     (tie.spec
+    slice-aggregate-admit
     admit-requires
     enum-known-r
     refused-requires
-    enum-known-types
-    add-from
+    enum-known-type-count
+    add-start
     mul-begin
     sub-begin
     part-begin-start
