@@ -25,7 +25,7 @@ starred =
       sealed = refl;
       endless = refl;
       no-list = refl;
-      no-head = refl;
+      hd-of-nil = refl;
       third = refl;
       own-code = refl;
     }

@@ -63,7 +63,7 @@ pub record Starred : Type 0 where
   pub endless : Ends (fileOf (1 ∷ []) (20 ∷ 18 ∷ 1 ∷ 16 ∷ [])) (lent 3 4096) spent 0 3 (20 ∷ 18 ∷ 1 ∷ 16 ∷ []) 0
   -- ms {N} (cons 1 2): error 3, 4 steps; hd (nil N): error 4, 2
   pub no-list : Ends (fileOf (3 ∷ 1 ∷ []) (30 ∷ 3 ∷ 1 ∷ 40 ∷ 289 ∷ 545 ∷ [])) plenty error 3 4 [] 0
-  pub no-head : Ends (fileOf (1 ∷ []) (26 ∷ 24 ∷ 1 ∷ [])) plenty error 4 2 [] 0
+  pub hd-of-nil : Ends (fileOf (1 ∷ []) (26 ∷ 24 ∷ 1 ∷ [])) plenty error 4 2 [] 0
   -- ms N (if0 nil 1 2): 2, 2 steps; ms N (add (fn v0) (wrong 300)): error 300, 1 step
   pub third : Ends (fileOf (1 ∷ []) (30 ∷ 1 ∷ 38 ∷ 39 ∷ 289 ∷ 545 ∷ [])) plenty valued 0 2 (529 ∷ []) 0
   pub own-code : Ends (fileOf (1 ∷ []) (30 ∷ 1 ∷ 36 ∷ 34 ∷ 32 ∷ 76844 ∷ [])) plenty error 300 1 [] 0

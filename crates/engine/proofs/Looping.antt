@@ -26,7 +26,7 @@ use Rattle.engine.specs.declared.ends.Report.{Report}
 use Rattle.engine.specs.declared.ends.Choice.the-variants.{Stop, Go}
 use Rattle.engine.specs.declared.reductions.Halt.{Halt}
 use Rattle.calculus.specs.File.{padded}
-use Rattle.engine.specs.Buffered.{held, Settled}
+use Rattle.engine.specs.Buffered.{Room, held, Settled}
 use Rattle.engine.specs.Decided.{chosen}
 use Rattle.engine.specs.Ran.{Good, Advanced, Ran, Reduced}
 use Rattle.engine.specs.Results.{lineOf, countsOf, told}
@@ -85,20 +85,20 @@ running-start first second count cap limit h =
 -- The buffer lengths after a step: one stays as it is, the other keeps its length.
 module _ {first₀ second₀ first second first′ second′ : List ℕ} {count cap limit n : ℕ} {made : Counts} {front : Bool} {from : From} {r : Move}
     (i : Running first₀ second₀ count cap limit first second n made front from) (s : Advanced front n from first second r first′ second′)
-    (capF : cap ≤ length first₀) (capS : cap ≤ length second₀) where
+    (lent : Room first₀ second₀ cap) where
   held-long : n ≤ length (held front first second)
   held-long = by front (i .first-length) (i .second-length)
     where
       by : (f : Bool) → length first ≡ length first₀ → length second ≡ length second₀ → n ≤ length (held f first second)
-      by true p q = omega (arith, i .room)
-      by false p q = omega (arith, i .room)
+      by true p q = omega (arith, i .room, lent .in-first)
+      by false p q = omega (arith, i .room, lent .in-second)
 
   other-long : cap ≤ length (held (not front) first second)
   other-long = by front (i .first-length) (i .second-length)
     where
       by : (f : Bool) → length first ≡ length first₀ → length second ≡ length second₀ → cap ≤ length (held (not f) first second)
-      by true p q = omega arith
-      by false p q = omega arith
+      by true p q = omega (arith, lent .in-second)
+      by false p q = omega (arith, lent .in-first)
 
   module _ {whole : spec.Result} (a : At whole limit cap made n from (held front first second)) where
     size-of : n ≡ length (words (a .term))

@@ -1,10 +1,16 @@
 -- The two buffers of a run: which holds the term, and what is left in both.
-use Prim.Native.Nat.{ℕ}
+use Prim.Native.Nat.{ℕ, _≤_}
 use mathlib.Core.Bool.{Bool, true, false}
 use mathlib.Core.List.{List, []}
 use mathlib.Core.Path.{_≡_}
 use lib.ListN.{length}
 use Rattle.calculus.specs.File.{padded}
+
+-- Both buffers have room for n words, of at most 16,384.
+pub record Room (first second : List ℕ) (n : ℕ) : Type 0 where
+  pub in-first : n ≤ length first
+  pub in-second : n ≤ length second
+  pub few : n ≤ 16384
 
 -- The buffer that holds the term: the first, or the second.
 abbrev pub held : Bool → List ℕ → List ℕ → List ℕ

@@ -3,9 +3,8 @@
 use writing::clear;
 use writing::copy;
 ghost use mathlib.Core.List.{[]};
-ghost use Prim.Native.Nat.{_≤_};
-ghost use lib.ListN.{length, take};
-ghost use Rattle.engine.specs.Buffered.{held, Settled};
+ghost use lib.ListN.{take};
+ghost use Rattle.engine.specs.Buffered.{Room, held, Settled};
 
 // Both buffers all zero.
 pub fn wipe(first: &mut [u32], second: &mut [u32])
@@ -17,8 +16,11 @@ pub fn wipe(first: &mut [u32], second: &mut [u32])
 
 // The first n words of the buffer that holds the term stand first in the first buffer; every other word of both becomes zero.
 pub fn settle(front: bool, first: &mut [u32], second: &mut [u32], n: usize)
-    requires { ⌜ (n ≤ length (now first)) × (n ≤ length (now second)) × (n ≤ 16384) ⌝ }
-    ensures { λ _. ⌜ Settled (take n (held front (now (first .entry)) (now (second .entry)))) (now (first .entry)) (now (second .entry)) (now (first .exit)) (now (second .exit)) ⌝ }
+    requires { ⌜ Room (now first) (now second) n ⌝ }
+    ensures { λ _. ⌜
+        Settled (take n (held front (now (first .entry)) (now (second .entry))))
+        (now (first .entry)) (now (second .entry)) (now (first .exit)) (now (second .exit))
+        ⌝ }
 {
     if front {
         clear(first, n);

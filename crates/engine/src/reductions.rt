@@ -1,4 +1,4 @@
-// The loop: a term is reduced, step by step, until its run ends. The two buffers hold the term by turns, and a flag says which of them holds the term.
+// The loop: a term is reduced, step by step, until its run ends. The two buffers hold the term by turns, and a flag says whether the first has it.
 
 use crate::ends::Choice;
 use crate::ends::Counts;
@@ -13,6 +13,7 @@ ghost use Prim.Native.Nat.{_+_, _*_, _≤_};
 ghost use lib.ListN.{length, take};
 ghost use Rattle.calculus.specs.Run.{capacity};
 ghost use Rattle.nodes.specs.Table.{kinds};
+ghost use Rattle.engine.specs.Buffered.{Room};
 ghost use Rattle.engine.specs.Ran.{Advanced, Ran, Reduced};
 
 // A report, and whether the term stands in the first buffer.
@@ -30,7 +31,7 @@ fn advance(
     n: usize,
     from: From,
 ) -> Move
-    requires { ⌜ (now table ≡ kinds) × (n ≤ length (now first)) × (n ≤ length (now second)) × (n ≤ 16384) × (from .due ≤ 1 + 3 * from .place) ⌝ }
+    requires { ⌜ (now table ≡ kinds) × Room (now first) (now second) n × (from .due ≤ 1 + 3 * from .place) ⌝ }
     ensures { λ r. ⌜ Advanced front n from (now (first .entry)) (now (second .entry)) r (now (first .exit)) (now (second .exit)) ⌝ }
 {
     if front {
@@ -48,7 +49,7 @@ fn run_term(
     cap: usize,
     limit: u32,
 ) -> Halt
-    requires { ⌜ (now table ≡ kinds) × (count ≤ cap) × (cap ≤ length (now first)) × (cap ≤ length (now second)) × (cap ≤ 16384) ⌝ }
+    requires { ⌜ (now table ≡ kinds) × Room (now first) (now second) cap × (count ≤ cap) ⌝ }
     ensures { λ r. ⌜ Ran limit cap (take count (now (first .entry))) r (now (first .exit)) (now (second .exit)) ⌝ }
 {
     let mut n = count;
@@ -77,7 +78,10 @@ fn run_term(
 // A run of the term whose words are the first `count` of the first buffer, in the capacity of both. For the operations that lend buffers.
 pub fn reduce(first: &mut [u32], second: &mut [u32], count: usize, limit: u32) -> Report
     requires { ⌜ count ≤ capacity (length (now first)) (length (now second)) ⌝ }
-    ensures { λ r. ⌜ Reduced limit (capacity (length (now (first .entry))) (length (now (second .entry)))) (take count (now (first .entry))) r (now (first .entry)) (now (second .entry)) (now (first .exit)) (now (second .exit)) ⌝ }
+    ensures { λ r. ⌜
+        Reduced limit (capacity (length (now (first .entry))) (length (now (second .entry)))) (take count (now (first .entry))) r
+        (now (first .entry)) (now (second .entry)) (now (first .exit)) (now (second .exit))
+        ⌝ }
 {
     let table = nodes::kinds::KINDS;
     let cap = crate::ends::capacity(first.len(), second.len());

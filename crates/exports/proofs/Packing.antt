@@ -41,15 +41,17 @@ unfolding check
 check-within bytes = by (isSize (length bytes)) refl
   where
     by : (b : Bool) → isSize (length bytes) ≡ b → Within 4096 (unless b 1 0 (checkWords (wordsOf bytes)))
-    by true q = within-more (length (wordsOf bytes)) 4096 (checkWords (wordsOf bytes)) (omega (arith, words-length bytes, size-iff (length bytes) .0 q .0 .1)) (words-within (wordsOf bytes))
+    by true q =
+        let few : length (wordsOf bytes) ≤ 4096 = omega (arith, words-length bytes, size-iff (length bytes) .0 q .0 .1) in
+        within-more (length (wordsOf bytes)) 4096 (checkWords (wordsOf bytes)) few (words-within (wordsOf bytes))
     by false q = omega arith
 
 pub refused-place : (bytes : List ℕ) (r : Refusal) (x : Checked) → x ≡ Refused r → checked x ≡ accepting (check bytes) → placeOf r ≤ 4096
 refused-place bytes r x q e =
     subst (Within 4096) (sym (sym (ap checked q) ∙ e)) (accepting-within 4096 (check bytes) (check-within bytes))
 
-pub refused-number : (bytes : List ℕ) (r : Refusal) (x : Checked) (n : ℕ) → x ≡ Refused r → checked x ≡ accepting (check bytes) → n ≡ numberOf r + 256 * placeOf r
-    → n ≡ checkNumber (accepting (check bytes))
+pub refused-number : (bytes : List ℕ) (r : Refusal) (x : Checked) (n : ℕ) → x ≡ Refused r → checked x ≡ accepting (check bytes)
+    → n ≡ numberOf r + 256 * placeOf r → n ≡ checkNumber (accepting (check bytes))
 refused-number bytes r x n q e p = p ∙ ap checkNumber (sym (ap checked q) ∙ e)
 
 pub accepted-number : (bytes : List ℕ) (x : Checked) → x ≡ Accepted → checked x ≡ accepting (check bytes) → 0 ≡ checkNumber (accepting (check bytes))

@@ -11,5 +11,6 @@ use Rattle.text.specs.Decimal.{decimal}
 use Rattle.lister.specs.Listing.{field, listing, Examples}
 
 pub examples : Examples
-unfolding listing field decimal operate runIn check checkWords typed wordsOf run step turn fill contract contract2 contract1 onNumbers onList onNumber form infer read readTree inOrder walk rowFor put putTy size sizeTy
-examples = record { sum = refl; no-head = refl; sealed = refl; empty-file = refl }
+unfolding listing field decimal operate runIn check checkWords typed wordsOf run step turn fill contract
+    contract2 contract1 onNumbers onList onNumber form infer read readTree inOrder walk rowFor put putTy size sizeTy
+examples = record { sum = refl; hd-of-nil = refl; sealed = refl; empty-file = refl }

@@ -56,6 +56,6 @@ listing bytes = textOf (operate bytes 1000000 4096 4096)
 -- words; and the empty file. proofs/Examples.antt proves them.
 pub record Examples : Type 0 where
   pub sum : listing (bytesOf (1 ∷ 4 ∷ 3 ∷ 5 ∷ 1 ∷ 21 ∷ 529 ∷ 785 ∷ [])) ≡ characters "value 0 1 1 0\n1297\n"
-  pub no-head : listing (bytesOf (fileOf (1 ∷ []) (26 ∷ 24 ∷ 1 ∷ []))) ≡ characters "error 4 2 0 0\n\n"
+  pub hd-of-nil : listing (bytesOf (fileOf (1 ∷ []) (26 ∷ 24 ∷ 1 ∷ []))) ≡ characters "error 4 2 0 0\n\n"
   pub sealed : listing (bytesOf (fileOf (2 ∷ []) (30 ∷ 2 ∷ 34 ∷ 32 ∷ []))) ≡ characters "value 0 0 4 0\n30 2 34 32\n"
   pub empty-file : listing [] ≡ characters "refused 1 0\n"

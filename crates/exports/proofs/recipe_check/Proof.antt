@@ -1,5 +1,4 @@
 -- `exports::recipe_check` meets its contract, for every file. Assumes nothing.
-use borrow.Author.Needs.{needs}
 use Rattle.exports.proofs.Packing.{refused-place, refused-number, accepted-number}
 use borrow.Author.Needs.{needs}
 use Rattle.exports.proofs.recipe_check.Statement.{statement}
@@ -15,13 +14,20 @@ enum-known-r : tie.Need-enum-known-r
 enum-known-r c = search needs
 
 packed-requires : tie.Need-packed-requires
-packed-requires c κs = refused-place (c .before .before .before .before .before .args .file .now) (c .before .r .given .0 .0) (c .before .before .before .check .result) (c .before .r .given .1) (c .before .before .before .check .ensures)
+packed-requires c κs =
+    let k = c .before .before .before .check in
+    refused-place _ (c .before .r .given .0 .0) (k .result) (c .before .r .given .1) (k .ensures)
 
 returns : tie.Need-returns
-returns c = accepted-number (c .before .before .before .before .args .file .now) (c .before .before .check .result) (c .enum-told .given .1) (c .before .before .check .ensures)
+returns c =
+    let k = c .before .before .check in
+    accepted-number _ (k .result) (c .enum-told .given .1) (k .ensures)
 
 returns-2 : tie.Need-returns-2
-returns-2 c = refused-number (c .before .before .before .before .before .before .args .file .now) (c .before .before .r .given .0 .0) (c .before .before .before .before .check .result) (c .packed .result) (c .before .before .r .given .1) (c .before .before .before .before .check .ensures) (c .packed .ensures)
+returns-2 c =
+    let g = c .before .before .r .given in
+    let k = c .before .before .before .before .check in
+    refused-number _ (g .0 .0) (k .result) (c .packed .result) (g .1) (k .ensures) (c .packed .ensures)
 
 pub recipe-check-spec : {M : Type 1} → statement M
 recipe-check-spec =

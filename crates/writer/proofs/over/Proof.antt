@@ -77,8 +77,8 @@ module _ {M : Type 1} (𝓤 : URA M) (H : Heap 𝓤) (A : Atoms 𝓤) (W : Given
   exits : ent 𝓤 (onEntry 𝓤 H A over.signature (κ, tt) (q, tt) (h n, (to, tt)) vals) (Post (mach to))
   exits =
       qed W ((‵ (flft κ q) ⊛ ‵ ftrue) ∷ ‵ (owns (T.the-row α ∷ usize ∷ []) (h n, (to, tt)) vals) ∷ []) ∵
-      suffices ! _ (ends-at 𝓤 H A over.ended stayed (over.clauses 𝓤 H A mem run) W (((κ, tt), (q, tt), tt, (h n, (to, tt)), vals), tt) (mach to) (h to)
-      ((tt, tt), (tt, tt)) ((tt, (tt, tt)), (tt, tt))) $ says ! (refl, refl) $ frame ! $ fsplit ! $
+      suffices ! _ (ends-at 𝓤 H A over.ended stayed (over.clauses 𝓤 H A mem run) W (((κ, tt), (q, tt), tt, (h n, (to, tt)), vals), tt)
+      (mach to) (h to) ((tt, tt), (tt, tt)) ((tt, (tt, tt)), (tt, tt))) $ says ! (refl, refl) $ frame ! $ fsplit ! $
       use1 W (given (mach n ∷ [] ≡ mach n ∷ []) (‵ (all-own (T.the-type α .parts) (T′.the-laws α) (x, (n, tt)))))
       (own-open 𝓤 H A W (T.the-type α) (T′.the-laws α) (x, (n, tt)) (mach n)) $ learn ! (λ _. fsplit ! $ keep ! (0 ∷ []) $
       -- [what the slice's borrow owns]: the numbers are facts

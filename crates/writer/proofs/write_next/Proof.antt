@@ -271,7 +271,8 @@ module _ {M : Type 1} (𝓤 : URA M) (H : Heap 𝓤) (A : Atoms 𝓤) (W : Given
         use1 W (later (some (λ (r : Writer). ((‵ (flft κ q) ⊛ ‵ ftrue) ⊛ ‵ (T.the-row α .own r (w₂ ∷ []))) ⊛ raw
         (ensured 𝓤 H A over.ended (over.clauses 𝓤 H A mem run) (κ, tt) (wr (r₁ .buf .now) (r₁ .at), (i, tt)) tt r)))) (id⊢ 𝓤 _) $ await ! tt $
         pick ! (λ r₂. split ! $ move ! (1 ∷ []) $
-        use1 W (raw (fact 𝓤 ((r₂ .buf ≡ wr (r₁ .buf .now) (r₁ .at) .buf) × (r₂ .at ≡ i)))) (over-of 𝓤 H A mem run κ (wr (r₁ .buf .now) (r₁ .at)) i r₂) $
+        use1 W (raw (fact 𝓤 ((r₂ .buf ≡ wr (r₁ .buf .now) (r₁ .at) .buf) × (r₂ .at ≡ i))))
+        (over-of 𝓤 H A mem run κ (wr (r₁ .buf .now) (r₁ .at)) i r₂) $
         heard ! ((r₂ .buf ≡ wr (r₁ .buf .now) (r₁ .at) .buf) × (r₂ .at ≡ i)) (λ e₂.
         split ! $ rewrite ! 1 (λ (h : Writer). ‵ (T.the-row α .own h (w₂ ∷ []))) (λ i. record { buf = e₂ .0 i; at = e₂ .1 i }) refl $
         move ! (1 ∷ []) $ peeks ! (T.the-row α) (Is (T.the-row α)) (shows 𝓤 H A (T.the-row α)) (wr (r₁ .buf .now) i) (w₂ ∷ [])

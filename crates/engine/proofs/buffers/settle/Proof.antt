@@ -31,11 +31,12 @@ slice-reshare-prefix-copy : tie.Need-slice-reshare-prefix-copy
 slice-reshare-prefix-copy c = search needs
 
 slice-aggregate-copy : tie.Need-slice-aggregate-copy
-slice-aggregate-copy c = let s = c .before .before .before .before in sym (length-take-le (s .args .n) (s .args .second .now) (s .pre .1))
+slice-aggregate-copy c = let s = c .before .before .before .before in sym (length-take-le (s .args .n) (s .args .second .now) (s .pre .in-second))
 
 copy-requires : tie.Need-copy-requires
 copy-requires c κs =
-    let s = c .before .before .before .before .before in omega (arith, length-take-le (s .args .n) (s .args .second .now) (s .pre .1), s .pre .2)
+    let s = c .before .before .before .before .before in
+    omega (arith, length-take-le (s .args .n) (s .args .second .now) (s .pre .in-second), s .pre .few)
 
 clear-requires-3 : tie.Need-clear-requires-3
 clear-requires-3 c κs = search needs
@@ -54,8 +55,8 @@ returns-2 c =
     let mid = c .before .before .before .before .before .before .before .before in
     let s = mid .before .before .before .before .before .before .before .before in
     let copied = mid .before .before .copy in
-    let front = front-copied (s .args .second .now) (s .args .first .now) (copied .last .1 .0) (s .args .n) (copied .result) (s .pre .1) (s .pre .0)
-    (copied .ensures) in
+    let front = front-copied (s .args .second .now) (s .args .first .now) (copied .last .1 .0) (s .args .n) (copied .result) (s .pre .in-second)
+    (s .pre .in-first) (copied .ensures) in
     rw (mid .before .before .before .before .before .if1 .left)
     (record {
       first-is = c .before .before .before .before .before .before .clear3 .ensures

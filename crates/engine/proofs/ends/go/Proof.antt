@@ -18,8 +18,9 @@ counted-requires c κs = search needs
 
 returns-2 : tie.Need-returns-2
 returns-2 c =
-    let a = c .before .before .before .before .before .args in
-    rw (ne-eqb (a .made .steps) (a .limit) (λ e. c .before .before .before .if1 .left (sym e)), le-leb (a .change .size) (a .cap) (omega (arith, c .before .if2 .taken)))
+    let else1 = c .before .before .before in
+    let a = else1 .before .before .args in
+    rw (ne-eqb (a .made .steps) (a .limit) (λ e. else1 .if1 .left (sym e)), le-leb (a .change .size) (a .cap) (omega (arith, c .before .if2 .taken)))
     (ap (Go (a .change)) (c .counted .ensures))
 
 stop-requires-2 : tie.Need-stop-requires-2
@@ -27,8 +28,9 @@ stop-requires-2 c κs = search needs
 
 returns-3 : tie.Need-returns-3
 returns-3 c =
-    let a = c .before .before .before .before .before .args in
-    rw (ne-eqb (a .made .steps) (a .limit) (λ e. c .before .before .before .if1 .left (sym e)), lt-leb (a .change .size) (a .cap) (c .before .if2 .left))
+    let else1 = c .before .before .before in
+    let a = else1 .before .before .args in
+    rw (ne-eqb (a .made .steps) (a .limit) (λ e. else1 .if1 .left (sym e)), lt-leb (a .change .size) (a .cap) (c .before .if2 .left))
     (c .stop2 .ensures)
 
 pub go-spec : {M : Type 1} → statement M

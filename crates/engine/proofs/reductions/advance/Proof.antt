@@ -12,12 +12,12 @@ slice-reshare-prefix-step c = search needs
 slice-aggregate-step : tie.Need-slice-aggregate-step
 slice-aggregate-step c =
     let start = c .before .before .before .before in
-    let s = start in sym (length-take-le (s .args .n) (s .args .first .now) (s .pre .1))
+    let s = start in sym (length-take-le (s .args .n) (s .args .first .now) (s .pre .1 .in-first))
 
 step-requires : tie.Need-step-requires
 step-requires c κs =
     let start = c .before .before .before .before .before in
-    let s = start in (s .pre .0, omega (arith, length-take-le (s .args .n) (s .args .first .now) (s .pre .1), s .pre .3), s .pre .4)
+    let s = start in (s .pre .0, omega (arith, length-take-le (s .args .n) (s .args .first .now) (s .pre .1 .in-first), s .pre .1 .few), s .pre .2)
 
 same-length : tie.Need-same-length
 same-length c = search needs
@@ -38,12 +38,12 @@ slice-reshare-prefix-step-2 c = search needs
 slice-aggregate-step-2 : tie.Need-slice-aggregate-step-2
 slice-aggregate-step-2 c =
     let start = c .before .before .before .before in
-    let s = start in sym (length-take-le (s .args .n) (s .args .second .now) (s .pre .2))
+    let s = start in sym (length-take-le (s .args .n) (s .args .second .now) (s .pre .1 .in-second))
 
 step-requires-2 : tie.Need-step-requires-2
 step-requires-2 c κs =
     let start = c .before .before .before .before .before in
-    let s = start in (s .pre .0, omega (arith, length-take-le (s .args .n) (s .args .second .now) (s .pre .2), s .pre .3), s .pre .4)
+    let s = start in (s .pre .0, omega (arith, length-take-le (s .args .n) (s .args .second .now) (s .pre .1 .in-second), s .pre .1 .few), s .pre .2)
 
 same-length-3 : tie.Need-same-length-3
 same-length-3 c = search needs

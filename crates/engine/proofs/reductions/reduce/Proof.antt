@@ -15,13 +15,17 @@ unfolding kinds rowOf
 run-term-requires c κs =
     let s = c .before .before .before .before .before .before in
     let e = c .before .before .before .capacity .ensures in
-    (refl, omega (arith, e, s .pre), omega (arith, e), omega (arith, e), omega (arith, e))
+    (refl, record { in-first = omega (arith, e); in-second = omega (arith, e); few = omega (arith, e) }, omega (arith, e, s .pre))
 
 settle-requires : tie.Need-settle-requires
 settle-requires c κs =
     let t = c .before .before .before .before .before .before .before .run-term in
     let e = c .before .before .before .before .before .before .before .before .before .before .before .capacity .ensures in
-    (omega (arith, t .ensures .short, e, t .kept .1 .0), omega (arith, t .ensures .short, e, t .kept .1 .1 .0), omega (arith, t .ensures .short, e))
+    record {
+      in-first = omega (arith, t .ensures .short, e, t .kept .1 .0);
+      in-second = omega (arith, t .ensures .short, e, t .kept .1 .1 .0);
+      few = omega (arith, t .ensures .short, e);
+    }
 
 same-length : tie.Need-same-length
 same-length c = search needs

@@ -19,7 +19,7 @@ loop-holds : tie.Need-loop-holds Inv-loop μ-loop
 loop-holds c =
     let start = c .before .before in
     let s = start .args in
-    running-start (s .first .now) (s .second .now) (s .count) (s .cap) (s .limit) (start .pre .1)
+    running-start (s .first .now) (s .second .now) (s .count) (s .cap) (s .limit) (start .pre .2)
 
 -- The moments of a round: its start, and the step that was taken.
 module _ (c : tie.After-decide Inv-loop μ-loop) where
@@ -38,9 +38,11 @@ advance-requires c κs =
     let s = at-loop .before .before .before in
     let i = at-loop .loop .inv in (
       s .pre .0,
-      omega (arith, i .room, i .first-length, s .pre .2),
-      omega (arith, i .room, i .second-length, s .pre .3),
-      omega (arith, i .room, s .pre .4),
+      record {
+        in-first = omega (arith, i .room, i .first-length, s .pre .1 .in-first);
+        in-second = omega (arith, i .room, i .second-length, s .pre .1 .in-second);
+        few = omega (arith, i .room, s .pre .1 .few);
+      },
       i .few,
     )
 
@@ -67,7 +69,7 @@ returns c =
     let d = c .before .before .before in
     let g = c .before .report .given in
     let s = start d in
-    running-end (at-loop d .loop .inv) (after-advance d .advance .ensures) (s .pre .2) (s .pre .3) (g .0 .0) (sym (d .decide .ensures) ∙ g .1)
+    running-end (at-loop d .loop .inv) (after-advance d .advance .ensures) (s .pre .1) (g .0 .0) (sym (d .decide .ensures) ∙ g .1)
 
 enum-known-change : tie.Need-enum-known-change Inv-loop μ-loop
 enum-known-change c = search needs
@@ -88,7 +90,7 @@ loop-again c =
     let g = c .before .before .change .given in
     let s = start d in
     let a = after-advance d .advance in
-    running-next (at-loop d .loop .inv) (a .ensures) (s .pre .2) (s .pre .3) (g .0 .0) (g .0 .1 .0) (sym (d .decide .ensures) ∙ g .1)
+    running-next (at-loop d .loop .inv) (a .ensures) (s .pre .1) (g .0 .0) (g .0 .1 .0) (sym (d .decide .ensures) ∙ g .1)
     (a .kept .1 .1 .0) (a .kept .1 .1 .1 .0)
 
 pub run-term-spec : {M : Type 1} → statement M

@@ -32,8 +32,10 @@ same-length-2 c = search needs
 
 returns : tie.Need-returns
 returns c =
-    let r = c .before .before .before .before .before .before .before .before .run in let g = c .before .before .r .given in
-    (answer-refused _ (r .result) (g .0 .0) (c .refused-by .result) (r .ensures .answer-is) (g .1) (c .refused-by .ensures), (r .ensures .first-is, r .ensures .second-is))
+    let r = c .before .before .before .before .before .before .before .before .run in
+    let g = c .before .before .r .given in
+    let told = answer-refused _ (r .result) (g .0 .0) (c .refused-by .result) (r .ensures .answer-is) (g .1) (c .refused-by .ensures) in
+    (told, (r .ensures .first-is, r .ensures .second-is))
 
 same-length-3 : tie.Need-same-length-3
 same-length-3 c = search needs
@@ -43,8 +45,10 @@ same-length-4 c = search needs
 
 returns-2 : tie.Need-returns-2
 returns-2 c =
-    let r = c .before .before .before .before .before .before .before .before .run in let g = c .before .before .x .given in
-    (answer-ended _ (r .result) (g .0 .0) (c .ended .result) (r .ensures .answer-is) (g .1) (c .ended .ensures), (r .ensures .first-is, r .ensures .second-is))
+    let r = c .before .before .before .before .before .before .before .before .run in
+    let g = c .before .before .x .given in
+    let told = answer-ended _ (r .result) (g .0 .0) (c .ended .result) (r .ensures .answer-is) (g .1) (c .ended .ensures) in
+    (told, (r .ensures .first-is, r .ensures .second-is))
 
 pub recipe-run-spec : {M : Type 1} → statement M
 recipe-run-spec =

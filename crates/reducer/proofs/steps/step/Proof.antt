@@ -143,7 +143,8 @@ returns-4 c =
     let f = after-found′ after-contract in
     let p = c .before .before .splice .ensures in (
       rw (p .from-there) (few f),
-      step-next _ _ _ _ (after-whose f .whose .ensures .1) _ _ _ (f .found .given .1) _ (told after-contract) _ _ p _ (after-piece .became2 .given .1),
+      step-next _ _ _ _ (after-whose f .whose .ensures .1) _ _ _ (f .found .given .1) _ (told after-contract) _ _ p _
+          (after-piece .became2 .given .1),
     )
 
 pub step-spec : {M : Type 1} → statement M
