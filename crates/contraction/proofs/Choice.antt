@@ -21,21 +21,27 @@ use Rattle.contraction.proofs.Views.{Formed, is-number, by-form}
 use Rattle.contraction.proofs.Parts.{Stands, stands}
 use Rattle.contraction.proofs.Looks.{no-number, number-of}
 
-module _ (ws : List ℕ) (form-number x y end : ℕ) (form-is : form-number ≡ formAt (drop 1 ws)) (x-is : x ≡ 1 + span (drop 1 ws) 1)
-    (y-is : y ≡ x + span (drop x ws) 1) (end-is : end ≡ y + span (drop y ws) 1) where
+-- What is known of the parts: the first one's form, and where the words of each end.
+pub record ThreeParts (ws : List ℕ) (form x y end : ℕ) : Type 0 where
+  pub form-is : form ≡ formAt (drop 1 ws)
+  pub x-is : x ≡ 1 + span (drop 1 ws) 1
+  pub y-is : y ≡ x + span (drop x ws) 1
+  pub end-is : end ≡ y + span (drop y ws) 1
+
+module _ {ws : List ℕ} {form-number x y end : ℕ} (p : ThreeParts ws form-number x y end) where
   module _ (l : Lang) (a b c : Term l) (k : List ℕ) (q : ws ≡ put (if0 a b c) k) where
     tail-of : drop 1 ws ≡ put a (put b (put c k))
     unfolding put
     tail-of = ap (drop 1) q
 
     second-stands : Stands (term l) b (put c k) ws x y
-    second-stands = stands (term l) b (put c k) ws x y (stands (term l) a (put b (put c k)) ws 1 x tail-of x-is .after) y-is
+    second-stands = stands (term l) b (put c k) ws x y (stands (term l) a (put b (put c k)) ws 1 x tail-of (p .x-is) .after) (p .y-is)
 
     third-stands : Stands (term l) c k ws y end
-    third-stands = stands (term l) c k ws y end (second-stands .after) end-is
+    third-stands = stands (term l) c k ws y end (second-stands .after) (p .end-is)
 
     test-form : (n : ℕ) → form-number ≡ n → Formed l n a
-    test-form n e = by-form l a (put b (put c k)) (drop 1 ws) tail-of n (sym form-is ∙ e)
+    test-form n e = by-form l a (put b (put c k)) (drop 1 ws) tail-of n (sym (p .form-is) ∙ e)
 
   scheme-told : (l : Lang) (a b c : Term l) (k : List ℕ) → ws ≡ put (if0 a b c) k → getD ws 0 0 ≡ 38 → (form-number ≡ 1 → ⊥)
       → Tells ws (Becomes (Part y end)) (contract (if0 a b c))
@@ -57,7 +63,7 @@ module _ (ws : List ℕ) (form-number x y end : ℕ) (form-is : form-number ≡ 
   pub if-ml : (getD ws 0 0 ≡ 38 → ⊥) → (form-number ≡ 1 → ⊥) → OfIf ws Nothing
   if-ml w h = record { of = λ l a b c k q. ml-told l a b c k q w h }
 
-  module _ (h : form-number ≡ 1) (n : ℕ) (n-is : n ≡ getD (drop 1 ws) 0 0 / 256) where
+  module _ (h : form-number ≡ 1) {n : ℕ} (n-is : n ≡ getD (drop 1 ws) 0 0 / 256) where
     number-told : (l : Lang) (a b c : Term l) (k : List ℕ) → ws ≡ put (if0 a b c) k → Formed l 1 a → (t : Bool) → eqb n 0 ≡ t
         → Tells ws (cond t (Becomes (Part x y)) (Becomes (Part y end))) (contract (if0 a b c))
     unfolding contract onNumber form

@@ -38,7 +38,7 @@ function-words x y z l t u v k =
     (putTy-append u [] (y ∷ put v (z ∷ putTy t k))
     ∙ ap (λ (w : List ℕ). putTy u [] ++ (y ∷ w)) (put-append v [] (z ∷ putTy t k) ∙ ap (λ (w : List ℕ). put v [] ++ (z ∷ w)) (putTy-append t [] k)))
 
-module _ (ws : List ℕ) (form-number value end : ℕ) (p : Value ws form-number value end) where
+module _ {ws : List ℕ} {form-number value end : ℕ} (p : Value ws form-number value end) where
   -- The type, the value after it, and the value's form.
   pub type-stands : (l : Lang) (t : Ty) (v : Term l) (k : List ℕ) → drop 1 ws ≡ putTy t (put v k) → Stands type t (put v k) ws 1 value
   type-stands l t v k q = stands type t (put v k) ws 1 value q (p .value-is)
@@ -67,10 +67,10 @@ module _ (ws : List ℕ) (form-number value end : ℕ) (p : Value ws form-number
       (misfit-told sc N v k 1 q)
   number-amiss sc v k q h = subst (Tells ws Nothing) (sym (no-number nothing _ (value-form ml N v k q form-number refl) h)) refl
 
-  pub number-other : (scheme : Bool) → (form-number ≡ 1 → ⊥) → AtType ws scheme (misfitIn scheme 1 value) N
-  number-other scheme h = record { of = λ l v k q s. rw s (number-amiss l v k q h) }
+  pub number-other : {scheme : Bool} → (form-number ≡ 1 → ⊥) → AtType ws scheme (misfitIn scheme 1 value) N
+  number-other h = record { of = λ l v k q s. rw s (number-amiss l v k q h) }
 
-  module _ (n : ℕ) (n-is : n ≡ getD (drop value ws) 0 0 / 256) where
+  module _ {n : ℕ} (n-is : n ≡ getD (drop value ws) 0 0 / 256) where
     number-at : (l : Lang) (v : Term (from l)) (k : List ℕ) → drop 1 ws ≡ putTy N (put v k) → Formed (from l) 1 v
         → Tells ws (numberIn (isScheme l) n) (converted l N v)
     unfolding toML toScheme onNumber form
@@ -79,8 +79,8 @@ module _ (ws : List ℕ) (form-number value end : ℕ) (p : Value ws form-number
     number-at sc v k q (is-number m) =
         rw (n-is ∙ number-of ml m k (drop value ws) (type-stands ml N v k q .after)) (number-told ws sc m)
 
-    pub number-number : (scheme : Bool) → form-number ≡ 1 → AtType ws scheme (numberIn scheme n) N
-    number-number scheme h = record { of = λ l v k q s. rw s (number-at l v k q (value-form (from l) N v k q 1 h)) }
+    pub number-number : {scheme : Bool} → form-number ≡ 1 → AtType ws scheme (numberIn scheme n) N
+    number-number h = record { of = λ l v k q s. rw s (number-at l v k q (value-form (from l) N v k q 1 h)) }
 
   -- At L.
   lump-in-ml : (l : Lang) (v : Term (from l)) → false ≡ isScheme l → Tells ws Nothing (converted l L v)
@@ -104,8 +104,8 @@ module _ (ws : List ℕ) (form-number value end : ℕ) (p : Value ws form-number
   unfolding size sizeTy
   lump-size l v k q h (is-lump a) = omega (arith, h, value-stands ml L v k q .end)
 
-  pub lump-absurd : (scheme : Bool) → form-number ≡ 5 → end < value + 2 → AtType ws scheme Nothing L
-  lump-absurd scheme h g = record { of = λ l v k q s. absurd (lump-size (from l) v k q g (value-form (from l) L v k q 5 h)) }
+  pub lump-absurd : {scheme : Bool} → form-number ≡ 5 → end < value + 2 → AtType ws scheme Nothing L
+  lump-absurd h g = record { of = λ l v k q s. absurd (lump-size (from l) v k q g (value-form (from l) L v k q 5 h)) }
 
   lump-out : (l : Lang) (v : Term (from l)) (k : List ℕ) → drop 1 ws ≡ putTy L (put v k) → true ≡ isScheme l → Formed (from l) 5 v
       → Tells ws (Becomes (Part (value + 2) end)) (converted l L v)

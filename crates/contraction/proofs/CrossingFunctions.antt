@@ -26,36 +26,36 @@ use Rattle.contraction.proofs.Parts as parts
 use Rattle.contraction.proofs.Looks.{no-lambda}
 use Rattle.contraction.proofs.Crossing.{function-words, type-stands, value-stands, value-form, inner, misfit-told}
 
-module _ (ws : List ℕ) (form-number value end : ℕ) (p : Value ws form-number value end) where
+module _ {ws : List ℕ} {form-number value end : ℕ} (p : Value ws form-number value end) where
   function-amiss : (l : Lang) (t u : Ty) (v : Term (from l)) (k : List ℕ) → drop 1 ws ≡ putTy (t to u) (put v k) → (form-number ≡ 2 → ⊥)
       → Tells ws (misfitIn (isScheme l) 2 value) (converted l (t to u) v)
   unfolding toML toScheme
   function-amiss ml t u v k q h =
       subst (Tells ws (misfitIn false 2 value))
-      (sym (no-lambda (becomes (wrong 2 (t to u))) _ (value-form ws form-number value end p sc (t to u) v k q form-number refl) h))
-      (misfit-told ws form-number value end p sc (t to u) v k 2 q)
+      (sym (no-lambda (becomes (wrong 2 (t to u))) _ (value-form p sc (t to u) v k q form-number refl) h))
+      (misfit-told p sc (t to u) v k 2 q)
   function-amiss sc t u v k q h =
-      subst (Tells ws Nothing) (sym (no-lambda nothing _ (value-form ws form-number value end p ml (t to u) v k q form-number refl) h)) refl
+      subst (Tells ws Nothing) (sym (no-lambda nothing _ (value-form p ml (t to u) v k q form-number refl) h)) refl
 
-  pub function-other : (scheme : Bool) → (form-number ≡ 2 → ⊥) → AtFunction ws scheme (misfitIn scheme 2 value)
-  function-other scheme h = record { of = λ t u. record { of = λ l v k q s. rw s (function-amiss l t u v k q h) } }
+  pub function-other : {scheme : Bool} → (form-number ≡ 2 → ⊥) → AtFunction ws scheme (misfitIn scheme 2 value)
+  function-other h = record { of = λ t u. record { of = λ l v k q s. rw s (function-amiss l t u v k q h) } }
 
-  module _ (second : ℕ) (second-is : second ≡ 2 + span (drop 2 ws) 1) where
+  module _ {second : ℕ} (second-is : second ≡ 2 + span (drop 2 ws) 1) where
     -- t stands from 2, and u from there up to the value.
     from-stands : (l : Lang) (t u : Ty) (v : Term l) (k : List ℕ) → drop 1 ws ≡ putTy (t to u) (put v k)
         → Stands type t (putTy u (put v k)) ws 2 second
     unfolding putTy
     from-stands l t u v k q =
-        stands type t (putTy u (put v k)) ws 2 second (inner ws form-number value end p 4 (putTy t (putTy u (put v k))) q) second-is
+        stands type t (putTy u (put v k)) ws 2 second (inner p 4 (putTy t (putTy u (put v k))) q) second-is
 
     to-stands : (l : Lang) (t u : Ty) (v : Term l) (k : List ℕ) → drop 1 ws ≡ putTy (t to u) (put v k) → Stands type u (put v k) ws second value
     unfolding sizeTy
     to-stands l t u v k q =
         let z = from-stands l t u v k q in
-        parts.sized type u (put v k) ws second value (z .after) (omega (arith, z .end, type-stands ws form-number value end p l (t to u) v k q .end))
+        parts.sized type u (put v k) ws second value (z .after) (omega (arith, z .end, type-stands p l (t to u) v k q .end))
 
-    pub function-absurd : (scheme : Bool) → value < second → AtFunction ws scheme Nothing
-    function-absurd scheme g =
+    pub function-absurd : {scheme : Bool} → value < second → AtFunction ws scheme Nothing
+    function-absurd g =
         record { of = λ t u. record { of = λ l v k q s. absurd (omega (arith, g, to-stands (from l) t u v k q .end)) } }
 
     module _ (h : form-number ≡ 2) where
@@ -67,7 +67,7 @@ module _ (ws : List ℕ) (form-number value end : ℕ) (p : Value ws form-number
           let e = putTy-append t [] _ ∙ ap (λ (w : List ℕ). putTy t [] ++ w) (function-words 30 35 45 sc t u v (16 ∷ [])) in (
             _,
             refl,
-            rw (from-stands sc t u v k q .own, to-stands sc t u v k q .own, value-stands ws form-number value end p sc (t to u) v k q .own)
+            rw (from-stands sc t u v k q .own, to-stands sc t u v k q .own, value-stands p sc (t to u) v k q .own)
                 (ap (λ (w : List ℕ). 18 ∷ w) e),
           )
       function-in-ml sc t u v k q s f = absurd (subst T (sym s) tt)
@@ -76,7 +76,7 @@ module _ (ws : List ℕ) (form-number value end : ℕ) (p : Value ws form-number
       function-ml =
           record {
             of = λ t u. record {
-              of = λ l v k q s. function-in-ml l t u v k q s (value-form ws form-number value end p (from l) (t to u) v k q 2 h);
+              of = λ l v k q s. function-in-ml l t u v k q s (value-form p (from l) (t to u) v k q 2 h);
             };
           }
 
@@ -88,7 +88,7 @@ module _ (ws : List ℕ) (form-number value end : ℕ) (p : Value ws form-number
       function-in-scheme sc t u v k q s (is-function r b) = (
         _,
         refl,
-        rw (from-stands ml t u v k q .own, to-stands ml t u v k q .own, value-stands ws form-number value end p ml (t to u) v k q .own)
+        rw (from-stands ml t u v k q .own, to-stands ml t u v k q .own, value-stands p ml (t to u) v k q .own)
             (ap (λ (w : List ℕ). 34 ∷ w) (function-words 45 19 30 ml t u v (32 ∷ []))),
       )
 
@@ -96,7 +96,7 @@ module _ (ws : List ℕ) (form-number value end : ℕ) (p : Value ws form-number
       function-scheme =
           record {
             of = λ t u. record {
-              of = λ l v k q s. function-in-scheme l t u v k q s (value-form ws form-number value end p (from l) (t to u) v k q 2 h);
+              of = λ l v k q s. function-in-scheme l t u v k q s (value-form p (from l) (t to u) v k q 2 h);
             };
           }
 
@@ -129,32 +129,32 @@ sides ws r g =
           (ap (λ (w : List ℕ). eqb (getD w 0 0) 45) q);
     }
 
-module _ (ws : List ℕ) (r : Became) (n : ℕ) (n-is : n ≡ getD (drop 1 ws) 0 0) where
-  abbrev At : Ty → Type 0
-  At t = AtType ws (eqb (getD ws 0 0) 45) r t
+abbrev At : List ℕ → Became → Ty → Type 0
+At ws r t = AtType ws (eqb (getD ws 0 0) 45) r t
 
-  turned : ((t : Ty) → TypeBy n t → At t) → OfBoundary ws r
+module _ (ws : List ℕ) {r : Became} {n : ℕ} (n-is : n ≡ getD (drop 1 ws) 0 0) where
+  turned : ((t : Ty) → TypeBy n t → At ws r t) → OfBoundary ws r
   turned g = sides ws r (λ t b. g t (subst (λ (j : ℕ). TypeBy j t) (sym n-is) b))
 
-  only-N : At N → (t : Ty) (m : ℕ) → TypeBy m t → m ≡ 1 → At t
+  only-N : At ws r N → (t : Ty) (m : ℕ) → TypeBy m t → m ≡ 1 → At ws r t
   only-N g t m by-N e = g
   only-N g t m by-L e = absurd (omega (arith, e))
   only-N g t m (by-list s) e = absurd (omega (arith, e))
   only-N g t m (by-to s u) e = absurd (omega (arith, e))
 
-  pub at-N : n ≡ 1 → At N → OfBoundary ws r
+  pub at-N : n ≡ 1 → At ws r N → OfBoundary ws r
   at-N e g = turned (λ t b. only-N g t n b e)
 
-  only-L : At L → (t : Ty) (m : ℕ) → TypeBy m t → m ≡ 2 → At t
+  only-L : At ws r L → (t : Ty) (m : ℕ) → TypeBy m t → m ≡ 2 → At ws r t
   only-L g t m by-N e = absurd (omega (arith, e))
   only-L g t m by-L e = g
   only-L g t m (by-list s) e = absurd (omega (arith, e))
   only-L g t m (by-to s u) e = absurd (omega (arith, e))
 
-  pub at-L : n ≡ 2 → At L → OfBoundary ws r
+  pub at-L : n ≡ 2 → At ws r L → OfBoundary ws r
   at-L e g = turned (λ t b. only-L g t n b e)
 
-  only-list : AtList ws (eqb (getD ws 0 0) 45) r → (t : Ty) (m : ℕ) → TypeBy m t → m ≡ 3 → At t
+  only-list : AtList ws (eqb (getD ws 0 0) 45) r → (t : Ty) (m : ℕ) → TypeBy m t → m ≡ 3 → At ws r t
   only-list g t m by-N e = absurd (omega (arith, e))
   only-list g t m by-L e = absurd (omega (arith, e))
   only-list g t m (by-list s) e = g .of s
@@ -163,7 +163,7 @@ module _ (ws : List ℕ) (r : Became) (n : ℕ) (n-is : n ≡ getD (drop 1 ws) 0
   pub at-list : n ≡ 3 → AtList ws (eqb (getD ws 0 0) 45) r → OfBoundary ws r
   at-list e g = turned (λ t b. only-list g t n b e)
 
-  only-function : AtFunction ws (eqb (getD ws 0 0) 45) r → (t : Ty) (m : ℕ) → TypeBy m t → (m ≡ 1 → ⊥) → (m ≡ 2 → ⊥) → (m ≡ 3 → ⊥) → At t
+  only-function : AtFunction ws (eqb (getD ws 0 0) 45) r → (t : Ty) (m : ℕ) → TypeBy m t → (m ≡ 1 → ⊥) → (m ≡ 2 → ⊥) → (m ≡ 3 → ⊥) → At ws r t
   only-function g t m by-N a b c = absurd (a refl)
   only-function g t m by-L a b c = absurd (b refl)
   only-function g t m (by-list s) a b c = absurd (c refl)
@@ -173,7 +173,7 @@ module _ (ws : List ℕ) (r : Became) (n : ℕ) (n-is : n ≡ getD (drop 1 ws) 0
   at-function a b c g = turned (λ t z. only-function g t n z a b c)
 
 -- No type, or no value after it.
-module _ (ws : List ℕ) (value : ℕ) (value-is : value ≡ 1 + span (drop 1 ws) 1) where
+module _ (ws : List ℕ) {value : ℕ} (value-is : value ≡ 1 + span (drop 1 ws) 1) where
   no-type : (l : Lang) (t : Ty) (v : Term l) (k : List ℕ) → drop 1 ws ≡ putTy t (put v k) → value < 2 → ⊥
   no-type l t v k q h = omega (arith, h, value-is, span-tree type t (put v k) (drop 1 ws) q, sized (view type t))
 
@@ -187,9 +187,9 @@ module _ (ws : List ℕ) (value : ℕ) (value-is : value ≡ 1 + span (drop 1 ws
   no-value l t v k end e q h =
       omega (arith, h, stands (term l) v k ws value end (stands type t (put v k) ws 1 value q value-is .after) e .end, size-some l v)
 
-  pub boundary-no-value : (end : ℕ) → end ≡ value + span (drop value ws) 1 → end < value + 1 → OfBoundary ws Nothing
+  pub boundary-no-value : {end : ℕ} → end ≡ value + span (drop value ws) 1 → end < value + 1 → OfBoundary ws Nothing
   unfolding put
-  boundary-no-value end e h =
+  boundary-no-value {end} e h =
       record {
         ms-told = λ t v k q. absurd (no-value sc t v k end e (ap (drop 1) q) h);
         sm-told = λ t v k q. absurd (no-value ml t v k end e (ap (drop 1) q) h);

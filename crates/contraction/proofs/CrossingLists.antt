@@ -22,13 +22,13 @@ use Rattle.contraction.proofs.Parts.{Stands, sized, stands}
 use Rattle.contraction.proofs.Looks.{no-list}
 use Rattle.contraction.proofs.Crossing.{cons-words, type-stands, value-stands, value-form, inner, misfit-told}
 
-module _ (ws : List ℕ) (form-number value end : ℕ) (p : Value ws form-number value end) where
+module _ {ws : List ℕ} {form-number value end : ℕ} (p : Value ws form-number value end) where
   -- The element's type stands from 2 up to the value.
   element : (l : Lang) (t : Ty) (v : Term l) (k : List ℕ) → drop 1 ws ≡ putTy (list t) (put v k) → Stands type t (put v k) ws 2 value
   unfolding putTy sizeTy
   element l t v k q =
-      sized type t (put v k) ws 2 value (inner ws form-number value end p 3 (putTy t (put v k)) q)
-      (omega (arith, type-stands ws form-number value end p l (list t) v k q .end))
+      sized type t (put v k) ws 2 value (inner p 3 (putTy t (put v k)) q)
+      (omega (arith, type-stands p l (list t) v k q .end))
 
   list-amiss : (l : Lang) (t : Ty) (v : Term (from l)) (k : List ℕ) → drop 1 ws ≡ putTy (list t) (put v k) → (form-number ≡ 3 → ⊥)
       → (form-number ≡ 4 → ⊥)
@@ -36,13 +36,13 @@ module _ (ws : List ℕ) (form-number value end : ℕ) (p : Value ws form-number
   unfolding toML toScheme
   list-amiss ml t v k q h g =
       subst (Tells ws (misfitIn false 3 value))
-      (sym (no-list (becomes (wrong 3 (list t))) _ _ (value-form ws form-number value end p sc (list t) v k q form-number refl) h g))
-      (misfit-told ws form-number value end p sc (list t) v k 3 q)
+      (sym (no-list (becomes (wrong 3 (list t))) _ _ (value-form p sc (list t) v k q form-number refl) h g))
+      (misfit-told p sc (list t) v k 3 q)
   list-amiss sc t v k q h g =
-      subst (Tells ws Nothing) (sym (no-list nothing _ _ (value-form ws form-number value end p ml (list t) v k q form-number refl) h g)) refl
+      subst (Tells ws Nothing) (sym (no-list nothing _ _ (value-form p ml (list t) v k q form-number refl) h g)) refl
 
-  pub list-other : (scheme : Bool) → (form-number ≡ 3 → ⊥) → (form-number ≡ 4 → ⊥) → AtList ws scheme (misfitIn scheme 3 value)
-  list-other scheme h g = record { of = λ t. record { of = λ l v k q s. rw s (list-amiss l t v k q h g) } }
+  pub list-other : {scheme : Bool} → (form-number ≡ 3 → ⊥) → (form-number ≡ 4 → ⊥) → AtList ws scheme (misfitIn scheme 3 value)
+  list-other h g = record { of = λ t. record { of = λ l v k q s. rw s (list-amiss l t v k q h g) } }
 
   nil-in-ml : (l : Lang) (t : Ty) (v : Term (from l)) (k : List ℕ) → drop 1 ws ≡ putTy (list t) (put v k) → false ≡ isScheme l → Formed (from l) 3 v
       → Tells ws (Becomes (Led 24 2 value)) (converted l (list t) v)
@@ -52,7 +52,7 @@ module _ (ws : List ℕ) (form-number value end : ℕ) (p : Value ws form-number
 
   pub nil-ml : form-number ≡ 3 → AtList ws false (Becomes (Led 24 2 value))
   nil-ml h =
-      record { of = λ t. record { of = λ l v k q s. nil-in-ml l t v k q s (value-form ws form-number value end p (from l) (list t) v k q 3 h) } }
+      record { of = λ t. record { of = λ l v k q s. nil-in-ml l t v k q s (value-form p (from l) (list t) v k q 3 h) } }
 
   nil-in-scheme : (l : Lang) (t : Ty) (v : Term (from l)) → true ≡ isScheme l → Formed (from l) 3 v → Tells ws (Becomes (Led 39 0 0)) (converted l (list t) v)
   unfolding toScheme onList form put
@@ -61,31 +61,31 @@ module _ (ws : List ℕ) (form-number value end : ℕ) (p : Value ws form-number
 
   pub nil-scheme : form-number ≡ 3 → AtList ws true (Becomes (Led 39 0 0))
   nil-scheme h =
-      record { of = λ t. record { of = λ l v k q s. nil-in-scheme l t v s (value-form ws form-number value end p (from l) (list t) v k q 3 h) } }
+      record { of = λ t. record { of = λ l v k q s. nil-in-scheme l t v s (value-form p (from l) (list t) v k q 3 h) } }
 
-  module _ (tail : ℕ) (tail-is : tail ≡ value + 1 + span (drop (value + 1) ws) 1) (h : form-number ≡ 4) where
+  module _ {tail : ℕ} (tail-is : tail ≡ value + 1 + span (drop (value + 1) ws) 1) (h : form-number ≡ 4) where
     head-stands : (l : Lang) (t : Ty) (a b : Term l) (k : List ℕ) → drop 1 ws ≡ putTy (list t) (put (op2 CONS a b) k)
         → Stands (term l) a (put b k) ws (value + 1) tail
     unfolding put
     head-stands l t a b k q =
         stands (term l) a (put b k) ws (value + 1) tail
-        (sym (drop-drop 1 value ws) ∙ ap (drop 1) (type-stands ws form-number value end p l (list t) (op2 CONS a b) k q .after)) tail-is
+        (sym (drop-drop 1 value ws) ∙ ap (drop 1) (type-stands p l (list t) (op2 CONS a b) k q .after)) tail-is
 
     tail-stands : (l : Lang) (t : Ty) (a b : Term l) (k : List ℕ) → drop 1 ws ≡ putTy (list t) (put (op2 CONS a b) k)
         → Stands (term l) b k ws tail end
     unfolding size
     tail-stands l t a b k q =
         let z = head-stands l t a b k q in
-        sized (term l) b k ws tail end (z .after) (omega (arith, z .end, value-stands ws form-number value end p l (list t) (op2 CONS a b) k q .end))
+        sized (term l) b k ws tail end (z .after) (omega (arith, z .end, value-stands p l (list t) (op2 CONS a b) k q .end))
 
     cons-order : (l : Lang) (t : Ty) (v : Term l) (k : List ℕ) → drop 1 ws ≡ putTy (list t) (put v k) → end < tail → Formed l 4 v → ⊥
     cons-order l t v k q g (is-cons a b) = omega (arith, g, tail-stands l t a b k q .end)
 
-    pub cons-absurd : (scheme : Bool) → end < tail → AtList ws scheme Nothing
-    cons-absurd scheme g =
+    pub cons-absurd : {scheme : Bool} → end < tail → AtList ws scheme Nothing
+    cons-absurd g =
         record {
           of = λ t. record {
-            of = λ l v k q s. absurd (cons-order (from l) t v k q g (value-form ws form-number value end p (from l) (list t) v k q 4 h));
+            of = λ l v k q s. absurd (cons-order (from l) t v k q g (value-form p (from l) (list t) v k q 4 h));
           };
         }
 
@@ -94,13 +94,13 @@ module _ (ws : List ℕ) (form-number value end : ℕ) (p : Value ws form-number
         → Tells ws (Becomes (Cons 25 30 value tail end)) (converted l (list t) v)
     unfolding toML onList form put putTy
     cons-in-ml ml t v k q s (is-cons a b) =
-        let z = type-stands ws form-number value end p sc (list t) v k q .own in
+        let z = type-stands p sc (list t) v k q .own in
         (_, refl, rw (element sc t v k q .own, z, head-stands sc t a b k q .own, tail-stands sc t a b k q .own) (cons-words 25 30 sc t a b))
     cons-in-ml sc t v k q s f = absurd (subst T (sym s) tt)
 
     pub cons-ml : AtList ws false (Becomes (Cons 25 30 value tail end))
     cons-ml =
-        record { of = λ t. record { of = λ l v k q s. cons-in-ml l t v k q s (value-form ws form-number value end p (from l) (list t) v k q 4 h) } }
+        record { of = λ t. record { of = λ l v k q s. cons-in-ml l t v k q s (value-form p (from l) (list t) v k q 4 h) } }
 
     cons-in-scheme : (l : Lang) (t : Ty) (v : Term (from l)) (k : List ℕ) → drop 1 ws ≡ putTy (list t) (put v k) → true ≡ isScheme l
         → Formed (from l) 4 v
@@ -108,13 +108,13 @@ module _ (ws : List ℕ) (form-number value end : ℕ) (p : Value ws form-number
     unfolding toScheme onList form put putTy
     cons-in-scheme ml t v k q s f = absurd (subst T s tt)
     cons-in-scheme sc t v k q s (is-cons a b) =
-        let z = type-stands ws form-number value end p ml (list t) v k q .own in
+        let z = type-stands p ml (list t) v k q .own in
         (_, refl, rw (element ml t v k q .own, z, head-stands ml t a b k q .own, tail-stands ml t a b k q .own) (cons-words 40 45 ml t a b))
 
     pub cons-scheme : AtList ws true (Becomes (Cons 40 45 value tail end))
     cons-scheme =
         record {
           of = λ t. record {
-            of = λ l v k q s. cons-in-scheme l t v k q s (value-form ws form-number value end p (from l) (list t) v k q 4 h);
+            of = λ l v k q s. cons-in-scheme l t v k q s (value-form p (from l) (list t) v k q 4 h);
           };
         }

@@ -26,7 +26,7 @@ use Rattle.contraction.proofs.Views.{size-some}
 pub node-none : (ws : List ℕ) → length ws < 1 → OfNode ws Nothing
 node-none ws h = record { of = λ l e k q. absurd (omega (arith, h, ap length q, tree-length (term l) e k, size-some l e)) }
 
-module _ (ws : List ℕ) (shape : ℕ) (shape-is : shape ≡ rowOf (getD ws 0 0 % 256) .shape) where
+module _ (ws : List ℕ) {shape : ℕ} (shape-is : shape ≡ rowOf (getD ws 0 0 % 256) .shape) where
   shape-of : (l : Lang) (e : Term l) (k : List ℕ) → ws ≡ put e k → (n : ℕ) → shape ≡ n → Shaped l n e
   shape-of l e k q n h = by-shape l e k ws q n (sym shape-is ∙ h)
 
@@ -38,33 +38,33 @@ module _ (ws : List ℕ) (shape : ℕ) (shape-is : shape ≡ rowOf (getD ws 0 0 
   pub node-wrong : shape ≡ 8 → OfNode ws (Raises (getD ws 0 0 / 256))
   node-wrong h = record { of = λ l e k q. wrong-told l e k q (shape-of l e k q 8 h) }
 
-  one-told : (r : Became) → OfOne ws r → (l : Lang) (e : Term l) (k : List ℕ) → ws ≡ put e k → Shaped l 4 e → Tells ws r (contract e)
+  one-told : {r : Became} → OfOne ws r → (l : Lang) (e : Term l) (k : List ℕ) → ws ≡ put e k → Shaped l 4 e → Tells ws r (contract e)
   unfolding contract
-  one-told r g l e k q (one-part o a) = g .of l o a k q
+  one-told g l e k q (one-part o a) = g .of l o a k q
 
-  pub node-one : (r : Became) → shape ≡ 4 → OfOne ws r → OfNode ws r
-  node-one r h g = record { of = λ l e k q. one-told r g l e k q (shape-of l e k q 4 h) }
+  pub node-one : {r : Became} → shape ≡ 4 → OfOne ws r → OfNode ws r
+  node-one h g = record { of = λ l e k q. one-told g l e k q (shape-of l e k q 4 h) }
 
-  two-told : (r : Became) → OfTwo ws r → (l : Lang) (e : Term l) (k : List ℕ) → ws ≡ put e k → Shaped l 5 e → Tells ws r (contract e)
+  two-told : {r : Became} → OfTwo ws r → (l : Lang) (e : Term l) (k : List ℕ) → ws ≡ put e k → Shaped l 5 e → Tells ws r (contract e)
   unfolding contract
-  two-told r g l e k q (two-parts o a b) = g .of l o a b k q
+  two-told g l e k q (two-parts o a b) = g .of l o a b k q
 
-  pub node-two : (r : Became) → shape ≡ 5 → OfTwo ws r → OfNode ws r
-  node-two r h g = record { of = λ l e k q. two-told r g l e k q (shape-of l e k q 5 h) }
+  pub node-two : {r : Became} → shape ≡ 5 → OfTwo ws r → OfNode ws r
+  node-two h g = record { of = λ l e k q. two-told g l e k q (shape-of l e k q 5 h) }
 
-  if-told : (r : Became) → OfIf ws r → (l : Lang) (e : Term l) (k : List ℕ) → ws ≡ put e k → Shaped l 6 e → Tells ws r (contract e)
-  if-told r g l e k q (a-choice a b c) = g .of l a b c k q
+  if-told : {r : Became} → OfIf ws r → (l : Lang) (e : Term l) (k : List ℕ) → ws ≡ put e k → Shaped l 6 e → Tells ws r (contract e)
+  if-told g l e k q (a-choice a b c) = g .of l a b c k q
 
-  pub node-if : (r : Became) → shape ≡ 6 → OfIf ws r → OfNode ws r
-  node-if r h g = record { of = λ l e k q. if-told r g l e k q (shape-of l e k q 6 h) }
+  pub node-if : {r : Became} → shape ≡ 6 → OfIf ws r → OfNode ws r
+  node-if h g = record { of = λ l e k q. if-told g l e k q (shape-of l e k q 6 h) }
 
-  boundary-told : (r : Became) → OfBoundary ws r → (l : Lang) (e : Term l) (k : List ℕ) → ws ≡ put e k → Shaped l 9 e → Tells ws r (contract e)
+  boundary-told : {r : Became} → OfBoundary ws r → (l : Lang) (e : Term l) (k : List ℕ) → ws ≡ put e k → Shaped l 9 e → Tells ws r (contract e)
   unfolding contract
-  boundary-told r g l e k q (an-ms t a) = g .ms-told t a k q
-  boundary-told r g l e k q (an-sm t a) = g .sm-told t a k q
+  boundary-told g l e k q (an-ms t a) = g .ms-told t a k q
+  boundary-told g l e k q (an-sm t a) = g .sm-told t a k q
 
-  pub node-boundary : (r : Became) → shape ≡ 9 → OfBoundary ws r → OfNode ws r
-  node-boundary r h g = record { of = λ l e k q. boundary-told r g l e k q (shape-of l e k q 9 h) }
+  pub node-boundary : {r : Became} → shape ≡ 9 → OfBoundary ws r → OfNode ws r
+  node-boundary h g = record { of = λ l e k q. boundary-told g l e k q (shape-of l e k q 9 h) }
 
   other-told : (l : Lang) (e : Term l) (n : ℕ) → Shaped l n e → (n ≡ 8 → ⊥) → (n ≡ 4 → ⊥) → (n ≡ 5 → ⊥) → (n ≡ 6 → ⊥) → (n ≡ 9 → ⊥)
       → Tells ws Nothing (contract e)

@@ -13,7 +13,7 @@ use Rattle.calculus.specs.Reduction.{form, Became, becomes, amiss, onNumber, on
 use Rattle.contraction.specs.declared.became.Became.the-variants.{Nothing, Becomes}
 use Rattle.contraction.specs.declared.became.Piece.the-variants.{Number}
 use Rattle.contraction.specs.Forms.{isScheme}
-use Rattle.contraction.specs.Told.{Tells, Within, amissIn, nullBy, numberIn, misfitIn, overIn, sumIn}
+use Rattle.contraction.specs.Told.{Tells, PartIn, Within, amissIn, nullBy, numberIn, misfitIn, overIn, sumIn}
 use Rattle.contraction.proofs.Views.{Formed, is-number, is-function, is-nil, is-cons, is-lump, is-other}
 
 module _ {m : Lang} (o : Became m) where
@@ -60,8 +60,12 @@ unfolding amiss put
 amiss-told ws ml c = refl
 amiss-told ws sc c = (_, refl, refl)
 
+-- No words of the node.
+pub no-part : (n : ℕ) → PartIn n 0 0
+no-part n = record { order = omega arith; most = omega arith }
+
 pub amiss-placed : (n : ℕ) (s : Bool) (c : ℕ) → Within n (amissIn s c)
-amiss-placed n true c = (omega arith, omega arith)
+amiss-placed n true c = no-part n
 amiss-placed n false c = tt
 
 pub null-placed : (n form : ℕ) → Within n (nullBy form)
@@ -89,12 +93,12 @@ number-placed n false m h = (omega arith, h)
 
 pub misfit-placed : (n : ℕ) (s : Bool) (c v : ℕ) → 1 ≤ v → v ≤ n → Within n (misfitIn s c v)
 misfit-placed n true c v h g = tt
-misfit-placed n false c v h g = (h, g)
+misfit-placed n false c v h g = record { order = h; most = g }
 
 pub sum-placed : (n : ℕ) (s : Bool) (a b : ℕ) → Within n (sumIn s a b)
 sum-placed n s a b = cases (leb (a + b) 16777215) refl s
   where
     cases : (t : Bool) → leb (a + b) 16777215 ≡ t → (s : Bool) → Within n (cond t (numberIn s (a + b)) (overIn s))
     cases true e s = number-placed n s (a + b) (leb-true (a + b) 16777215 e)
-    cases false e true = (omega arith, omega arith)
-    cases false e false = (omega arith, omega arith)
+    cases false e true = no-part n
+    cases false e false = no-part n

@@ -98,7 +98,7 @@ hd-or-tl ws r l o a n is-fix h i j g = absurd (h refl)
 hd-or-tl ws r l o a n is-null h i j g = absurd (i refl)
 hd-or-tl ws r l o a n (is-test t) h i j g = absurd (j refl)
 
-module _ (ws : List ℕ) (form-number end : ℕ) (f : FirstPart ws form-number end) where
+module _ {table ws : List ℕ} {form-number end : ℕ} (f : FirstPart table ws form-number end) where
   -- The part's form, and where it ends.
   part-form : (l : Lang) (a : Term l) (k : List ℕ) → drop 1 ws ≡ put a k → (n : ℕ) → form-number ≡ n → Formed l n a
   part-form l a k q n e = by-form l a k (drop 1 ws) q n (sym (f .form-is) ∙ e)
@@ -111,17 +111,17 @@ module _ (ws : List ℕ) (form-number end : ℕ) (f : FirstPart ws form-number e
   fix-other h =
       record { of = λ a k q. subst (Tells ws Nothing) (sym (no-lambda nothing _ (part-form ml a k (ap (drop 1) q) form-number refl) h)) refl }
 
-  fix-told : (body : ℕ) → body ≡ 2 + span (drop 2 ws) 1 → (a : Term ml) (k : List ℕ) → ws ≡ put (fix a) k → end ≡ 1 + size a → Formed ml 2 a
+  fix-told : {body : ℕ} → body ≡ 2 + span (drop 2 ws) 1 → (a : Term ml) (k : List ℕ) → ws ≡ put (fix a) k → end ≡ 1 + size a → Formed ml 2 a
       → Tells ws (Becomes (Substituted 16 body 0 end)) (contract1 FIX a)
   unfolding contract1 onLambda form put size
-  fix-told body e a k q h (is-function t b) =
+  fix-told {body} e a k q h (is-function t b) =
       let body-is = stands type t (put b k) ws 2 body (ap (drop 2) q) e .after in
       (_, refl, (fix (lam t b), b, k, refl, body-is, sized (term ml) (fix (lam t b)) k ws 0 end q (omega arith) .own, refl))
 
-  pub fix-lambda : (body : ℕ) → body ≡ 2 + span (drop 2 ws) 1 → form-number ≡ 2 → OfFix ws (Becomes (Substituted 16 body 0 end))
+  pub fix-lambda : {body : ℕ} → body ≡ 2 + span (drop 2 ws) 1 → form-number ≡ 2 → OfFix ws (Becomes (Substituted 16 body 0 end))
   unfolding put
-  fix-lambda body e h =
-      record { of = λ a k q. fix-told body e a k q (part-end ml a k (ap (drop 1) q)) (part-form ml a k (ap (drop 1) q) 2 h) }
+  fix-lambda e h =
+      record { of = λ a k q. fix-told e a k q (part-end ml a k (ap (drop 1) q)) (part-form ml a k (ap (drop 1) q) 2 h) }
 
   -- hd and tl of no list, of nil, of cons.
   no-list-told : (first : Bool) (l : Lang) (a : Term l) → Formed l form-number a → (form-number ≡ 3 → ⊥) → (form-number ≡ 4 → ⊥)
@@ -130,8 +130,8 @@ module _ (ws : List ℕ) (form-number end : ℕ) (f : FirstPart ws form-number e
   no-list-told true l a g h i = subst (Tells ws (amissIn (isScheme l) 3)) (sym (no-list (amiss l 3) _ _ g h i)) (amiss-told ws l 3)
   no-list-told false l a g h i = subst (Tells ws (amissIn (isScheme l) 3)) (sym (no-list (amiss l 3) _ _ g h i)) (amiss-told ws l 3)
 
-  pub list-other : (first scheme : Bool) → (form-number ≡ 3 → ⊥) → (form-number ≡ 4 → ⊥) → OfList ws first scheme (amissIn scheme 3)
-  list-other first scheme h i =
+  pub list-other : {first scheme : Bool} → (form-number ≡ 3 → ⊥) → (form-number ≡ 4 → ⊥) → OfList ws first scheme (amissIn scheme 3)
+  list-other {first} h i =
       record { of = λ l a k q s. rw s (no-list-told first l a (part-form l a k q form-number refl) h i) }
 
   nil-scheme : (first : Bool) (l : Lang) (a : Term l) → true ≡ isScheme l → Formed l 3 a → Tells ws (Becomes (Led 1068 0 0)) (contract1 (part first) a)
@@ -141,8 +141,8 @@ module _ (ws : List ℕ) (form-number end : ℕ) (f : FirstPart ws form-number e
   nil-scheme true sc a s (is-nil t) = (_, refl, refl)
   nil-scheme false sc a s (is-nil t) = (_, refl, refl)
 
-  pub list-nil-scheme : (first : Bool) → form-number ≡ 3 → OfList ws first true (Becomes (Led 1068 0 0))
-  list-nil-scheme first h = record { of = λ l a k q s. nil-scheme first l a s (part-form l a k q 3 h) }
+  pub list-nil-scheme : {first : Bool} → form-number ≡ 3 → OfList ws first true (Becomes (Led 1068 0 0))
+  list-nil-scheme {first} h = record { of = λ l a k q s. nil-scheme first l a s (part-form l a k q 3 h) }
 
   nil-head : (l : Lang) (a : Term l) (k : List ℕ) → drop 1 ws ≡ put a k → end ≡ 1 + size a → false ≡ isScheme l → Formed l 3 a
       → Tells ws (Becomes (Led 1053 2 end)) (contract1 HD a)
@@ -164,7 +164,7 @@ module _ (ws : List ℕ) (form-number end : ℕ) (f : FirstPart ws form-number e
   pub list-nil-tail : form-number ≡ 3 → OfList ws false false (Becomes (Led2 1053 3 2 end))
   list-nil-tail h = record { of = λ l a k q s. nil-tail l a k q (part-end l a k q) s (part-form l a k q 3 h) }
 
-  module _ (middle : ℕ) (e : middle ≡ 2 + span (drop 2 ws) 1) (h : form-number ≡ 4) where
+  module _ {middle : ℕ} (e : middle ≡ 2 + span (drop 2 ws) 1) (h : form-number ≡ 4) where
     -- the head of a cons, up to its tail
     head-stands : (l : Lang) (v w : Term l) (k : List ℕ) → drop 1 ws ≡ put (op2 CONS v w) k → Stands (term l) v (put w k) ws 2 middle
     unfolding put
@@ -174,15 +174,15 @@ module _ (ws : List ℕ) (form-number end : ℕ) (f : FirstPart ws form-number e
     unfolding size
     cons-before l a k q i g (is-cons v w) = omega (arith, i, g, head-stands l v w k q .end)
 
-    pub list-absurd : (first scheme : Bool) → end < middle → OfList ws first scheme Nothing
-    list-absurd first scheme g = record { of = λ l a k q s. absurd (cons-before l a k q (part-end l a k q) g (part-form l a k q 4 h)) }
+    pub list-absurd : {first scheme : Bool} → end < middle → OfList ws first scheme Nothing
+    list-absurd g = record { of = λ l a k q s. absurd (cons-before l a k q (part-end l a k q) g (part-form l a k q 4 h)) }
 
     cons-head : (l : Lang) (a : Term l) (k : List ℕ) → drop 1 ws ≡ put a k → Formed l 4 a → Tells ws (Becomes (Part 2 middle)) (contract1 HD a)
     unfolding contract1 onList form
     cons-head l a k q (is-cons v w) = (_, refl, sym (head-stands l v w k q .own))
 
-    pub list-head : (scheme : Bool) → OfList ws true scheme (Becomes (Part 2 middle))
-    list-head scheme = record { of = λ l a k q s. cons-head l a k q (part-form l a k q 4 h) }
+    pub list-head : {scheme : Bool} → OfList ws true scheme (Becomes (Part 2 middle))
+    list-head = record { of = λ l a k q s. cons-head l a k q (part-form l a k q 4 h) }
 
     cons-tail : (l : Lang) (a : Term l) (k : List ℕ) → drop 1 ws ≡ put a k → end ≡ 1 + size a → Formed l 4 a
         → Tells ws (Becomes (Part middle end)) (contract1 TL a)
@@ -190,22 +190,22 @@ module _ (ws : List ℕ) (form-number end : ℕ) (f : FirstPart ws form-number e
     cons-tail l a k q i (is-cons v w) =
         let z = head-stands l v w k q in (_, refl, sym (sized (term l) w k ws middle end (z .after) (omega (arith, i, z .end)) .own))
 
-    pub list-tail : (scheme : Bool) → OfList ws false scheme (Becomes (Part middle end))
-    list-tail scheme = record { of = λ l a k q s. cons-tail l a k q (part-end l a k q) (part-form l a k q 4 h) }
+    pub list-tail : {scheme : Bool} → OfList ws false scheme (Becomes (Part middle end))
+    list-tail = record { of = λ l a k q s. cons-tail l a k q (part-end l a k q) (part-form l a k q 4 h) }
 
   -- The operator's rule.
-  module _ (op : ℕ) (op-is : op ≡ operator1 (getD ws 0 0)) where
+  module _ {op : ℕ} (op-is : op ≡ operator1 (getD ws 0 0)) where
     op-of : (l : Lang) (o : Op1 l) (a : Term l) (k : List ℕ) → ws ≡ put (op1 o a) k → (n : ℕ) → op ≡ n → Unary l n o
     unfolding put
     op-of l o a k q n e =
         subst (λ (j : ℕ). Unary l j o) (sym (ap (λ (v : List ℕ). operator1 (getD v 0 0)) q) ∙ sym op-is ∙ e) (unary l o)
 
-    one-of-fix : (r : Became) → OfFix ws r → (l : Lang) (o : Op1 l) (a : Term l) (k : List ℕ) → ws ≡ put (op1 o a) k → Unary l 2 o
+    one-of-fix : {r : Became} → OfFix ws r → (l : Lang) (o : Op1 l) (a : Term l) (k : List ℕ) → ws ≡ put (op1 o a) k → Unary l 2 o
         → Tells ws r (contract1 o a)
-    one-of-fix r g l o a k q is-fix = g .of a k q
+    one-of-fix g l o a k q is-fix = g .of a k q
 
-    pub one-fix : (r : Became) → op ≡ 2 → OfFix ws r → OfOne ws r
-    one-fix r e g = record { of = λ l o a k q. one-of-fix r g l o a k q (op-of l o a k q 2 e) }
+    pub one-fix : {r : Became} → op ≡ 2 → OfFix ws r → OfOne ws r
+    one-fix e g = record { of = λ l o a k q. one-of-fix g l o a k q (op-of l o a k q 2 e) }
 
     one-of-null : (l : Lang) (o : Op1 l) (a : Term l) → Formed l form-number a → Unary l 3 o → Tells ws (nullBy form-number) (contract1 o a)
     one-of-null l o a g is-null = null-told ws a form-number g
@@ -226,9 +226,9 @@ module _ (ws : List ℕ) (form-number end : ℕ) (f : FirstPart ws form-number e
     one-test e = record { of = λ l o a k q. one-of-test l o a k q (f .form-is ∙ form-at l a k (drop 1 ws) (ap (drop 1) q)) (op-of l o a k q 4 e) }
 
     -- The code says which of hd and tl it is, and of which language.
-    pub one-list : (r : Became) → (op ≡ 2 → ⊥) → (op ≡ 3 → ⊥) → (op ≡ 4 → ⊥) → OfList ws (eqb op 0) (leb 32 (getD ws 0 0)) r → OfOne ws r
+    pub one-list : {r : Became} → (op ≡ 2 → ⊥) → (op ≡ 3 → ⊥) → (op ≡ 4 → ⊥) → OfList ws (eqb op 0) (leb 32 (getD ws 0 0)) r → OfOne ws r
     unfolding put
-    one-list r h i j g =
+    one-list {r} h i j g =
         record {
           of = λ l o a k q.
               hd-or-tl ws r l o a op (op-of l o a k q op refl) h i j

@@ -67,7 +67,7 @@ number-op ws r l o a b n op-cons h i g = absurd (i refl)
 number-op ws r l o a b n is-plus h i g = g _
 number-op ws r l o a b n is-minus h i g = g _
 
-module _ (ws : List ℕ) (form-number middle end : ℕ) (p : TwoParts ws form-number middle end) where
+module _ {table ws : List ℕ} {form-number middle end : ℕ} (p : TwoParts table ws form-number middle end) where
   -- The two parts, and the first one's form.
   first-stands : (l : Lang) (a b : Term l) (k : List ℕ) → drop 1 ws ≡ put a (put b k) → Stands (term l) a (put b k) ws 1 middle
   first-stands l a b k q = stands (term l) a (put b k) ws 1 middle q (p .middle-is)
@@ -78,9 +78,9 @@ module _ (ws : List ℕ) (form-number middle end : ℕ) (p : TwoParts ws form-nu
   first-form : (l : Lang) (a : Term l) (k : List ℕ) → drop 1 ws ≡ put a k → (n : ℕ) → form-number ≡ n → Formed l n a
   first-form l a k q n e = by-form l a k (drop 1 ws) q n (sym (p .form-is) ∙ e)
 
-  pub apply-other : (scheme : Bool) → (form-number ≡ 2 → ⊥) → OfApply ws scheme (amissIn scheme 2)
+  pub apply-other : {scheme : Bool} → (form-number ≡ 2 → ⊥) → OfApply ws scheme (amissIn scheme 2)
   unfolding contract2
-  apply-other scheme h =
+  apply-other h =
       record {
         of = λ l f v k q s.
             rw s (subst (Tells ws (amissIn (isScheme l) 2)) (sym (no-lambda (amiss l 2) _ (first-form l f (put v k) q form-number refl) h))
@@ -97,19 +97,19 @@ module _ (ws : List ℕ) (form-number middle end : ℕ) (p : TwoParts ws form-nu
   pub apply-scheme : form-number ≡ 2 → OfApply ws true (Becomes (Substituted 32 2 middle end))
   apply-scheme h = record { of = λ l f v k q s. apply-sc l f v k q s (first-form l f (put v k) q 2 h) }
 
-  apply-in-ml : (body : ℕ) → body ≡ 2 + span (drop 2 ws) 1 → (l : Lang) (f v : Term l) (k : List ℕ) → drop 1 ws ≡ put f (put v k)
+  apply-in-ml : {body : ℕ} → body ≡ 2 + span (drop 2 ws) 1 → (l : Lang) (f v : Term l) (k : List ℕ) → drop 1 ws ≡ put f (put v k)
       → false ≡ isScheme l → Formed l 2 f → Tells ws (Becomes (Substituted 16 body middle end)) (contract2 l APP f v)
   unfolding contract2 onLambda form put
-  apply-in-ml body e ml f v k q s (is-function t b) =
+  apply-in-ml {body} e ml f v k q s (is-function t b) =
       let at-2 = sym (drop-drop 1 1 ws) ∙ ap (drop 1) q in
       (_, refl, (v, b, put v k, refl, stands type t (put b (put v k)) ws 2 body at-2 e .after, second-stands ml (lam t b) v k q .own, refl))
-  apply-in-ml body e sc f v k q s (is-function t b) = absurd (subst T (sym s) tt)
+  apply-in-ml {body} e sc f v k q s (is-function t b) = absurd (subst T (sym s) tt)
 
-  pub apply-ml : (body : ℕ) → body ≡ 2 + span (drop 2 ws) 1 → form-number ≡ 2 → OfApply ws false (Becomes (Substituted 16 body middle end))
-  apply-ml body e h = record { of = λ l f v k q s. apply-in-ml body e l f v k q s (first-form l f (put v k) q 2 h) }
+  pub apply-ml : {body : ℕ} → body ≡ 2 + span (drop 2 ws) 1 → form-number ≡ 2 → OfApply ws false (Becomes (Substituted 16 body middle end))
+  apply-ml e h = record { of = λ l f v k q s. apply-in-ml e l f v k q s (first-form l f (put v k) q 2 h) }
 
   -- The operator's rule.
-  module _ (op : ℕ) (op-is : op ≡ operator2 (getD ws 0 0)) where
+  module _ {op : ℕ} (op-is : op ≡ operator2 (getD ws 0 0)) where
     op-of : (l : Lang) (o : Op2) (a b : Term l) (k : List ℕ) → ws ≡ put (op2 o a b) k → (n : ℕ) → op ≡ n → Binary n o
     unfolding put
     op-of l o a b k q n e =
@@ -123,12 +123,12 @@ module _ (ws : List ℕ) (form-number middle end : ℕ) (p : TwoParts ws form-nu
     unfolding put
     tail-of l o a b k q = ap (drop 1) q
 
-    two-of-apply : (r : Became) → OfApply ws (leb 32 (getD ws 0 0)) r → (l : Lang) (o : Op2) (a b : Term l) (k : List ℕ)
+    two-of-apply : {r : Became} → OfApply ws (leb 32 (getD ws 0 0)) r → (l : Lang) (o : Op2) (a b : Term l) (k : List ℕ)
         → ws ≡ put (op2 o a b) k → Binary 0 o → Tells ws r (contract2 l o a b)
-    two-of-apply r g l o a b k q is-apply = g .of l a b k (tail-of l APP a b k q) (lang-of l APP a b k q)
+    two-of-apply g l o a b k q is-apply = g .of l a b k (tail-of l APP a b k q) (lang-of l APP a b k q)
 
-    pub two-apply : (r : Became) → op ≡ 0 → OfApply ws (leb 32 (getD ws 0 0)) r → OfTwo ws r
-    two-apply r e g = record { of = λ l o a b k q. two-of-apply r g l o a b k q (op-of l o a b k q 0 e) }
+    pub two-apply : {r : Became} → op ≡ 0 → OfApply ws (leb 32 (getD ws 0 0)) r → OfTwo ws r
+    two-apply e g = record { of = λ l o a b k q. two-of-apply g l o a b k q (op-of l o a b k q 0 e) }
 
     two-of-cons : (l : Lang) (o : Op2) (a b : Term l) → Binary 1 o → Tells ws Nothing (contract2 l o a b)
     unfolding contract2
@@ -152,7 +152,7 @@ module _ (ws : List ℕ) (form-number middle end : ℕ) (p : TwoParts ws form-nu
                 (λ f. first-amiss l a b f (first-form l a (put b k) (tail-of l o a b k q) form-number refl) h));
           }
 
-      module _ (h : form-number ≡ 1) (second : ℕ) (second-is : second ≡ formAt (drop middle ws)) where
+      module _ (h : form-number ≡ 1) {second : ℕ} (second-is : second ≡ formAt (drop middle ws)) where
         second-form : (l : Lang) (o : Op2) (a b : Term l) (k : List ℕ) → ws ≡ put (op2 o a b) k → (n : ℕ) → second ≡ n → Formed l n b
         second-form l o a b k q n e = by-form l b k (drop middle ws) (first-stands l a b k (tail-of l o a b k q) .after) n (sym second-is ∙ e)
 
@@ -170,7 +170,7 @@ module _ (ws : List ℕ) (form-number middle end : ℕ) (p : TwoParts ws form-nu
                   (λ f. second-amiss l a b f (first-form l a (put b k) (tail-of l o a b k q) 1 h) (second-form l o a b k q second refl) i));
             }
 
-        module _ (g : second ≡ 1) (x y : ℕ) (x-is : x ≡ getD (drop 1 ws) 0 0 / 256) (y-is : y ≡ getD (drop middle ws) 0 0 / 256) where
+        module _ (g : second ≡ 1) {x y : ℕ} (x-is : x ≡ getD (drop 1 ws) 0 0 / 256) (y-is : y ≡ getD (drop middle ws) 0 0 / 256) where
           plus-told : (l : Lang) (o : Op2) (a b : Term l) (k : List ℕ) → ws ≡ put (op2 o a b) k → Binary 2 o → Formed l 1 a → Formed l 1 b
               → Tells ws (sumIn (isScheme l) x y) (contract2 l o a b)
           unfolding contract2 onNumbers onNumber form

@@ -7,6 +7,7 @@ use lib.ListN.{length, drop}
 use Rattle.calculus.specs.Trees.{Ty, list, _to_, Lang, ml, sc, Op1, FIX, Op2, APP, Term, op1, op2, if0, ms, sm, fix}
 use Rattle.calculus.specs.Words.{put, putTy, words}
 use Rattle.calculus.specs.Reduction.{contract, contract1, contract2, toML, toScheme}
+use Rattle.writing.specs.Given.{Given, mostWords}
 use Rattle.writing.specs.Spans.{span}
 use Rattle.writing.specs.Wrote.{Wrote}
 use Rattle.contraction.specs.declared.became.Became.{Became}
@@ -14,13 +15,16 @@ use Rattle.contraction.specs.declared.became.Piece.{Piece}
 use Rattle.contraction.specs.Forms.{formAt, isScheme}
 use Rattle.contraction.specs.Told.{Gives, Tells, part, from, converted}
 
--- Where the words of a node of n parts end.
-pub record Ends (n : ℕ) (ws : List ℕ) (end : ℕ) : Type 0 where
-  pub is : end ≡ 1 + span (drop 1 ws) n
+-- A node of n parts, and where its words end.
+pub record Node (n : ℕ) (table ws : List ℕ) (end : ℕ) : Type 0 where
+  pub given : Given table ws
+  pub some : 1 ≤ length ws
+  pub end-is : end ≡ 1 + span (drop 1 ws) n
   pub most : end ≤ length ws
 
 -- What is known of a node's first part: its form, and where its words end.
-pub record FirstPart (ws : List ℕ) (form end : ℕ) : Type 0 where
+pub record FirstPart (table ws : List ℕ) (form end : ℕ) : Type 0 where
+  pub given : Given table ws
   pub form-is : form ≡ formAt (drop 1 ws)
   pub end-is : end ≡ 1 + span (drop 1 ws) 1
   pub least : 2 ≤ end
@@ -36,7 +40,8 @@ pub record OfOne (ws : List ℕ) (r : Became) : Type 0 where
   pub of : (l : Lang) (o : Op1 l) (a : Term l) (k : List ℕ) → ws ≡ put (op1 o a) k → Tells ws r (contract1 o a)
 
 -- What is known of a node's first two parts: the first one's form, and where the words of each end.
-pub record TwoParts (ws : List ℕ) (form middle end : ℕ) : Type 0 where
+pub record TwoParts (table ws : List ℕ) (form middle end : ℕ) : Type 0 where
+  pub given : Given table ws
   pub form-is : form ≡ formAt (drop 1 ws)
   pub middle-is : middle ≡ 1 + span (drop 1 ws) 1
   pub end-is : end ≡ middle + span (drop middle ws) 1
@@ -79,6 +84,11 @@ pub record OfBoundary (ws : List ℕ) (r : Became) : Type 0 where
 -- Whichever node it is.
 pub record OfNode (ws : List ℕ) (r : Became) : Type 0 where
   pub of : (l : Lang) (e : Term l) (k : List ℕ) → ws ≡ put e k → Tells ws r (contract e)
+
+-- Words that are not too many, to be written from a place that is not too far.
+pub record Near (ws : List ℕ) (n most : ℕ) : Type 0 where
+  pub few : length ws ≤ mostWords
+  pub place : n ≤ most
 
 -- What is written of a piece: the words of what it gives.
 pub record Writes (ws : List ℕ) (p : Piece) (b : List ℕ) (n k : ℕ) (b′ : List ℕ) : Type 0 where

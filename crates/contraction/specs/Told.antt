@@ -46,16 +46,33 @@ Tells ws r (becomes u) = (p : Piece) × (r ≡ Becomes p) × Gives ws p u
 Tells ws r (raises c) = r ≡ Raises c
 Tells ws r nothing = r ≡ Nothing
 
--- Its places are within n words, and its numbers are small.
+-- The places of a part of n words; of a cons in them, behind its type; of a lambda, behind its two types.
+pub record PartIn (n a e : ℕ) : Type 0 where
+  pub order : a ≤ e
+  pub most : e ≤ n
+
+pub record ConsIn (n v t e : ℕ) : Type 0 where
+  pub type : 2 ≤ v
+  pub head : v + 1 ≤ t
+  pub tail : t ≤ e
+  pub most : e ≤ n
+
+pub record LambdaIn (n s v e : ℕ) : Type 0 where
+  pub first : 2 ≤ s
+  pub second : s ≤ v
+  pub lambda : v ≤ e
+  pub most : e ≤ n
+
+-- A piece's places are within n words, and its numbers are small.
 abbrev pub Placed : ℕ → Piece → Type 0
 Placed n (Number k m) = (k ≤ 33) × (m ≤ 16777215)
-Placed n (Part a e) = (a ≤ e) × (e ≤ n)
-Placed n (Led w a e) = (a ≤ e) × (e ≤ n)
-Placed n (Led2 w v a e) = (a ≤ e) × (e ≤ n)
-Placed n (Cons c m v t e) = (2 ≤ v) × (v + 1 ≤ t) × (t ≤ e) × (e ≤ n)
-Placed n (IntoML s v e) = (2 ≤ s) × (s ≤ v) × (v ≤ e) × (e ≤ n)
-Placed n (IntoScheme s v e) = (2 ≤ s) × (s ≤ v) × (v ≤ e) × (e ≤ n)
-Placed n (Substituted x b a e) = (x ≤ 32) × (b ≤ n) × (a ≤ e) × (e ≤ n)
+Placed n (Part a e) = PartIn n a e
+Placed n (Led w a e) = PartIn n a e
+Placed n (Led2 w v a e) = PartIn n a e
+Placed n (Cons c m v t e) = ConsIn n v t e
+Placed n (IntoML s v e) = LambdaIn n s v e
+Placed n (IntoScheme s v e) = LambdaIn n s v e
+Placed n (Substituted x b a e) = (x ≤ 32) × (b ≤ n) × PartIn n a e
 
 abbrev pub Within : ℕ → Became → Type 0
 Within n Nothing = Unit {0}

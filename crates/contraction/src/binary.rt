@@ -8,15 +8,13 @@ use crate::forms::form_at;
 use crate::numbers::number_at;
 use nodes::kinds::Kinds;
 use nodes::words::ml_wrong;
-use nodes::words::scheme_wrong;
 use writing::spans::skip;
 ghost use mathlib.Core.Path.{_≡_};
 ghost use Prim.Native.Nat.{_≤_, _-_};
 ghost use lib.ListN.{length};
-ghost use Rattle.nodes.specs.Table.{kinds};
 ghost use Rattle.contraction.specs.Forms.{operator2};
 ghost use Rattle.contraction.specs.Told.{Within, sumIn};
-ghost use Rattle.contraction.specs.Chosen.{Ends, TwoParts, OfApply, OfTwo, OfIf};
+ghost use Rattle.contraction.specs.Chosen.{Node, TwoParts, OfApply, OfTwo, OfIf};
 
 const APP: u64 = 0;
 
@@ -58,11 +56,7 @@ fn sum(scheme: bool, a: u32, b: u32) -> Became
         return numbered(scheme, a + b);
     }
     if scheme {
-        return Became::Becomes(Piece::Led {
-            word: scheme_wrong(crate::codes::OVER),
-            from: 0,
-            to: 0,
-        });
+        return amiss(scheme, crate::codes::OVER);
     }
     Became::Becomes(Piece::Led2 {
         word: ml_wrong(crate::codes::OVER),
@@ -91,7 +85,7 @@ fn of_apply(
     middle: usize,
     end: usize,
 ) -> Became
-    requires { ⌜ (now table ≡ kinds) × (length (now words) ≤ 1048576) × TwoParts (now words) form middle end ⌝ }
+    requires { ⌜ TwoParts (now table) (now words) form middle end ⌝ }
     ensures placed { λ r. ⌜ Within (length (now (words .entry))) r ⌝ }
     ensures told { λ r. ⌜ OfApply (now (words .entry)) scheme r ⌝ }
 {
@@ -117,7 +111,7 @@ fn of_apply(
 
 // The operators of two parts. The node's words end at `end`.
 pub fn contract_2(table: &Kinds, words: &[u32], end: usize) -> Became
-    requires { ⌜ (now table ≡ kinds) × (length (now words) ≤ 1048576) × (1 ≤ length (now words)) × Ends 2 (now words) end ⌝ }
+    requires { ⌜ Node 2 (now table) (now words) end ⌝ }
     ensures placed { λ r. ⌜ Within (length (now (words .entry))) r ⌝ }
     ensures told { λ r. ⌜ OfTwo (now (words .entry)) r ⌝ }
 {
@@ -151,7 +145,7 @@ pub fn contract_2(table: &Kinds, words: &[u32], end: usize) -> Became
 
 // if0. The node's words end at `end`.
 pub fn of_if(table: &Kinds, words: &[u32], end: usize) -> Became
-    requires { ⌜ (now table ≡ kinds) × (length (now words) ≤ 1048576) × (1 ≤ length (now words)) × Ends 3 (now words) end ⌝ }
+    requires { ⌜ Node 3 (now table) (now words) end ⌝ }
     ensures placed { λ r. ⌜ Within (length (now (words .entry))) r ⌝ }
     ensures told { λ r. ⌜ OfIf (now (words .entry)) r ⌝ }
 {

@@ -12,9 +12,9 @@ ghost use mathlib.Core.Path.{_≡_};
 ghost use Prim.Native.Nat.{_≤_};
 ghost use lib.ListN.{length};
 ghost use Rattle.calculus.specs.Trees.{N, L};
-ghost use Rattle.nodes.specs.Table.{kinds};
+ghost use Rattle.writing.specs.Given.{mostWords, Given};
 ghost use Rattle.contraction.specs.Told.{Within, misfitIn};
-ghost use Rattle.contraction.specs.Chosen.{Ends, Value, AtType, AtList, AtFunction, OfBoundary};
+ghost use Rattle.contraction.specs.Chosen.{Node, Value, AtType, AtList, AtFunction, OfBoundary};
 
 // A value that has not the type, whose words end at `value`: a wrong in ML.
 fn misfit(scheme: bool, code: u32, value: usize) -> Became
@@ -45,7 +45,7 @@ fn at_number(words: &[u32], scheme: bool, form: u64, value: usize, end: usize) -
 
 // At the type L: nothing is opened on its way into ML.
 fn at_lump(words: &[u32], scheme: bool, form: u64, value: usize, end: usize) -> Became
-    requires { ⌜ (length (now words) ≤ 1048576) × Value (now words) form value end ⌝ }
+    requires { ⌜ (length (now words) ≤ mostWords) × Value (now words) form value end ⌝ }
     ensures placed { λ r. ⌜ Within (length (now (words .entry))) r ⌝ }
     ensures told { λ r. ⌜ AtType (now (words .entry)) scheme r L ⌝ }
 {
@@ -73,7 +73,7 @@ fn at_list(
     value: usize,
     end: usize,
 ) -> Became
-    requires { ⌜ (now table ≡ kinds) × (length (now words) ≤ 1048576) × Value (now words) form value end ⌝ }
+    requires { ⌜ Given (now table) (now words) × Value (now words) form value end ⌝ }
     ensures placed { λ r. ⌜ Within (length (now (words .entry))) r ⌝ }
     ensures told { λ r. ⌜ AtList (now (words .entry)) scheme r ⌝ }
 {
@@ -125,7 +125,7 @@ fn at_function(
     value: usize,
     end: usize,
 ) -> Became
-    requires { ⌜ (now table ≡ kinds) × (length (now words) ≤ 1048576) × Value (now words) form value end ⌝ }
+    requires { ⌜ Given (now table) (now words) × Value (now words) form value end ⌝ }
     ensures placed { λ r. ⌜ Within (length (now (words .entry))) r ⌝ }
     ensures told { λ r. ⌜ AtFunction (now (words .entry)) scheme r ⌝ }
 {
@@ -152,7 +152,7 @@ fn at_function(
 
 // ms or sm of a value. The node's words end at `end`.
 pub fn converted(table: &Kinds, words: &[u32], end: usize) -> Became
-    requires { ⌜ (now table ≡ kinds) × (length (now words) ≤ 1048576) × (1 ≤ length (now words)) × Ends 2 (now words) end ⌝ }
+    requires { ⌜ Node 2 (now table) (now words) end ⌝ }
     ensures placed { λ r. ⌜ Within (length (now (words .entry))) r ⌝ }
     ensures told { λ r. ⌜ OfBoundary (now (words .entry)) r ⌝ }
 {

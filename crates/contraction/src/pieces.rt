@@ -8,19 +8,20 @@ use writing::put;
 use writing::substitution::substitute;
 ghost use mathlib.Core.Path.{_≡_};
 ghost use mathlib.Core.List.{_∷_};
-ghost use Prim.Native.Nat.{_+_, _≤_, _^_};
+ghost use Prim.Native.Nat.{_+_, _*_, _≤_};
 ghost use lib.ListN.{length};
 ghost use Rattle.nodes.specs.Table.{kinds};
+ghost use Rattle.writing.specs.Given.{mostWords, mostPiece, mostPlace};
 ghost use Rattle.writing.specs.Wrote.{Wrote};
-ghost use Rattle.contraction.specs.Told.{Placed, stretch, consWords, intoMLWords, intoSchemeWords};
-ghost use Rattle.contraction.specs.Chosen.{Writes};
+ghost use Rattle.contraction.specs.Told.{PartIn, ConsIn, LambdaIn, Placed, stretch, consWords, intoMLWords, intoSchemeWords};
+ghost use Rattle.contraction.specs.Chosen.{Near, Writes};
 ghost use Rattle.contraction.specs.declared.became.Piece.the-variants.{Substituted};
 
 // A word, and after it the words from a place to another.
 fn lead(w: u32, words: &[u32], a: usize, e: usize, target: &mut [u32], n: usize) -> usize
-    requires { ⌜ (length (now words) ≤ 1048576) × (a ≤ e) × (e ≤ length (now words)) × (n ≤ 2 ^ 50) ⌝ }
+    requires { ⌜ Near (now words) n (2 * mostPlace) × PartIn (length (now words)) a e ⌝ }
     ensures { λ r. ⌜ Wrote (now (target .entry)) n (w ∷ stretch a e (now (words .entry))) r (now (target .exit)) ⌝ }
-    ensures bound { λ r. ⌜ (n ≤ r) × (r ≤ n + 1048577) ⌝ }
+    ensures bound { λ r. ⌜ (n ≤ r) × (r ≤ n + 1 + mostWords) ⌝ }
 {
     let m = put(target, n, w);
     copy(&words[a..e], target, m)
@@ -37,10 +38,9 @@ fn put_cons(
     target: &mut [u32],
     n: usize,
 ) -> usize
-    requires { ⌜ (length (now words) ≤ 1048576) × (n ≤ 2 ^ 45) ⌝ }
-    requires { ⌜ (2 ≤ value) × (value + 1 ≤ tail) × (tail ≤ end) × (end ≤ length (now words)) ⌝ }
+    requires { ⌜ Near (now words) n mostPlace × ConsIn (length (now words)) value tail end ⌝ }
     ensures { λ r. ⌜ Wrote (now (target .entry)) n (consWords cons boundary value tail end (now (words .entry))) r (now (target .exit)) ⌝ }
-    ensures bound { λ r. ⌜ (n ≤ r) × (r ≤ n + 8388608) ⌝ }
+    ensures bound { λ r. ⌜ (n ≤ r) × (r ≤ n + 8 * mostWords) ⌝ }
 {
     let head = value + 1;
     let a = put(target, n, cons);
@@ -59,10 +59,9 @@ fn into_ml(
     target: &mut [u32],
     n: usize,
 ) -> usize
-    requires { ⌜ (length (now words) ≤ 1048576) × (n ≤ 2 ^ 45) ⌝ }
-    requires { ⌜ (2 ≤ second) × (second ≤ value) × (value ≤ end) × (end ≤ length (now words)) ⌝ }
+    requires { ⌜ Near (now words) n mostPlace × LambdaIn (length (now words)) second value end ⌝ }
     ensures { λ r. ⌜ Wrote (now (target .entry)) n (intoMLWords second value end (now (words .entry))) r (now (target .exit)) ⌝ }
-    ensures bound { λ r. ⌜ (n ≤ r) × (r ≤ n + 8388608) ⌝ }
+    ensures bound { λ r. ⌜ (n ≤ r) × (r ≤ n + 8 * mostWords) ⌝ }
 {
     let a = lead(nodes::words::ML_LAMBDA, words, 2, second, target, n);
     let b = lead(nodes::words::MS, words, second, value, target, a);
@@ -87,10 +86,9 @@ fn into_scheme(
     target: &mut [u32],
     n: usize,
 ) -> usize
-    requires { ⌜ (length (now words) ≤ 1048576) × (n ≤ 2 ^ 45) ⌝ }
-    requires { ⌜ (2 ≤ second) × (second ≤ value) × (value ≤ end) × (end ≤ length (now words)) ⌝ }
+    requires { ⌜ Near (now words) n mostPlace × LambdaIn (length (now words)) second value end ⌝ }
     ensures { λ r. ⌜ Wrote (now (target .entry)) n (intoSchemeWords second value end (now (words .entry))) r (now (target .exit)) ⌝ }
-    ensures bound { λ r. ⌜ (n ≤ r) × (r ≤ n + 8388608) ⌝ }
+    ensures bound { λ r. ⌜ (n ≤ r) × (r ≤ n + 8 * mostWords) ⌝ }
 {
     let a = put(target, n, nodes::words::SCHEME_LAMBDA);
     let b = lead(nodes::words::SM, words, second, value, target, a);
@@ -109,9 +107,9 @@ fn lead_two(
     target: &mut [u32],
     n: usize,
 ) -> usize
-    requires { ⌜ (length (now words) ≤ 1048576) × (a ≤ e) × (e ≤ length (now words)) × (n ≤ 2 ^ 45) ⌝ }
+    requires { ⌜ Near (now words) n mostPlace × PartIn (length (now words)) a e ⌝ }
     ensures { λ r. ⌜ Wrote (now (target .entry)) n (w ∷ v ∷ stretch a e (now (words .entry))) r (now (target .exit)) ⌝ }
-    ensures bound { λ r. ⌜ (n ≤ r) × (r ≤ n + 8388608) ⌝ }
+    ensures bound { λ r. ⌜ (n ≤ r) × (r ≤ n + 8 * mostWords) ⌝ }
 {
     let m = put(target, n, w);
     lead(v, words, a, e, target, m)
@@ -128,10 +126,10 @@ fn substituted(
     target: &mut [u32],
     n: usize,
 ) -> usize
-    requires { ⌜ (now table ≡ kinds) × (length (now words) ≤ 1048576) × (n ≤ 2 ^ 45) ⌝ }
+    requires { ⌜ (now table ≡ kinds) × (length (now words) ≤ mostWords) × (n ≤ mostPlace) ⌝ }
     requires { ⌜ Placed (length (now words)) (Substituted x body a e) ⌝ }
     ensures { λ r. ⌜ Writes (now (words .entry)) (Substituted x body a e) (now (target .entry)) n r (now (target .exit)) ⌝ }
-    ensures bound { λ r. ⌜ (n ≤ r) × (r ≤ n + 2 ^ 41) ⌝ }
+    ensures bound { λ r. ⌜ (n ≤ r) × (r ≤ n + mostPiece) ⌝ }
 {
     let r = substitute(table, &words[body..], body, 1, x, &words[a..e], target, n);
     r.at
@@ -139,10 +137,10 @@ fn substituted(
 
 // A piece of what the node that the words start with becomes. Returns the place after it. The words may be 2^20.
 pub fn write(table: &Kinds, words: &[u32], piece: Piece, target: &mut [u32], n: usize) -> usize
-    requires { ⌜ (now table ≡ kinds) × (length (now words) ≤ 1048576) × (n ≤ 2 ^ 45) ⌝ }
+    requires { ⌜ (now table ≡ kinds) × (length (now words) ≤ mostWords) × (n ≤ mostPlace) ⌝ }
     requires { ⌜ Placed (length (now words)) piece ⌝ }
     ensures { λ r. ⌜ Writes (now (words .entry)) piece (now (target .entry)) n r (now (target .exit)) ⌝ }
-    ensures bound { λ r. ⌜ (n ≤ r) × (r ≤ n + 2 ^ 41) ⌝ }
+    ensures bound { λ r. ⌜ (n ≤ r) × (r ≤ n + mostPiece) ⌝ }
 {
     match piece {
         Piece::Number { kind, number } => put_number(kind, number, target, n),

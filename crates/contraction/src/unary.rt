@@ -6,15 +6,13 @@ use crate::became::amiss;
 use crate::forms::form_at;
 use nodes::kinds::Kinds;
 use nodes::words::ml_wrong;
-use nodes::words::scheme_wrong;
 use writing::spans::skip;
 ghost use mathlib.Core.Path.{_≡_};
 ghost use Prim.Native.Nat.{_≤_};
 ghost use lib.ListN.{length};
-ghost use Rattle.nodes.specs.Table.{kinds};
 ghost use Rattle.contraction.specs.Forms.{answerBy, operator1};
 ghost use Rattle.contraction.specs.Told.{Within, nullBy};
-ghost use Rattle.contraction.specs.Chosen.{Ends, FirstPart, OfFix, OfList, OfOne};
+ghost use Rattle.contraction.specs.Chosen.{Node, FirstPart, OfFix, OfList, OfOne};
 
 const HD: u64 = 0;
 
@@ -99,7 +97,7 @@ fn of_null(form: u64) -> Became
 
 // fix of a value, whose form is told and whose words end at `end`.
 fn of_fix(table: &Kinds, words: &[u32], form: u64, end: usize) -> Became
-    requires { ⌜ (now table ≡ kinds) × (length (now words) ≤ 1048576) × FirstPart (now words) form end ⌝ }
+    requires { ⌜ FirstPart (now table) (now words) form end ⌝ }
     ensures placed { λ r. ⌜ Within (length (now (words .entry))) r ⌝ }
     ensures told { λ r. ⌜ OfFix (now (words .entry)) r ⌝ }
 {
@@ -117,7 +115,7 @@ fn of_fix(table: &Kinds, words: &[u32], form: u64, end: usize) -> Became
 
 // hd, or tl.
 fn of_list(table: &Kinds, words: &[u32], first: bool, scheme: bool, form: u64, end: usize) -> Became
-    requires { ⌜ (now table ≡ kinds) × (length (now words) ≤ 1048576) × FirstPart (now words) form end ⌝ }
+    requires { ⌜ FirstPart (now table) (now words) form end ⌝ }
     ensures placed { λ r. ⌜ Within (length (now (words .entry))) r ⌝ }
     ensures told { λ r. ⌜ OfList (now (words .entry)) first scheme r ⌝ }
 {
@@ -141,21 +139,18 @@ fn of_list(table: &Kinds, words: &[u32], first: bool, scheme: bool, form: u64, e
         return amiss(scheme, crate::codes::NO_LIST);
     }
     if scheme {
-        return Became::Becomes(Piece::Led {
-            word: scheme_wrong(crate::codes::OF_NIL),
-            from: 0,
-            to: 0,
-        });
+        return amiss(scheme, crate::codes::OF_NIL);
     }
+    let wrong = ml_wrong(crate::codes::OF_NIL);
     if first {
         return Became::Becomes(Piece::Led {
-            word: ml_wrong(crate::codes::OF_NIL),
+            word: wrong,
             from: 2,
             to: end,
         });
     }
     Became::Becomes(Piece::Led2 {
-        word: ml_wrong(crate::codes::OF_NIL),
+        word: wrong,
         next: nodes::words::LIST,
         from: 2,
         to: end,
@@ -164,7 +159,7 @@ fn of_list(table: &Kinds, words: &[u32], first: bool, scheme: bool, form: u64, e
 
 // The operators of one part. The node's words end at `end`.
 pub fn contract_1(table: &Kinds, words: &[u32], end: usize) -> Became
-    requires { ⌜ (now table ≡ kinds) × (length (now words) ≤ 1048576) × (1 ≤ length (now words)) × Ends 1 (now words) end ⌝ }
+    requires { ⌜ Node 1 (now table) (now words) end ⌝ }
     ensures placed { λ r. ⌜ Within (length (now (words .entry))) r ⌝ }
     ensures told { λ r. ⌜ OfOne (now (words .entry)) r ⌝ }
 {

@@ -1,3 +1,4 @@
+pub mod Given
 pub mod Wrote
 pub mod Spans
 pub mod Substituted

@@ -4,10 +4,11 @@ use nodes::kinds::BASE;
 use nodes::kinds::Kinds;
 use nodes::kinds::row_at;
 ghost use mathlib.Core.Path.{_≡_};
-ghost use Prim.Native.Nat.{_+_, _*_, _<_, _≤_, _^_};
+ghost use Prim.Native.Nat.{_+_, _*_, _<_, _≤_};
 ghost use lib.ListN.{length};
 ghost use Rattle.nodes.specs.Table.{kinds};
 ghost use Rattle.nodes.specs.Walks.{sortsOf, Digits};
+ghost use Rattle.writing.specs.Given.{mostCount};
 ghost use Rattle.writing.specs.Spans.{span};
 
 // How many parts a row of the table has: its digits in base 5.
@@ -30,7 +31,7 @@ pub fn count(parts: u64) -> usize
 
 // How many words the first nodes have, so many as are due.
 pub fn skip(table: &Kinds, words: &[u32], due: usize) -> usize
-    requires { ⌜ (now table ≡ kinds) × (due + 3 * length (now words) < 2 ^ 62) ⌝ }
+    requires { ⌜ (now table ≡ kinds) × (due + 3 * length (now words) < mostCount) ⌝ }
     ensures within { λ r. ⌜ r ≤ length (now (words .entry)) ⌝ }
     ensures is { λ r. ⌜ r ≡ span (now (words .entry)) due ⌝ }
 {

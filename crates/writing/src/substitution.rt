@@ -6,9 +6,10 @@ use crate::spans::count;
 use nodes::kinds::Kinds;
 use nodes::kinds::row_at;
 ghost use mathlib.Core.Path.{_≡_};
-ghost use Prim.Native.Nat.{_+_, _*_, _<_, _≤_, _^_};
+ghost use Prim.Native.Nat.{_+_, _*_, _<_, _≤_};
 ghost use lib.ListN.{length};
 ghost use Rattle.nodes.specs.Table.{kinds};
+ghost use Rattle.writing.specs.Given.{mostWords, mostCount, halfCount};
 ghost use Rattle.writing.specs.Substituted.{Substituted};
 
 // How many words were read, and the place after the words written.
@@ -31,10 +32,10 @@ pub fn substitute(
     target: &mut [u32],
     n: usize,
 ) -> Reached
-    requires { ⌜ (now table ≡ kinds) × (at + length (now words) < 2 ^ 62) ⌝ }
-    requires { ⌜ (length (now value) ≤ 1048576) × (x + 256 * length (now words) < 4294967040) × (n + 1048576 * length (now words) < 2 ^ 61) ⌝ }
+    requires { ⌜ (now table ≡ kinds) × (at + length (now words) < mostCount) ⌝ }
+    requires { ⌜ (length (now value) ≤ mostWords) × (x + 256 * length (now words) < 4294967040) × (n + mostWords * length (now words) < halfCount) ⌝ }
     ensures within { λ r. ⌜ (at ≤ r .read) × (r .read ≤ at + length (now (words .entry))) ⌝ }
-    ensures bound { λ r. ⌜ (n ≤ r .at) × (r .at + 1048576 * at ≤ n + 1048576 * r .read) ⌝ }
+    ensures bound { λ r. ⌜ (n ≤ r .at) × (r .at + mostWords * at ≤ n + mostWords * r .read) ⌝ }
     ensures is { λ r. ⌜ Substituted (now (words .entry)) at due x (now (value .entry)) (now (target .entry)) n (r .read) (r .at) (now (target .exit)) ⌝ }
 {
     let mut left = due;

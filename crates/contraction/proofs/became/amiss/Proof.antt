@@ -3,9 +3,6 @@ use borrow.Author.Needs.{needs}
 use Rattle.contraction.proofs.became.amiss.Statement.{statement}
 use Rattle.contraction.proofs.became.amiss.Tie as tie
 
-scheme-wrong-requires : tie.Need-scheme-wrong-requires
-scheme-wrong-requires c κs = search needs
-
 returns : tie.Need-returns
 returns c = rw (c .before .if1 .taken, c .scheme-wrong .ensures)
 
@@ -13,4 +10,4 @@ returns-2 : tie.Need-returns-2
 returns-2 c = rw (c .if1 .left)
 
 pub amiss-spec : {M : Type 1} → statement M
-amiss-spec = tie.close (tie.spec scheme-wrong-requires returns returns-2)
+amiss-spec = tie.close (tie.spec (λ c κs. search needs) returns returns-2)

@@ -6,11 +6,8 @@ use Rattle.contraction.proofs.conversions.misfit.Tie as tie
 returns : tie.Need-returns
 returns c = rw (c .if1 .taken)
 
-ml-wrong-requires : tie.Need-ml-wrong-requires
-ml-wrong-requires c κs = search needs
-
 returns-2 : tie.Need-returns-2
 returns-2 c = rw (c .before .if1 .left, c .ml-wrong .ensures)
 
 pub misfit-spec : {M : Type 1} → statement M
-misfit-spec = tie.close (tie.spec returns ml-wrong-requires returns-2)
+misfit-spec = tie.close (tie.spec returns (λ c κs. search needs) returns-2)

@@ -7,7 +7,6 @@ use native.Mathlib.Omega.{arith}
 use Prim.Native.Nat.{ℕ}
 use Rattle.contraction.specs.Forms.{formBy, formAt}
 use Rattle.contraction.proofs.Views.{form-is, form-none, form-rest}
-use borrow.Author.Needs.{needs}
 use Rattle.contraction.proofs.forms.form_at.Statement.{statement}
 use Rattle.contraction.proofs.forms.form_at.Tie as tie
 
@@ -21,12 +20,6 @@ module _ (c : tie.Else4) where
 
 returns : tie.Need-returns
 returns c = form-none _ (c .if1 .taken)
-
-shared-slice-read-w : tie.Need-shared-slice-read-w
-shared-slice-read-w c = search needs
-
-row-at-requires : tie.Need-row-at-requires
-row-at-requires c κs = search needs
 
 returns-2 : tie.Need-returns-2
 returns-2 c = let r = c .before .row-at in form-is _ _ 1 (ap (λ r. r .shape) (r .ensures)) (rw (eq-eqb (r .result .shape) 2 (c .if2 .taken)))
@@ -64,9 +57,6 @@ returns-8 c =
     let ws = c .before .before .before .before .before .before .before .before .before .before .before .args .words .now in
     rest (c .before .before .before .before) 0 (rw (c .before .if7 .left, List·getD-eq-default ws 0 {n = 1} (omega arith)))
 
-shared-slice-read-if9 : tie.Need-shared-slice-read-if9
-shared-slice-read-if9 c = search needs
-
 returns-9 : tie.Need-returns-9
 returns-9 c = rest (c .before .before .before .before .before .before) 5 (rw (c .before .before .before .if7 .left, c .if9 .taken))
 
@@ -80,8 +70,8 @@ form-at-spec =
     tie.close
     (tie.spec
     returns
-    shared-slice-read-w
-    row-at-requires
+    (λ c. search needs)
+    (λ c κs. search needs)
     returns-2
     returns-3
     returns-4
@@ -89,6 +79,6 @@ form-at-spec =
     returns-6
     returns-7
     returns-8
-    shared-slice-read-if9
+    (λ c. search needs)
     returns-9
     returns-10)

@@ -2,21 +2,14 @@
 use borrow.Author.Needs.{needs}
 use lib.ListN.{List·getD-eq-default}
 use native.Mathlib.Omega.{arith}
-use borrow.Author.Needs.{needs}
 use Rattle.contraction.proofs.numbers.number_at.Statement.{statement}
 use Rattle.contraction.proofs.numbers.number_at.Tie as tie
 
 returns : tie.Need-returns
 returns c = (rw (List·getD-eq-default (c .before .before .args .words .now) 0 {n = 0} (omega arith)), omega arith)
 
-shared-slice-read-operand : tie.Need-shared-slice-read-operand
-shared-slice-read-operand c = search needs
-
-operand-requires : tie.Need-operand-requires
-operand-requires c κs = search needs
-
 returns-2 : tie.Need-returns-2
 returns-2 c = c .operand .ensures
 
 pub number-at-spec : {M : Type 1} → statement M
-number-at-spec = tie.close (tie.spec returns shared-slice-read-operand operand-requires returns-2)
+number-at-spec = tie.close (tie.spec returns (λ c. search needs) (λ c κs. search needs) returns-2)

@@ -2,76 +2,60 @@
 use borrow.Author.Needs.{needs}
 use native.Mathlib.Omega.{arith}
 use Rattle.writing.proofs.Stores.{then}
-use borrow.Author.Needs.{needs}
 use Rattle.contraction.proofs.pieces.into_scheme.Statement.{statement}
 use Rattle.contraction.proofs.pieces.into_scheme.Tie as tie
 
-put-requires : tie.Need-put-requires
-put-requires c κs = search needs
-
 lead-requires : tie.Need-lead-requires
 lead-requires c κs =
-    let s = c .before .before .before .before .before .before .before in
-    let p = s .pre .1 in
-    (s .pre .0 .0, p .1, omega (arith, p .2, p .3), omega (arith, c .before .before .before .put .ensures .place, s .pre .0 .1))
+    let put = c .before .before .before in
+    let s = put .before .before .before .before in
+    let p = s .pre .1 in (
+      record { few = s .pre .0 .few; place = omega (arith, put .put .ensures .place, s .pre .0) },
+      record { order = p .second; most = omega (arith, p) },
+    )
 
 lead-requires-2 : tie.Need-lead-requires-2
 lead-requires-2 c κs =
-    let s = c .before .before .before .before .before .before .before .before .before .before .before in
-    let p = s .pre .1 in (
-      s .pre .0 .0,
-      p .2,
-      p .3,
-      omega (
-        arith,
-        c .before .before .before .before .before .before .before .put .ensures .place,
-        c .before .before .before .lead .ensures .1 .1,
-        s .pre .0 .1,
-      ),
+    let first = c .before .before .before in
+    let put = first .before .before .before .before in
+    let s = put .before .before .before .before in (
+      record { few = s .pre .0 .few; place = omega (arith, put .put .ensures .place, first .lead .ensures .1, s .pre .0) },
+      record { order = s .pre .1 .lambda; most = s .pre .1 .most },
     )
 
 lead-requires-3 : tie.Need-lead-requires-3
 lead-requires-3 c κs =
-    let mid = c .before .before .before .before .before .before .before .before in
-    let s = mid .before .before .before .before .before .before .before in
+    let second = c .before .before .before in
+    let first = second .before .before .before .before in
+    let put = first .before .before .before .before in
+    let s = put .before .before .before .before in
     let p = s .pre .1 in (
-      s .pre .0 .0,
-      p .0,
-      omega (arith, p .1, p .2, p .3),
-      omega (
-        arith,
-        mid .before .before .before .put .ensures .place,
-        c .before .before .before .before .before .before .before .lead .ensures .1 .1,
-        c .before .before .before .lead2 .ensures .1 .1,
-        s .pre .0 .1,
-      ),
+      record {
+        few = s .pre .0 .few;
+        place = omega (arith, put .put .ensures .place, first .lead .ensures .1, second .lead2 .ensures .1, s .pre .0);
+      },
+      record { order = p .first; most = omega (arith, p) },
     )
 
 put-requires-2 : tie.Need-put-requires-2
 put-requires-2 c κs =
-    let mid = c .before .before .before .before .before .before .before .before in
-    let far = mid .before .before .before .before .before .before .before .before in
-    let s = far .before .before .before in
-    omega (
-      arith,
-      mid .before .before .before .before .before .before .before .put .ensures .place,
-      mid .before .before .before .lead .ensures .1 .1,
-      c .before .before .before .before .before .before .before .lead2 .ensures .1 .1,
-      c .before .before .before .lead3 .ensures .1 .1,
-      s .pre .0 .1,
-    )
-
-same-length : tie.Need-same-length
-same-length c = search needs
+    let third = c .before .before .before in
+    let second = third .before .before .before .before in
+    let first = second .before .before .before .before in
+    let put = first .before .before .before .before in
+    let s = put .before .before .before .before in
+    omega (arith, put .put .ensures .place, first .lead .ensures .1, second .lead2 .ensures .1, third .lead3 .ensures .1, s .pre .0)
 
 returns : tie.Need-returns
 returns c =
-    let mid = c .before .before .before .before .before .before .before .before in
-    let far = mid .before .before .before .before .before .before .before .before in
-    let a = far .before .before .put .ensures in
-    let b = mid .before .before .before .before .before .before .lead .ensures in
-    let d = mid .before .before .lead2 .ensures in
-    let e = c .before .before .before .before .before .before .lead3 .ensures in
+    let third = c .before .before .before .before .before .before in
+    let second = third .before .before .before .before in
+    let first = second .before .before .before .before in
+    let put = first .before .before .before .before in
+    let a = put .put .ensures in
+    let b = first .lead .ensures in
+    let d = second .lead2 .ensures in
+    let e = third .lead3 .ensures in
     let f = c .before .before .put2 .ensures in (
       then a (then (b .0) (then (d .0) (then (e .0) f))),
       (omega (arith, a .place, b .1, d .1, e .1, f .place), omega (arith, a .place, b .1, d .1, e .1, f .place)),
@@ -80,11 +64,4 @@ returns c =
 pub into-scheme-spec : {M : Type 1} → statement M
 into-scheme-spec =
     tie.close
-    (tie.spec
-    put-requires
-    lead-requires
-    lead-requires-2
-    lead-requires-3
-    put-requires-2
-    same-length
-    returns)
+    (tie.spec (λ c κs. search needs) lead-requires lead-requires-2 lead-requires-3 put-requires-2 (λ c. search needs) returns)

@@ -9,9 +9,6 @@ use Rattle.contraction.proofs.Dispatch.{words-write, known-piece}
 use Rattle.contraction.proofs.pieces.write.Statement.{statement}
 use Rattle.contraction.proofs.pieces.write.Tie as tie
 
-enum-known-piece : tie.Need-enum-known-piece
-enum-known-piece c = search needs
-
 put-number-requires : tie.Need-put-number-requires
 put-number-requires c κs =
     let s = c .before .before .before .before .before .before in
@@ -19,36 +16,33 @@ put-number-requires c κs =
     let p = subst (Placed (length (s .args .words .now))) (r .1) (s .pre .1) in
     (p .0, p .1, omega (arith, s .pre .0 .2))
 
-enum-known-piece-2 : tie.Need-enum-known-piece-2
-enum-known-piece-2 c = search needs
-
 mul-copy : tie.Need-mul-copy
 mul-copy c =
     let s = c .before .before .before .before .before in
     let r = c .before .piece2 .given in
     let p = subst (Placed (length (s .args .words .now))) (r .1) (s .pre .1) in
-    record { fits = omega (arith, p .0, p .1, s .pre .0 .1) }
+    record { fits = omega (arith, p, s .pre .0 .1) }
 
 sub-copy : tie.Need-sub-copy
 sub-copy c =
     let s = c .before .before .before .before .before in
     let r = c .before .piece2 .given in
     let p = subst (Placed (length (s .args .words .now))) (r .1) (s .pre .1) in
-    omega (arith, p .0, p .1)
+    omega (arith, p)
 
 part-copy-start : tie.Need-part-copy-start
 part-copy-start c =
     let s = c .before .before .before .before .before in
     let r = c .before .piece2 .given in
     let p = subst (Placed (length (s .args .words .now))) (r .1) (s .pre .1) in
-    omega (arith, p .0, p .1)
+    omega (arith, p)
 
 part-copy-end : tie.Need-part-copy-end
 part-copy-end c =
     let s = c .before .before .before .before .before in
     let r = c .before .piece2 .given in
     let p = subst (Placed (length (s .args .words .now))) (r .1) (s .pre .1) in
-    omega (arith, p .0, p .1)
+    omega (arith, p)
 
 copy-requires : tie.Need-copy-requires
 copy-requires c κs =
@@ -57,58 +51,40 @@ copy-requires c κs =
     let p = subst (Placed (length (s .args .words .now))) (r .1) (s .pre .1) in
     omega (arith, stretch-length (s .args .words .now) (r .0 .0) (r .0 .1 .0), s .pre .0 .1, s .pre .0 .2)
 
-enum-known-piece-3 : tie.Need-enum-known-piece-3
-enum-known-piece-3 c = search needs
-
 lead-requires : tie.Need-lead-requires
 lead-requires c κs =
     let s = c .before .before .before .before .before .before in
     let r = c .before .before .piece3 .given in
     let p = subst (Placed (length (s .args .words .now))) (r .1) (s .pre .1) in
-    (s .pre .0 .1, p .0, p .1, omega (arith, s .pre .0 .2))
-
-enum-known-piece-4 : tie.Need-enum-known-piece-4
-enum-known-piece-4 c = search needs
+    (record { few = s .pre .0 .1; place = omega (arith, s .pre .0 .2) }, p)
 
 lead-two-requires : tie.Need-lead-two-requires
 lead-two-requires c κs =
     let s = c .before .before .before .before .before .before in
     let r = c .before .before .piece4 .given in
     let p = subst (Placed (length (s .args .words .now))) (r .1) (s .pre .1) in
-    (s .pre .0 .1, p .0, p .1, s .pre .0 .2)
-
-enum-known-piece-5 : tie.Need-enum-known-piece-5
-enum-known-piece-5 c = search needs
+    (record { few = s .pre .0 .1; place = s .pre .0 .2 }, p)
 
 put-cons-requires : tie.Need-put-cons-requires
 put-cons-requires c κs =
     let s = c .before .before .before .before .before .before in
     let r = c .before .before .piece5 .given in
     let p = subst (Placed (length (s .args .words .now))) (r .1) (s .pre .1) in
-    ((s .pre .0 .1, s .pre .0 .2), p)
-
-enum-known-piece-6 : tie.Need-enum-known-piece-6
-enum-known-piece-6 c = search needs
+    (record { few = s .pre .0 .1; place = s .pre .0 .2 }, p)
 
 into-ml-requires : tie.Need-into-ml-requires
 into-ml-requires c κs =
     let s = c .before .before .before .before .before .before in
     let r = c .before .before .piece6 .given in
     let p = subst (Placed (length (s .args .words .now))) (r .1) (s .pre .1) in
-    ((s .pre .0 .1, s .pre .0 .2), p)
-
-enum-known-piece-7 : tie.Need-enum-known-piece-7
-enum-known-piece-7 c = search needs
+    (record { few = s .pre .0 .1; place = s .pre .0 .2 }, p)
 
 into-scheme-requires : tie.Need-into-scheme-requires
 into-scheme-requires c κs =
     let s = c .before .before .before .before .before .before in
     let r = c .before .before .piece7 .given in
     let p = subst (Placed (length (s .args .words .now))) (r .1) (s .pre .1) in
-    ((s .pre .0 .1, s .pre .0 .2), p)
-
-enum-known-piece-8 : tie.Need-enum-known-piece-8
-enum-known-piece-8 c = search needs
+    (record { few = s .pre .0 .1; place = s .pre .0 .2 }, p)
 
 substituted-requires : tie.Need-substituted-requires
 substituted-requires c κs =
@@ -117,18 +93,12 @@ substituted-requires c κs =
     let p = subst (Placed (length (s .args .words .now))) (r .1) (s .pre .1) in
     (s .pre .0, p)
 
-same-length : tie.Need-same-length
-same-length c = search needs
-
 returns : tie.Need-returns
 returns c =
     let w = c .before .before .put-number .ensures in (
       known-piece (c .before .before .before .before .before .piece .given .1) (words-write (λ l u g. g) w),
       (omega (arith, w .place), omega (arith, w .place)),
     )
-
-same-length-2 : tie.Need-same-length-2
-same-length-2 c = search needs
 
 returns-2 : tie.Need-returns-2
 returns-2 c =
@@ -138,48 +108,30 @@ returns-2 c =
     let l = stretch-length (s .args .words .now) (r .0 .0) (r .0 .1 .0) in
     (known-piece (r .1) (words-write (λ l u g. g) w), (omega (arith, w .place), omega (arith, w .place, l, s .pre .0 .1)))
 
-same-length-3 : tie.Need-same-length-3
-same-length-3 c = search needs
-
 returns-3 : tie.Need-returns-3
 returns-3 c =
     let w = c .before .before .lead .ensures in
     (known-piece (c .before .before .before .before .before .piece3 .given .1) (words-write (λ l u g. g) (w .0)), (w .1 .0, omega (arith, w .1 .1)))
-
-same-length-4 : tie.Need-same-length-4
-same-length-4 c = search needs
 
 returns-4 : tie.Need-returns-4
 returns-4 c =
     let w = c .before .before .lead-two .ensures in
     (known-piece (c .before .before .before .before .before .piece4 .given .1) (words-write (λ l u g. g) (w .0)), (w .1 .0, omega (arith, w .1 .1)))
 
-same-length-5 : tie.Need-same-length-5
-same-length-5 c = search needs
-
 returns-5 : tie.Need-returns-5
 returns-5 c =
     let w = c .before .before .put-cons .ensures in
     (known-piece (c .before .before .before .before .before .piece5 .given .1) (words-write (λ l u g. g) (w .0)), (w .1 .0, omega (arith, w .1 .1)))
-
-same-length-6 : tie.Need-same-length-6
-same-length-6 c = search needs
 
 returns-6 : tie.Need-returns-6
 returns-6 c =
     let w = c .before .before .into-ml .ensures in
     (known-piece (c .before .before .before .before .before .piece6 .given .1) (words-write (λ l u g. g) (w .0)), (w .1 .0, omega (arith, w .1 .1)))
 
-same-length-7 : tie.Need-same-length-7
-same-length-7 c = search needs
-
 returns-7 : tie.Need-returns-7
 returns-7 c =
     let w = c .before .before .into-scheme .ensures in
     (known-piece (c .before .before .before .before .before .piece7 .given .1) (words-write (λ l u g. g) (w .0)), (w .1 .0, omega (arith, w .1 .1)))
-
-same-length-8 : tie.Need-same-length-8
-same-length-8 c = search needs
 
 returns-8 : tie.Need-returns-8
 returns-8 c = let w = c .before .before .substituted .ensures in (known-piece (c .before .before .before .before .before .piece8 .given .1) (w .0), w .1)
@@ -188,39 +140,39 @@ pub write-spec : {M : Type 1} → statement M
 write-spec =
     tie.close
     (tie.spec
-    enum-known-piece
+    (λ c. search needs)
     put-number-requires
-    enum-known-piece-2
+    (λ c. search needs)
     mul-copy
     sub-copy
     part-copy-start
     part-copy-end
     copy-requires
-    enum-known-piece-3
+    (λ c. search needs)
     lead-requires
-    enum-known-piece-4
+    (λ c. search needs)
     lead-two-requires
-    enum-known-piece-5
+    (λ c. search needs)
     put-cons-requires
-    enum-known-piece-6
+    (λ c. search needs)
     into-ml-requires
-    enum-known-piece-7
+    (λ c. search needs)
     into-scheme-requires
-    enum-known-piece-8
+    (λ c. search needs)
     substituted-requires
-    same-length
+    (λ c. search needs)
     returns
-    same-length-2
+    (λ c. search needs)
     returns-2
-    same-length-3
+    (λ c. search needs)
     returns-3
-    same-length-4
+    (λ c. search needs)
     returns-4
-    same-length-5
+    (λ c. search needs)
     returns-5
-    same-length-6
+    (λ c. search needs)
     returns-6
-    same-length-7
+    (λ c. search needs)
     returns-7
-    same-length-8
+    (λ c. search needs)
     returns-8)
