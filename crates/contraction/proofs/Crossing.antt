@@ -38,6 +38,30 @@ function-words x y z l t u v k =
     (putTy-append u [] (y ∷ put v (z ∷ putTy t k))
     ∙ ap (λ (w : List ℕ). putTy u [] ++ (y ∷ w)) (put-append v [] (z ∷ putTy t k) ∙ ap (λ (w : List ℕ). put v [] ++ (z ∷ w)) (putTy-append t [] k)))
 
+-- Into one language only.
+abbrev IntoML : List ℕ → Became → Ty → Type 0
+IntoML ws r t = (v : Term sc) (k : List ℕ) → drop 1 ws ≡ putTy t (put v k) → Tells ws r (toML t v)
+
+abbrev IntoScheme : List ℕ → Became → Ty → Type 0
+IntoScheme ws r t = (v : Term ml) (k : List ℕ) → drop 1 ws ≡ putTy t (put v k) → Tells ws r (toScheme t v)
+
+module _ (ws : List ℕ) (r : Became) (t : Ty) where
+  ml-told : IntoML ws r t → (l : Lang) (v : Term (from l)) (k : List ℕ) → drop 1 ws ≡ putTy t (put v k) → false ≡ isScheme l
+      → Tells ws r (converted l t v)
+  ml-told g ml v k q s = g v k q
+  ml-told g sc v k q s = absurd (subst T (sym s) tt)
+
+  scheme-told : IntoScheme ws r t → (l : Lang) (v : Term (from l)) (k : List ℕ) → drop 1 ws ≡ putTy t (put v k) → true ≡ isScheme l
+      → Tells ws r (converted l t v)
+  scheme-told g ml v k q s = absurd (subst T s tt)
+  scheme-told g sc v k q s = g v k q
+
+pub in-ml : {ws : List ℕ} {r : Became} {t : Ty} → IntoML ws r t → AtType ws false r t
+in-ml {ws} {r} {t} g = record { of = ml-told ws r t g }
+
+pub in-scheme : {ws : List ℕ} {r : Became} {t : Ty} → IntoScheme ws r t → AtType ws true r t
+in-scheme {ws} {r} {t} g = record { of = scheme-told ws r t g }
+
 module _ {ws : List ℕ} {form-number value end : ℕ} (p : Value ws form-number value end) where
   -- The type, the value after it, and the value's form.
   pub type-stands : (l : Lang) (t : Ty) (v : Term l) (k : List ℕ) → drop 1 ws ≡ putTy t (put v k) → Stands type t (put v k) ws 1 value
@@ -83,22 +107,14 @@ module _ {ws : List ℕ} {form-number value end : ℕ} (p : Value ws form-number
     number-number h = record { of = λ l v k q s. rw s (number-at l v k q (value-form (from l) N v k q 1 h)) }
 
   -- At L.
-  lump-in-ml : (l : Lang) (v : Term (from l)) → false ≡ isScheme l → Tells ws Nothing (converted l L v)
-  unfolding toML
-  lump-in-ml ml v s = refl
-  lump-in-ml sc v s = absurd (subst T (sym s) tt)
-
   pub lump-ml : AtType ws false Nothing L
-  lump-ml = record { of = λ l v k q s. lump-in-ml l v s }
-
-  lump-amiss : (l : Lang) (v : Term (from l)) (k : List ℕ) → drop 1 ws ≡ putTy L (put v k) → true ≡ isScheme l → (form-number ≡ 5 → ⊥)
-      → Tells ws Nothing (converted l L v)
-  unfolding toScheme
-  lump-amiss ml v k q s h = absurd (subst T s tt)
-  lump-amiss sc v k q s h = subst (Tells ws Nothing) (sym (no-lump nothing _ (value-form ml L v k q form-number refl) h)) refl
+  unfolding toML
+  lump-ml = in-ml (λ v k q. refl)
 
   pub lump-other : (form-number ≡ 5 → ⊥) → AtType ws true Nothing L
-  lump-other h = record { of = λ l v k q s. lump-amiss l v k q s h }
+  unfolding toScheme
+  lump-other h =
+      in-scheme (λ v k q. subst (Tells ws Nothing) (sym (no-lump nothing _ (value-form ml L v k q form-number refl) h)) refl)
 
   lump-size : (l : Lang) (v : Term l) (k : List ℕ) → drop 1 ws ≡ putTy L (put v k) → end < value + 2 → Formed l 5 v → ⊥
   unfolding size sizeTy
@@ -107,16 +123,14 @@ module _ {ws : List ℕ} {form-number value end : ℕ} (p : Value ws form-number
   pub lump-absurd : {scheme : Bool} → form-number ≡ 5 → end < value + 2 → AtType ws scheme Nothing L
   lump-absurd h g = record { of = λ l v k q s. absurd (lump-size (from l) v k q g (value-form (from l) L v k q 5 h)) }
 
-  lump-out : (l : Lang) (v : Term (from l)) (k : List ℕ) → drop 1 ws ≡ putTy L (put v k) → true ≡ isScheme l → Formed (from l) 5 v
-      → Tells ws (Becomes (Part (value + 2) end)) (converted l L v)
+  lump-out : (v : Term ml) (k : List ℕ) → drop 1 ws ≡ putTy L (put v k) → Formed ml 5 v → Tells ws (Becomes (Part (value + 2) end)) (toScheme L v)
   unfolding toScheme onLump form put putTy size sizeTy
-  lump-out ml v k q s f = absurd (subst T s tt)
-  lump-out sc v k q s (is-lump a) =
+  lump-out v k q (is-lump a) =
       let z = sym (drop-drop 2 value ws) ∙ ap (drop 2) (type-stands ml L v k q .after) in
       (_, refl, sym (sized (term sc) a k ws (value + 2) end z (omega (arith, value-stands ml L v k q .end)) .own))
 
   pub lump-scheme : form-number ≡ 5 → AtType ws true (Becomes (Part (value + 2) end)) L
-  lump-scheme h = record { of = λ l v k q s. lump-out l v k q s (value-form (from l) L v k q 5 h) }
+  lump-scheme h = in-scheme (λ v k q. lump-out v k q (value-form ml L v k q 5 h))
 
 -- The same where the code knows the language.
 pub known-type : {ws : List ℕ} {scheme s : Bool} {r : Became} {t : Ty} → s ≡ scheme → AtType ws scheme r t → AtType ws s r t

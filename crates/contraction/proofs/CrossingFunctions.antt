@@ -3,7 +3,7 @@ use Prim.Native.Nat.{ℕ, _+_, _<_}
 use mathlib.Core.Bool.{Bool, true, false}
 use mathlib.Core.List.{List, [], _∷_, _++_}
 use mathlib.Core.Path.{_≡_, refl, sym, ap, _∙_, subst}
-use lib.Dec.{T, eqb}
+use lib.Dec.{eqb}
 use lib.ListN.{getD, drop}
 use native.Mathlib.Omega.{arith}
 use Rattle.calculus.specs.Trees.{Ty, N, L, list, _to_, Lang, ml, sc, Term, wrong}
@@ -24,7 +24,7 @@ use Rattle.contraction.proofs.Views.{Formed, is-function, size-some}
 use Rattle.contraction.proofs.Parts.{Stands, stands}
 use Rattle.contraction.proofs.Parts as parts
 use Rattle.contraction.proofs.Looks.{no-lambda}
-use Rattle.contraction.proofs.Crossing.{function-words, type-stands, value-stands, value-form, inner, misfit-told}
+use Rattle.contraction.proofs.Crossing.{function-words, in-ml, in-scheme, type-stands, value-stands, value-form, inner, misfit-told}
 
 module _ {ws : List ℕ} {form-number value end : ℕ} (p : Value ws form-number value end) where
   function-amiss : (l : Lang) (t u : Ty) (v : Term (from l)) (k : List ℕ) → drop 1 ws ≡ putTy (t to u) (put v k) → (form-number ≡ 2 → ⊥)
@@ -59,46 +59,27 @@ module _ {ws : List ℕ} {form-number value end : ℕ} (p : Value ws form-number
         record { of = λ t u. record { of = λ l v k q s. absurd (omega (arith, g, to-stands (from l) t u v k q .end)) } }
 
     module _ (h : form-number ≡ 2) where
-      function-in-ml : (l : Lang) (t u : Ty) (v : Term (from l)) (k : List ℕ) → drop 1 ws ≡ putTy (t to u) (put v k) → false ≡ isScheme l
-          → Formed (from l) 2 v
-          → Tells ws (Becomes (IntoML second value end)) (converted l (t to u) v)
+      function-into-ml : (t u : Ty) (v : Term sc) (k : List ℕ) → drop 1 ws ≡ putTy (t to u) (put v k) → Formed sc 2 v
+          → Tells ws (Becomes (IntoML second value end)) (toML (t to u) v)
       unfolding toML onLambda form put
-      function-in-ml ml t u v k q s (is-function r b) =
-          let e = putTy-append t [] _ ∙ ap (λ (w : List ℕ). putTy t [] ++ w) (function-words 30 35 45 sc t u v (16 ∷ [])) in (
-            _,
-            refl,
-            rw (from-stands sc t u v k q .own, to-stands sc t u v k q .own, value-stands p sc (t to u) v k q .own)
-                (ap (λ (w : List ℕ). 18 ∷ w) e),
-          )
-      function-in-ml sc t u v k q s f = absurd (subst T (sym s) tt)
+      function-into-ml t u v k q (is-function r b) =
+          let e = putTy-append t [] _ ∙ ap (λ (w : List ℕ). putTy t [] ++ w) (function-words 30 35 45 sc t u v (16 ∷ [])) in
+          let l = value-stands p sc (t to u) v k q .own in
+          (_, refl, rw (from-stands sc t u v k q .own, to-stands sc t u v k q .own, l) (ap (λ (w : List ℕ). 18 ∷ w) e))
 
       pub function-ml : AtFunction ws false (Becomes (IntoML second value end))
-      function-ml =
-          record {
-            of = λ t u. record {
-              of = λ l v k q s. function-in-ml l t u v k q s (value-form p (from l) (t to u) v k q 2 h);
-            };
-          }
+      function-ml = record { of = λ t u. in-ml (λ v k q. function-into-ml t u v k q (value-form p sc (t to u) v k q 2 h)) }
 
-      function-in-scheme : (l : Lang) (t u : Ty) (v : Term (from l)) (k : List ℕ) → drop 1 ws ≡ putTy (t to u) (put v k) → true ≡ isScheme l
-          → Formed (from l) 2 v
-          → Tells ws (Becomes (IntoScheme second value end)) (converted l (t to u) v)
+      function-into-scheme : (t u : Ty) (v : Term ml) (k : List ℕ) → drop 1 ws ≡ putTy (t to u) (put v k) → Formed ml 2 v
+          → Tells ws (Becomes (IntoScheme second value end)) (toScheme (t to u) v)
       unfolding toScheme onLambda form put
-      function-in-scheme ml t u v k q s f = absurd (subst T s tt)
-      function-in-scheme sc t u v k q s (is-function r b) = (
-        _,
-        refl,
-        rw (from-stands ml t u v k q .own, to-stands ml t u v k q .own, value-stands p ml (t to u) v k q .own)
-            (ap (λ (w : List ℕ). 34 ∷ w) (function-words 45 19 30 ml t u v (32 ∷ []))),
-      )
+      function-into-scheme t u v k q (is-function r b) =
+          let e = function-words 45 19 30 ml t u v (32 ∷ []) in
+          let l = value-stands p ml (t to u) v k q .own in
+          (_, refl, rw (from-stands ml t u v k q .own, to-stands ml t u v k q .own, l) (ap (λ (w : List ℕ). 34 ∷ w) e))
 
       pub function-scheme : AtFunction ws true (Becomes (IntoScheme second value end))
-      function-scheme =
-          record {
-            of = λ t u. record {
-              of = λ l v k q s. function-in-scheme l t u v k q s (value-form p (from l) (t to u) v k q 2 h);
-            };
-          }
+      function-scheme = record { of = λ t u. in-scheme (λ v k q. function-into-scheme t u v k q (value-form p ml (t to u) v k q 2 h)) }
 
 -- The type by its first word.
 data TypeBy : ℕ → Ty → Type 0 where

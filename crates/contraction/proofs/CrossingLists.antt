@@ -1,13 +1,12 @@
--- The ways out of choosing a rule for ms and sm at the type of a list, and of a function. Assumes nothing.
+-- The ways out of choosing a rule for ms and sm at the type of a list. Assumes nothing.
 use Prim.Native.Nat.{ℕ, _+_, _<_}
 use mathlib.Core.Bool.{Bool, true, false}
 use mathlib.Core.List.{List, _∷_}
 use mathlib.Core.Path.{_≡_, refl, sym, ap, _∙_, subst}
-use lib.Dec.{T}
 use lib.ListN.{drop}
 use lib.Seq.{drop-drop}
 use native.Mathlib.Omega.{arith}
-use Rattle.calculus.specs.Trees.{Ty, list, _to_, Lang, ml, sc, CONS, Term, op2, wrong}
+use Rattle.calculus.specs.Trees.{Ty, list, Lang, ml, sc, CONS, Term, op2, wrong}
 use Rattle.calculus.specs.Words.{put, putTy, size, sizeTy}
 use Rattle.calculus.specs.Kinds.{type, term}
 use Rattle.calculus.specs.Reduction.{form, becomes, nothing, onList, toML, toScheme}
@@ -20,7 +19,7 @@ use Rattle.contraction.specs.Chosen.{Value, AtList}
 use Rattle.contraction.proofs.Views.{Formed, is-nil, is-cons}
 use Rattle.contraction.proofs.Parts.{Stands, sized, stands}
 use Rattle.contraction.proofs.Looks.{no-list}
-use Rattle.contraction.proofs.Crossing.{cons-words, type-stands, value-stands, value-form, inner, misfit-told}
+use Rattle.contraction.proofs.Crossing.{cons-words, in-ml, in-scheme, type-stands, value-stands, value-form, inner, misfit-told}
 
 module _ {ws : List ℕ} {form-number value end : ℕ} (p : Value ws form-number value end) where
   -- The element's type stands from 2 up to the value.
@@ -44,24 +43,20 @@ module _ {ws : List ℕ} {form-number value end : ℕ} (p : Value ws form-number
   pub list-other : {scheme : Bool} → (form-number ≡ 3 → ⊥) → (form-number ≡ 4 → ⊥) → AtList ws scheme (misfitIn scheme 3 value)
   list-other h g = record { of = λ t. record { of = λ l v k q s. rw s (list-amiss l t v k q h g) } }
 
-  nil-in-ml : (l : Lang) (t : Ty) (v : Term (from l)) (k : List ℕ) → drop 1 ws ≡ putTy (list t) (put v k) → false ≡ isScheme l → Formed (from l) 3 v
-      → Tells ws (Becomes (Led 24 2 value)) (converted l (list t) v)
+  nil-into-ml : (t : Ty) (v : Term sc) (k : List ℕ) → drop 1 ws ≡ putTy (list t) (put v k) → Formed sc 3 v
+      → Tells ws (Becomes (Led 24 2 value)) (toML (list t) v)
   unfolding toML onList form put
-  nil-in-ml ml t v k q s (is-nil u) = (_, refl, ap (λ (w : List ℕ). 24 ∷ w) (sym (element sc t v k q .own)))
-  nil-in-ml sc t v k q s f = absurd (subst T (sym s) tt)
+  nil-into-ml t v k q (is-nil u) = (_, refl, ap (λ (w : List ℕ). 24 ∷ w) (sym (element sc t v k q .own)))
 
   pub nil-ml : form-number ≡ 3 → AtList ws false (Becomes (Led 24 2 value))
-  nil-ml h =
-      record { of = λ t. record { of = λ l v k q s. nil-in-ml l t v k q s (value-form p (from l) (list t) v k q 3 h) } }
+  nil-ml h = record { of = λ t. in-ml (λ v k q. nil-into-ml t v k q (value-form p sc (list t) v k q 3 h)) }
 
-  nil-in-scheme : (l : Lang) (t : Ty) (v : Term (from l)) → true ≡ isScheme l → Formed (from l) 3 v → Tells ws (Becomes (Led 39 0 0)) (converted l (list t) v)
+  nil-into-scheme : (t : Ty) (v : Term ml) → Formed ml 3 v → Tells ws (Becomes (Led 39 0 0)) (toScheme (list t) v)
   unfolding toScheme onList form put
-  nil-in-scheme ml t v s f = absurd (subst T s tt)
-  nil-in-scheme sc t v s (is-nil u) = (_, refl, refl)
+  nil-into-scheme t v (is-nil u) = (_, refl, refl)
 
   pub nil-scheme : form-number ≡ 3 → AtList ws true (Becomes (Led 39 0 0))
-  nil-scheme h =
-      record { of = λ t. record { of = λ l v k q s. nil-in-scheme l t v s (value-form p (from l) (list t) v k q 3 h) } }
+  nil-scheme h = record { of = λ t. in-scheme (λ v k q. nil-into-scheme t v (value-form p ml (list t) v k q 3 h)) }
 
   module _ {tail : ℕ} (tail-is : tail ≡ value + 1 + span (drop (value + 1) ws) 1) (h : form-number ≡ 4) where
     head-stands : (l : Lang) (t : Ty) (a b : Term l) (k : List ℕ) → drop 1 ws ≡ putTy (list t) (put (op2 CONS a b) k)
@@ -83,38 +78,24 @@ module _ {ws : List ℕ} {form-number value end : ℕ} (p : Value ws form-number
 
     pub cons-absurd : {scheme : Bool} → end < tail → AtList ws scheme Nothing
     cons-absurd g =
-        record {
-          of = λ t. record {
-            of = λ l v k q s. absurd (cons-order (from l) t v k q g (value-form p (from l) (list t) v k q 4 h));
-          };
-        }
+        record { of = λ t. record { of = λ l v k q s. absurd (cons-order (from l) t v k q g (value-form p (from l) (list t) v k q 4 h)) } }
 
-    cons-in-ml : (l : Lang) (t : Ty) (v : Term (from l)) (k : List ℕ) → drop 1 ws ≡ putTy (list t) (put v k) → false ≡ isScheme l
-        → Formed (from l) 4 v
-        → Tells ws (Becomes (Cons 25 30 value tail end)) (converted l (list t) v)
+    cons-into-ml : (t : Ty) (v : Term sc) (k : List ℕ) → drop 1 ws ≡ putTy (list t) (put v k) → Formed sc 4 v
+        → Tells ws (Becomes (Cons 25 30 value tail end)) (toML (list t) v)
     unfolding toML onList form put putTy
-    cons-in-ml ml t v k q s (is-cons a b) =
+    cons-into-ml t v k q (is-cons a b) =
         let z = type-stands p sc (list t) v k q .own in
         (_, refl, rw (element sc t v k q .own, z, head-stands sc t a b k q .own, tail-stands sc t a b k q .own) (cons-words 25 30 sc t a b))
-    cons-in-ml sc t v k q s f = absurd (subst T (sym s) tt)
 
     pub cons-ml : AtList ws false (Becomes (Cons 25 30 value tail end))
-    cons-ml =
-        record { of = λ t. record { of = λ l v k q s. cons-in-ml l t v k q s (value-form p (from l) (list t) v k q 4 h) } }
+    cons-ml = record { of = λ t. in-ml (λ v k q. cons-into-ml t v k q (value-form p sc (list t) v k q 4 h)) }
 
-    cons-in-scheme : (l : Lang) (t : Ty) (v : Term (from l)) (k : List ℕ) → drop 1 ws ≡ putTy (list t) (put v k) → true ≡ isScheme l
-        → Formed (from l) 4 v
-        → Tells ws (Becomes (Cons 40 45 value tail end)) (converted l (list t) v)
+    cons-into-scheme : (t : Ty) (v : Term ml) (k : List ℕ) → drop 1 ws ≡ putTy (list t) (put v k) → Formed ml 4 v
+        → Tells ws (Becomes (Cons 40 45 value tail end)) (toScheme (list t) v)
     unfolding toScheme onList form put putTy
-    cons-in-scheme ml t v k q s f = absurd (subst T s tt)
-    cons-in-scheme sc t v k q s (is-cons a b) =
+    cons-into-scheme t v k q (is-cons a b) =
         let z = type-stands p ml (list t) v k q .own in
         (_, refl, rw (element ml t v k q .own, z, head-stands ml t a b k q .own, tail-stands ml t a b k q .own) (cons-words 40 45 ml t a b))
 
     pub cons-scheme : AtList ws true (Becomes (Cons 40 45 value tail end))
-    cons-scheme =
-        record {
-          of = λ t. record {
-            of = λ l v k q s. cons-in-scheme l t v k q s (value-form p (from l) (list t) v k q 4 h);
-          };
-        }
+    cons-scheme = record { of = λ t. in-scheme (λ v k q. cons-into-scheme t v k q (value-form p ml (list t) v k q 4 h)) }

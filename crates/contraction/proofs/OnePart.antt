@@ -134,7 +134,8 @@ module _ {table ws : List ℕ} {form-number end : ℕ} (f : FirstPart table ws f
   list-other {first} h i =
       record { of = λ l a k q s. rw s (no-list-told first l a (part-form l a k q form-number refl) h i) }
 
-  nil-scheme : (first : Bool) (l : Lang) (a : Term l) → true ≡ isScheme l → Formed l 3 a → Tells ws (Becomes (Led 1068 0 0)) (contract1 (part first) a)
+  nil-scheme : (first : Bool) (l : Lang) (a : Term l) → true ≡ isScheme l → Formed l 3 a
+      → Tells ws (Becomes (Led 1068 0 0)) (contract1 (part first) a)
   unfolding contract1 onList form put
   nil-scheme true ml a s (is-nil t) = absurd (subst T s tt)
   nil-scheme false ml a s (is-nil t) = absurd (subst T s tt)

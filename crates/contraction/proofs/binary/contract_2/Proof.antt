@@ -105,8 +105,9 @@ returns-6 c =
     let a = c .before .before .before .before .number-at in
     let b = c .before .before .number-at2 in (
       rw (c .sum .ensures) (sum-placed (length (ws (at o))) (scheme o) (a .result) (b .result)),
-      rw (c .sum .ensures) (two-plus (known o) (o .operator .ensures) (f .before .before .if2 .left) (f .before .if3 .left) (f .if4 .left) (second-is n)
-          (n .if5 .left) (rest-number (ws (at o)) 1 (a .ensures .0)) (rest-number (ws (at o)) (middle (at o)) (b .ensures .0)) (c .before .if6 .taken)),
+      rw (c .sum .ensures) (two-plus (known o) (o .operator .ensures) (f .before .before .if2 .left) (f .before .if3 .left) (f .if4 .left)
+          (second-is n) (n .if5 .left) (rest-number (ws (at o)) 1 (a .ensures .0)) (rest-number (ws (at o)) (middle (at o)) (b .ensures .0))
+          (c .before .if6 .taken)),
     )
 
 returns-7 : tie.Need-returns-7
@@ -120,7 +121,8 @@ returns-7 c =
     let d = c .before .difference .ensures in (
       rw (g, d) (number-placed (length (ws (at o))) (scheme o) (a .result - b .result) (omega (arith, a .ensures .1))),
       rw (g, d) (two-minus (known o) (o .operator .ensures) (f .before .before .if2 .left) (f .before .if3 .left) (f .if4 .left) (second-is n)
-          (n .if5 .left) (rest-number (ws (at o)) 1 (a .ensures .0)) (rest-number (ws (at o)) (middle (at o)) (b .ensures .0)) (c .before .before .if6 .left)),
+          (n .if5 .left) (rest-number (ws (at o)) 1 (a .ensures .0)) (rest-number (ws (at o)) (middle (at o)) (b .ensures .0))
+          (c .before .before .if6 .left)),
     )
 
 -- What a callee asks, and that the second part starts within the words.

@@ -1,12 +1,8 @@
 -- `contraction::binary::of_apply` meets its contract. Assumes nothing.
 use borrow.Author.Needs.{needs}
-use mathlib.Core.List.{List}
-use mathlib.Core.Path.{ap, _∙_}
-use Prim.Native.Nat.{ℕ, _+_}
-use borrow.Rule.Slice.PartAt.{part-to-end}
 use native.Mathlib.Omega.{arith}
 use Rattle.nodes.proofs.Ways.{part-length}
-use Rattle.writing.specs.Spans.{span}
+use Rattle.contraction.proofs.Parts.{rest-span}
 use Rattle.contraction.proofs.Looks.{amiss-placed}
 use Rattle.contraction.proofs.TwoPart.{known-apply, apply-other, apply-scheme, apply-ml}
 use Rattle.contraction.proofs.binary.of_apply.Statement.{statement}
@@ -33,7 +29,7 @@ returns-3 c =
     let k = c .skip .ensures in (
       (omega arith, omega (arith, k .0, part-length w 2, p .least, p .order, p .most), record { order = p .order; most = p .most }),
       known-apply (c .before .before .if2 .left)
-          (apply-ml p (ap (λ (n : ℕ). 2 + n) (k .1 ∙ ap (λ (v : List ℕ). span v 1) (part-to-end w 2)))
+          (apply-ml p (rest-span w 2 (k .1))
           (c .before .before .before .if1 .left)),
     )
 

@@ -1,16 +1,13 @@
 -- `contraction::binary::of_if` meets its contract. Assumes nothing.
 use borrow.Author.Needs.{needs}
 use mathlib.Core.List.{List}
-use mathlib.Core.Path.{_≡_, ap, _∙_}
-use Prim.Native.Nat.{ℕ, _+_, _-_, _/_}
-use lib.ListN.{length, take, drop, getD}
-use borrow.Rule.Slice.PartAt.{part-to-end}
+use Prim.Native.Nat.{ℕ, _+_}
+use lib.ListN.{length}
 use native.Mathlib.Omega.{arith}
 use Rattle.nodes.proofs.Ways.{part-length}
-use Rattle.writing.specs.Spans.{span}
 use Rattle.writing.proofs.Lengths.{span-next}
-use Rattle.contraction.specs.Forms.{formAt}
 use Rattle.contraction.specs.Told.{PartIn}
+use Rattle.contraction.proofs.Parts.{rest-span, rest-form, rest-number}
 use Rattle.contraction.proofs.Choice.{ThreeParts, if-scheme, if-ml, if-zero, if-more}
 use Rattle.contraction.proofs.binary.of_if.Statement.{statement}
 use Rattle.contraction.proofs.binary.of_if.Tie as tie
@@ -31,12 +28,10 @@ module _ (c : tie.After-form-at) where
 
   known : ThreeParts ws (c .form-at .result) x y (start .args .end)
   known =
-      let first = c .before .before .before .before .skip .ensures in
-      let second = c .before .before .skip2 .ensures in
-      let x-is = ap (λ (n : ℕ). 1 + n) (first .1 ∙ ap (λ (v : List ℕ). span v 1) (part-to-end ws 1)) in
-      let y-is = ap (λ (n : ℕ). x + n) (second .1 ∙ ap (λ (v : List ℕ). span v 1) (part-to-end ws x)) in
+      let x-is = rest-span ws 1 (c .before .before .before .before .skip .ensures .1) in
+      let y-is = rest-span ws x (c .before .before .skip2 .ensures .1) in
       record {
-        form-is = c .form-at .ensures ∙ ap formAt (part-to-end ws 1);
+        form-is = rest-form ws 1 (c .form-at .ensures);
         x-is = x-is;
         y-is = y-is;
         end-is = span-next ws x y 1 1 y-is (start .args .end) (span-next ws 1 x 1 2 x-is (start .args .end) (start .pre .end-is));
@@ -45,14 +40,11 @@ module _ (c : tie.After-form-at) where
   second-part : PartIn (length ws) x y
   second-part =
       let l = c .before .before .before .before .skip .ensures .0 in
-      record { order = omega arith; most = omega (arith, l, part-length ws 1, start .pre .some, c .before .before .skip2 .ensures .0, part-length ws x) }
+      let m = c .before .before .skip2 .ensures .0 in
+      record { order = omega arith; most = omega (arith, l, m, part-length ws 1, part-length ws x, start .pre .some) }
 
   third-part : PartIn (length ws) y (start .args .end)
   third-part = record { order = omega (arith, known .end-is); most = start .pre .most }
-
-  -- The test's number.
-  test : (n : ℕ) → n ≡ getD (take (length ws - 1) (drop 1 ws)) 0 0 / 256 → n ≡ getD (drop 1 ws) 0 0 / 256
-  test n e = e ∙ ap (λ (v : List ℕ). getD v 0 0 / 256) (part-to-end ws 1)
 
 returns : tie.Need-returns
 returns c = let f = c .before .before .before in (third-part f, if-scheme (known f) (c .if2 .taken) (c .before .before .if1 .taken))
@@ -63,12 +55,14 @@ returns-2 c = (tt, if-ml (known (c .before .before .before)) (c .if2 .left) (c .
 returns-3 : tie.Need-returns-3
 returns-3 c =
     let f = c .before .before .before .before in
-    (second-part f, if-zero (known f) (c .before .before .before .if1 .left) (test f _ (c .before .number-at .ensures .0)) (c .if3 .taken))
+    let n = rest-number (ws f) 1 (c .before .number-at .ensures .0) in
+    (second-part f, if-zero (known f) (c .before .before .before .if1 .left) n (c .if3 .taken))
 
 returns-4 : tie.Need-returns-4
 returns-4 c =
     let f = c .before .before .before .before in
-    (third-part f, if-more (known f) (c .before .before .before .if1 .left) (test f _ (c .before .number-at .ensures .0)) (c .if3 .left))
+    let n = rest-number (ws f) 1 (c .before .number-at .ensures .0) in
+    (third-part f, if-more (known f) (c .before .before .before .if1 .left) n (c .if3 .left))
 
 pub of-if-spec : {M : Type 1} → statement M
 of-if-spec =

@@ -13,8 +13,10 @@ returns-2 c = (tt, lump-absurd (c .before .before .before .pre .1) (c .before .i
 
 returns-3 : tie.Need-returns-3
 returns-3 c =
-    let p = c .before .before .before .pre .1 in
-    (record { order = omega (arith, c .if3 .left); most = p .most }, known-type (c .before .before .if1 .taken) (lump-scheme p (c .before .if2 .left)))
+    let p = c .before .before .before .pre .1 in (
+      record { order = omega (arith, c .if3 .left); most = p .most },
+      known-type (c .before .before .if1 .taken) (lump-scheme p (c .before .if2 .left)),
+    )
 
 returns-4 : tie.Need-returns-4
 returns-4 c = (search needs, known-type (c .if1 .left) (lump-ml (c .before .pre .1)))

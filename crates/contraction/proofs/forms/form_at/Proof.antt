@@ -5,6 +5,7 @@ use mathlib.Core.Path.{_≡_, ap}
 use lib.ListN.{getD, List·getD-eq-default}
 use native.Mathlib.Omega.{arith}
 use Prim.Native.Nat.{ℕ}
+use mathlib.Core.List.{List}
 use Rattle.contraction.specs.Forms.{formBy, formAt}
 use Rattle.contraction.proofs.Views.{form-is, form-none, form-rest}
 use Rattle.contraction.proofs.forms.form_at.Statement.{statement}
@@ -12,8 +13,10 @@ use Rattle.contraction.proofs.forms.form_at.Tie as tie
 
 -- The first word's shape is none of the three that tell a form.
 module _ (c : tie.Else4) where
-  rest : (n : ℕ) → let ws = c .before .before .before .before .before .before .before .args .words .now in formBy 0 (getD ws 0 0) (getD ws 1 0) ≡ n
-      → n ≡ formAt ws
+  abbrev ws : List ℕ
+  ws = let start = c .before .before .before .before .before .before .before in start .args .words .now
+
+  rest : (n : ℕ) → formBy 0 (getD ws 0 0) (getD ws 1 0) ≡ n → n ≡ formAt ws
   rest n q =
       let r = c .before .before .before .row-at in
       form-rest _ _ n (ap (λ r. r .shape) (r .ensures)) (c .before .before .if2 .left) (c .before .if3 .left) (c .if4 .left) q
@@ -48,22 +51,20 @@ returns-6 c = rest (c .before .before) 4 (rw (c .if6 .taken))
 
 returns-7 : tie.Need-returns-7
 returns-7 c =
-    let w = getD (c .before .before .before .before .before .before .before .before .before .before .args .words .now) 0 0 in
     rest (c .before .before .before) 0
-    (rw (ne-eqb w 25 (c .before .before .if5 .left), ne-eqb w 40 (c .before .if6 .left), ne-eqb w 30 (c .if7 .taken)))
+    (rw (ne-eqb _ _ (c .before .before .if5 .left), ne-eqb _ _ (c .before .if6 .left), ne-eqb _ _ (c .if7 .taken)))
 
 returns-8 : tie.Need-returns-8
 returns-8 c =
-    let ws = c .before .before .before .before .before .before .before .before .before .before .before .args .words .now in
-    rest (c .before .before .before .before) 0 (rw (c .before .if7 .left, List·getD-eq-default ws 0 {n = 1} (omega arith)))
+    let e = c .before .before .before .before in
+    rest e 0 (rw (c .before .if7 .left, List·getD-eq-default (ws e) 0 {n = 1} (omega arith)))
 
 returns-9 : tie.Need-returns-9
-returns-9 c = rest (c .before .before .before .before .before .before) 5 (rw (c .before .before .before .if7 .left, c .if9 .taken))
+returns-9 c = let e = c .before .before .before .before .before .before in rest e 5 (rw (c .before .before .before .if7 .left, c .if9 .taken))
 
 returns-10 : tie.Need-returns-10
 returns-10 c =
-    let ws = c .before .before .before .before .before .before .before .before .before .before .before .before .before .args .words .now in
-    rest (c .before .before .before .before .before .before) 0 (rw (c .before .before .before .if7 .left, ne-eqb (getD ws 1 0) 2 (c .if9 .left)))
+    let e = c .before .before .before .before .before .before in rest e 0 (rw (c .before .before .before .if7 .left, ne-eqb _ _ (c .if9 .left)))
 
 pub form-at-spec : {M : Type 1} → statement M
 form-at-spec =

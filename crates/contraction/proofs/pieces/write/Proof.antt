@@ -1,97 +1,79 @@
 -- `contraction::pieces::write` meets its contract. Assumes nothing.
 use borrow.Author.Needs.{needs}
-use mathlib.Core.Path.{subst}
+use mathlib.Core.Path.{_≡_, subst}
 use lib.ListN.{length}
 use native.Mathlib.Omega.{arith}
-use Rattle.contraction.proofs.Dispatch.{stretch-length}
-use Rattle.contraction.specs.Told.{Placed}
-use Rattle.contraction.proofs.Dispatch.{words-write, known-piece}
+use Rattle.writing.specs.Given.{mostPlace}
+use Rattle.contraction.specs.declared.became.Piece.{Piece}
+use Rattle.contraction.specs.Told.{PartIn, Placed}
+use Rattle.contraction.specs.Chosen.{Near}
+use Rattle.contraction.proofs.Dispatch.{stretch-length, words-write, known-piece}
 use Rattle.contraction.proofs.pieces.write.Statement.{statement}
 use Rattle.contraction.proofs.pieces.write.Tie as tie
+
+-- What is known of the words, and of the piece once it is told.
+module _ (s : tie.Start) where
+  near : Near (s .args .words .now) (s .args .n) mostPlace
+  near = record { few = s .pre .0 .1; place = s .pre .0 .2 }
+
+  placed : {p : Piece} → s .args .piece ≡ p → Placed (length (s .args .words .now)) p
+  placed e = subst (Placed (length (s .args .words .now))) e (s .pre .1)
 
 put-number-requires : tie.Need-put-number-requires
 put-number-requires c κs =
     let s = c .before .before .before .before .before .before in
-    let r = c .before .before .piece .given in
-    let p = subst (Placed (length (s .args .words .now))) (r .1) (s .pre .1) in
-    (p .0, p .1, omega (arith, s .pre .0 .2))
+    let p = placed s (c .before .before .piece .given .1) in (p .0, p .1, omega (arith, s .pre .0 .2))
+
+-- A part of the words.
+module _ (c : tie.After-piece2) where
+  abbrev start : tie.Start
+  start = c .before .before .before .before
+
+  part : PartIn (length (start .args .words .now)) (c .piece2 .given .0 .0) (c .piece2 .given .0 .1 .0)
+  part = placed start (c .piece2 .given .1)
 
 mul-copy : tie.Need-mul-copy
-mul-copy c =
-    let s = c .before .before .before .before .before in
-    let r = c .before .piece2 .given in
-    let p = subst (Placed (length (s .args .words .now))) (r .1) (s .pre .1) in
-    record { fits = omega (arith, p, s .pre .0 .1) }
+mul-copy c = let p = part (c .before) in record { fits = omega (arith, p, start (c .before) .pre .0 .1) }
 
 sub-copy : tie.Need-sub-copy
-sub-copy c =
-    let s = c .before .before .before .before .before in
-    let r = c .before .piece2 .given in
-    let p = subst (Placed (length (s .args .words .now))) (r .1) (s .pre .1) in
-    omega (arith, p)
+sub-copy c = let p = part (c .before) in omega (arith, p)
 
 part-copy-start : tie.Need-part-copy-start
-part-copy-start c =
-    let s = c .before .before .before .before .before in
-    let r = c .before .piece2 .given in
-    let p = subst (Placed (length (s .args .words .now))) (r .1) (s .pre .1) in
-    omega (arith, p)
+part-copy-start c = let p = part (c .before) in omega (arith, p)
 
 part-copy-end : tie.Need-part-copy-end
-part-copy-end c =
-    let s = c .before .before .before .before .before in
-    let r = c .before .piece2 .given in
-    let p = subst (Placed (length (s .args .words .now))) (r .1) (s .pre .1) in
-    omega (arith, p)
+part-copy-end c = let p = part (c .before) in omega (arith, p)
 
 copy-requires : tie.Need-copy-requires
 copy-requires c κs =
-    let s = c .before .before .before .before .before .before .before in
-    let r = c .before .before .before .piece2 .given in
-    let p = subst (Placed (length (s .args .words .now))) (r .1) (s .pre .1) in
-    omega (arith, stretch-length (s .args .words .now) (r .0 .0) (r .0 .1 .0), s .pre .0 .1, s .pre .0 .2)
+    let k = c .before .before .before in
+    let r = k .piece2 .given in
+    omega (arith, stretch-length (start k .args .words .now) (r .0 .0) (r .0 .1 .0), start k .pre .0 .1, start k .pre .0 .2)
 
 lead-requires : tie.Need-lead-requires
 lead-requires c κs =
     let s = c .before .before .before .before .before .before in
-    let r = c .before .before .piece3 .given in
-    let p = subst (Placed (length (s .args .words .now))) (r .1) (s .pre .1) in
-    (record { few = s .pre .0 .1; place = omega (arith, s .pre .0 .2) }, p)
+    (record { few = s .pre .0 .1; place = omega (arith, s .pre .0 .2) }, placed s (c .before .before .piece3 .given .1))
 
 lead-two-requires : tie.Need-lead-two-requires
 lead-two-requires c κs =
-    let s = c .before .before .before .before .before .before in
-    let r = c .before .before .piece4 .given in
-    let p = subst (Placed (length (s .args .words .now))) (r .1) (s .pre .1) in
-    (record { few = s .pre .0 .1; place = s .pre .0 .2 }, p)
+    let s = c .before .before .before .before .before .before in (near s, placed s (c .before .before .piece4 .given .1))
 
 put-cons-requires : tie.Need-put-cons-requires
 put-cons-requires c κs =
-    let s = c .before .before .before .before .before .before in
-    let r = c .before .before .piece5 .given in
-    let p = subst (Placed (length (s .args .words .now))) (r .1) (s .pre .1) in
-    (record { few = s .pre .0 .1; place = s .pre .0 .2 }, p)
+    let s = c .before .before .before .before .before .before in (near s, placed s (c .before .before .piece5 .given .1))
 
 into-ml-requires : tie.Need-into-ml-requires
 into-ml-requires c κs =
-    let s = c .before .before .before .before .before .before in
-    let r = c .before .before .piece6 .given in
-    let p = subst (Placed (length (s .args .words .now))) (r .1) (s .pre .1) in
-    (record { few = s .pre .0 .1; place = s .pre .0 .2 }, p)
+    let s = c .before .before .before .before .before .before in (near s, placed s (c .before .before .piece6 .given .1))
 
 into-scheme-requires : tie.Need-into-scheme-requires
 into-scheme-requires c κs =
-    let s = c .before .before .before .before .before .before in
-    let r = c .before .before .piece7 .given in
-    let p = subst (Placed (length (s .args .words .now))) (r .1) (s .pre .1) in
-    (record { few = s .pre .0 .1; place = s .pre .0 .2 }, p)
+    let s = c .before .before .before .before .before .before in (near s, placed s (c .before .before .piece7 .given .1))
 
 substituted-requires : tie.Need-substituted-requires
 substituted-requires c κs =
-    let s = c .before .before .before .before .before .before in
-    let r = c .before .before .piece8 .given in
-    let p = subst (Placed (length (s .args .words .now))) (r .1) (s .pre .1) in
-    (s .pre .0, p)
+    let s = c .before .before .before .before .before .before in (s .pre .0, placed s (c .before .before .piece8 .given .1))
 
 returns : tie.Need-returns
 returns c =
@@ -103,10 +85,10 @@ returns c =
 returns-2 : tie.Need-returns-2
 returns-2 c =
     let w = c .before .before .copy .ensures in
-    let s = c .before .before .before .before .before .before .before .before .before .before in
-    let r = c .before .before .before .before .before .before .piece2 .given in
-    let l = stretch-length (s .args .words .now) (r .0 .0) (r .0 .1 .0) in
-    (known-piece (r .1) (words-write (λ l u g. g) w), (omega (arith, w .place), omega (arith, w .place, l, s .pre .0 .1)))
+    let k = c .before .before .before .before .before .before in
+    let r = k .piece2 .given in
+    let l = stretch-length (start k .args .words .now) (r .0 .0) (r .0 .1 .0) in
+    (known-piece (r .1) (words-write (λ l u g. g) w), (omega (arith, w .place), omega (arith, w .place, l, start k .pre .0 .1)))
 
 returns-3 : tie.Need-returns-3
 returns-3 c =
@@ -134,7 +116,9 @@ returns-7 c =
     (known-piece (c .before .before .before .before .before .piece7 .given .1) (words-write (λ l u g. g) (w .0)), (w .1 .0, omega (arith, w .1 .1)))
 
 returns-8 : tie.Need-returns-8
-returns-8 c = let w = c .before .before .substituted .ensures in (known-piece (c .before .before .before .before .before .piece8 .given .1) (w .0), w .1)
+returns-8 c =
+    let w = c .before .before .substituted .ensures in
+    (known-piece (c .before .before .before .before .before .piece8 .given .1) (w .0), w .1)
 
 pub write-spec : {M : Type 1} → statement M
 write-spec =

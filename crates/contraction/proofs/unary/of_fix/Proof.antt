@@ -1,12 +1,8 @@
 -- `contraction::unary::of_fix` meets its contract. Assumes nothing.
 use borrow.Author.Needs.{needs}
-use mathlib.Core.Path.{ap, _∙_}
-use Prim.Native.Nat.{ℕ, _+_}
-use mathlib.Core.List.{List}
-use borrow.Rule.Slice.PartAt.{part-to-end}
 use native.Mathlib.Omega.{arith}
 use Rattle.nodes.proofs.Ways.{part-length}
-use Rattle.writing.specs.Spans.{span}
+use Rattle.contraction.proofs.Parts.{rest-span}
 use Rattle.contraction.proofs.OnePart.{fix-other, fix-lambda}
 use Rattle.contraction.proofs.unary.of_fix.Statement.{statement}
 use Rattle.contraction.proofs.unary.of_fix.Tie as tie
@@ -21,7 +17,7 @@ returns-2 c =
     let k = c .skip .ensures in
     let p = s .pre in (
       (omega arith, omega (arith, k .0, part-length w 2, p .least, p .most), record { order = omega arith; most = p .most }),
-      fix-lambda p (ap (λ (n : ℕ). 2 + n) (k .1 ∙ ap (λ (v : List ℕ). span v 1) (part-to-end w 2))) (c .before .before .if1 .left),
+      fix-lambda p (rest-span w 2 (k .1)) (c .before .before .if1 .left),
     )
 
 pub of-fix-spec : {M : Type 1} → statement M

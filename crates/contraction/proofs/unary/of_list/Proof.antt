@@ -1,13 +1,11 @@
 -- `contraction::unary::of_list` meets its contract. Assumes nothing.
 use borrow.Author.Needs.{needs}
-use mathlib.Core.List.{List}
-use mathlib.Core.Path.{_≡_, refl, ap, _∙_}
-use Prim.Native.Nat.{ℕ, _+_}
+use mathlib.Core.Path.{_≡_, refl}
+use Prim.Native.Nat.{_+_}
 use lib.ListN.{drop}
-use borrow.Rule.Slice.PartAt.{part-to-end}
 use native.Mathlib.Omega.{arith}
-use Rattle.nodes.proofs.Ways.{part-length}
 use Rattle.writing.specs.Spans.{span}
+use Rattle.contraction.proofs.Parts.{rest-span}
 use Rattle.contraction.proofs.Looks.{no-part, amiss-placed}
 use Rattle.contraction.proofs.OnePart.{known-list, list-other, list-nil-scheme, list-nil-head, list-nil-tail, list-absurd, list-head}
 use Rattle.contraction.proofs.OnePart.{list-tail}
@@ -16,10 +14,11 @@ use Rattle.contraction.proofs.unary.of_list.Tie as tie
 
 -- Where the tail of a cons starts.
 module _ (c : tie.After-skip) where
-  middle : 2 + c .skip .result ≡ 2 + span (drop 2 (c .before .before .before .before .args .words .now)) 1
-  middle =
-      ap (λ (n : ℕ). 2 + n)
-      (c .skip .ensures .1 ∙ ap (λ (v : List ℕ). span v 1) (part-to-end (c .before .before .before .before .args .words .now) 2))
+  abbrev start : tie.Start
+  start = c .before .before .before .before
+
+  middle : 2 + c .skip .result ≡ 2 + span (drop 2 (start .args .words .now)) 1
+  middle = rest-span (start .args .words .now) 2 (c .skip .ensures .1)
 
 returns : tie.Need-returns
 returns c =
