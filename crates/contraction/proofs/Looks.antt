@@ -72,8 +72,8 @@ pub null-placed : (n form : ℕ) → Within n (nullBy form)
 null-placed n form = cases (eqb form 3) (eqb form 4)
   where
     cases : (a b : Bool) → Within n (cond a (Becomes (Number 17 0)) (cond b (Becomes (Number 17 1)) Nothing))
-    cases true b = (omega arith, omega arith)
-    cases false true = (omega arith, omega arith)
+    cases true b = record { kind = omega arith; small = omega arith }
+    cases false true = record { kind = omega arith; small = omega arith }
     cases false false = tt
 
 -- A number of a language, as a rule and as a word.
@@ -88,8 +88,8 @@ number-of ml n k ws q = ap (λ (v : List ℕ). getD v 0 0 / 256) q ∙ omega ari
 number-of sc n k ws q = ap (λ (v : List ℕ). getD v 0 0 / 256) q ∙ omega arith
 
 pub number-placed : (n : ℕ) (s : Bool) (m : ℕ) → m ≤ 16777215 → Within n (numberIn s m)
-number-placed n true m h = (omega arith, h)
-number-placed n false m h = (omega arith, h)
+number-placed n true m h = record { kind = omega arith; small = h }
+number-placed n false m h = record { kind = omega arith; small = h }
 
 pub misfit-placed : (n : ℕ) (s : Bool) (c v : ℕ) → 1 ≤ v → v ≤ n → Within n (misfitIn s c v)
 misfit-placed n true c v h g = tt

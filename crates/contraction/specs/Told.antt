@@ -46,7 +46,12 @@ Tells ws r (becomes u) = (p : Piece) × (r ≡ Becomes p) × Gives ws p u
 Tells ws r (raises c) = r ≡ Raises c
 Tells ws r nothing = r ≡ Nothing
 
--- The places of a part of n words; of a cons in them, behind its type; of a lambda, behind its two types.
+-- A number of a kind.
+pub record NumberOf (k m : ℕ) : Type 0 where
+  pub kind : k ≤ 33
+  pub small : m ≤ 16777215
+
+-- The places of a part of n words; of a cons in them, behind its type; of a lambda, behind its two types; of a body and a value.
 pub record PartIn (n a e : ℕ) : Type 0 where
   pub order : a ≤ e
   pub most : e ≤ n
@@ -63,16 +68,22 @@ pub record LambdaIn (n s v e : ℕ) : Type 0 where
   pub lambda : v ≤ e
   pub most : e ≤ n
 
+pub record BodyIn (n x b a e : ℕ) : Type 0 where
+  pub variable : x ≤ 32
+  pub body : b ≤ n
+  pub order : a ≤ e
+  pub most : e ≤ n
+
 -- A piece's places are within n words, and its numbers are small.
 abbrev pub Placed : ℕ → Piece → Type 0
-Placed n (Number k m) = (k ≤ 33) × (m ≤ 16777215)
+Placed n (Number k m) = NumberOf k m
 Placed n (Part a e) = PartIn n a e
 Placed n (Led w a e) = PartIn n a e
 Placed n (Led2 w v a e) = PartIn n a e
 Placed n (Cons c m v t e) = ConsIn n v t e
 Placed n (IntoML s v e) = LambdaIn n s v e
 Placed n (IntoScheme s v e) = LambdaIn n s v e
-Placed n (Substituted x b a e) = (x ≤ 32) × (b ≤ n) × PartIn n a e
+Placed n (Substituted x b a e) = BodyIn n x b a e
 
 abbrev pub Within : ℕ → Became → Type 0
 Within n Nothing = Unit {0}

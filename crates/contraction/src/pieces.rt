@@ -11,7 +11,7 @@ ghost use mathlib.Core.List.{_∷_};
 ghost use Prim.Native.Nat.{_+_, _*_, _≤_};
 ghost use lib.ListN.{length};
 ghost use Rattle.nodes.specs.Table.{kinds};
-ghost use Rattle.writing.specs.Given.{mostWords, mostPiece, mostPlace};
+ghost use Rattle.writing.specs.Given.{mostWords, mostPiece, mostPlace, Given};
 ghost use Rattle.writing.specs.Wrote.{Wrote};
 ghost use Rattle.contraction.specs.Told.{PartIn, ConsIn, LambdaIn, Placed, stretch, consWords, intoMLWords, intoSchemeWords};
 ghost use Rattle.contraction.specs.Chosen.{Near, Writes};
@@ -126,7 +126,7 @@ fn substituted(
     target: &mut [u32],
     n: usize,
 ) -> usize
-    requires { ⌜ (now table ≡ kinds) × (length (now words) ≤ mostWords) × (n ≤ mostPlace) ⌝ }
+    requires { ⌜ Given (now table) (now words) × (n ≤ mostPlace) ⌝ }
     requires { ⌜ Placed (length (now words)) (Substituted x body a e) ⌝ }
     ensures { λ r. ⌜ Writes (now (words .entry)) (Substituted x body a e) (now (target .entry)) n r (now (target .exit)) ⌝ }
     ensures bound { λ r. ⌜ (n ≤ r) × (r ≤ n + mostPiece) ⌝ }

@@ -17,7 +17,7 @@ returns c =
 returns-2 : tie.Need-returns-2
 returns-2 c =
     let p = c .before .before .before .pre in (
-      (omega arith, omega (arith, p .least, p .order, p .most), record { order = p .order; most = p .most }),
+      record { variable = omega arith; body = omega (arith, p .least, p .order, p .most); order = p .order; most = p .most },
       known-apply (c .if2 .taken) (apply-scheme p (c .before .if1 .left)),
     )
 
@@ -27,7 +27,7 @@ returns-3 c =
     let p = s .pre in
     let w = s .args .words .now in
     let k = c .skip .ensures in (
-      (omega arith, omega (arith, k .0, part-length w 2, p .least, p .order, p .most), record { order = p .order; most = p .most }),
+      record { variable = omega arith; body = omega (arith, k .0, part-length w 2, p); order = p .order; most = p .most },
       known-apply (c .before .before .if2 .left)
           (apply-ml p (rest-span w 2 (k .1))
           (c .before .before .before .if1 .left)),

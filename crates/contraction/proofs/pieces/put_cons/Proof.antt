@@ -13,7 +13,7 @@ lead-requires c κs =
     let s = put .before .before .before .before in
     let p = s .pre .1 in (
       record { few = s .pre .0 .few; place = omega (arith, put .put .ensures .place, s .pre .0) },
-      record { order = p .type; most = omega (arith, p) },
+      record { order = omega (arith, p); most = omega (arith, p) },
     )
 
 copy-requires : tie.Need-copy-requires
@@ -22,7 +22,8 @@ copy-requires c κs =
     let put = lead .before .before .before .before in
     let s = put .before .before .before .before in
     let l = stretch-length (s .args .words .now) (s .args .value + 1) (s .args .tail) in
-    omega (arith, l, put .put .ensures .place, lead .lead .ensures .1, s .pre .0)
+    let m = stretch-length (s .args .words .now) (s .args .tail) (s .args .end) in
+    omega (arith, l, m, put .put .ensures .place, lead .lead .ensures .1, s .pre .0)
 
 lead-requires-2 : tie.Need-lead-requires-2
 lead-requires-2 c κs =
@@ -31,12 +32,13 @@ lead-requires-2 c κs =
     let put = lead .before .before .before .before in
     let s = put .before .before .before .before in
     let l = stretch-length (s .args .words .now) (s .args .value + 1) (s .args .tail) in
+    let m = stretch-length (s .args .words .now) (s .args .tail) (s .args .end) in
     let p = s .pre .1 in (
       record {
         few = s .pre .0 .few;
-        place = omega (arith, l, put .put .ensures .place, lead .lead .ensures .1, copy .copy .ensures .place, s .pre .0);
+        place = omega (arith, l, m, put .put .ensures .place, lead .lead .ensures .1, copy .copy .ensures .place, s .pre .0);
       },
-      record { order = omega (arith, p .type); most = omega (arith, p) },
+      record { order = omega (arith, p); most = omega (arith, p) },
     )
 
 copy-requires-2 : tie.Need-copy-requires-2

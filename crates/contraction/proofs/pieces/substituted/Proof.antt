@@ -2,19 +2,19 @@
 use borrow.Author.Needs.{needs}
 use native.Mathlib.Omega.{arith}
 use Rattle.nodes.proofs.Ways.{part-length}
-use Rattle.contraction.proofs.Dispatch.{stretch-length}
-use Rattle.contraction.proofs.Dispatch.{substituted-writes}
+use Rattle.contraction.proofs.Dispatch.{stretch-length, substituted-writes}
 use Rattle.contraction.proofs.pieces.substituted.Statement.{statement}
 use Rattle.contraction.proofs.pieces.substituted.Tie as tie
 
 substitute-requires : tie.Need-substitute-requires
 substitute-requires c κs =
     let s = c .before .before .before .before .before in
+    let g = s .pre .0 .0 in
     let p = s .pre .1 in
     let l = part-length (s .args .words .now) (s .args .body) in
     let m = stretch-length (s .args .words .now) (s .args .a) (s .args .e) in (
-      (s .pre .0 .0, omega (arith, l, p .1, s .pre .0 .1)),
-      (omega (arith, m, s .pre .0 .1), omega (arith, l, p .0, s .pre .0 .1), omega (arith, l, s .pre .0 .1, s .pre .0 .2)),
+      (g .table-is, omega (arith, l, p .body, g .few)),
+      (omega (arith, m, g .few), omega (arith, l, p .variable, g .few), omega (arith, l, g .few, s .pre .0 .1)),
     )
 
 returns : tie.Need-returns
@@ -22,7 +22,7 @@ returns c =
     let s = c .before .before .before .before .before .before .before .before in
     let r = c .before .before .substitute .ensures in
     let l = part-length (s .args .words .now) (s .args .body) in
-    (substituted-writes _ _ _ _ _ _ _ _ _ _ (r .1 .1), (r .1 .0 .0, omega (arith, l, r .0 .1, r .1 .0 .1, s .pre .0 .1)))
+    (substituted-writes _ _ _ _ _ _ _ _ _ _ (r .1 .1), (r .1 .0 .0, omega (arith, l, r .0 .1, r .1 .0 .1, s .pre .0 .0 .few)))
 
 pub substituted-spec : {M : Type 1} → statement M
 substituted-spec =

@@ -22,7 +22,7 @@ module _ (s : tie.Start) where
 put-number-requires : tie.Need-put-number-requires
 put-number-requires c κs =
     let s = c .before .before .before .before .before .before in
-    let p = placed s (c .before .before .piece .given .1) in (p .0, p .1, omega (arith, s .pre .0 .2))
+    let p = placed s (c .before .before .piece .given .1) in (p .kind, p .small, omega (arith, s .pre .0 .2))
 
 -- A part of the words.
 module _ (c : tie.After-piece2) where
@@ -73,7 +73,8 @@ into-scheme-requires c κs =
 
 substituted-requires : tie.Need-substituted-requires
 substituted-requires c κs =
-    let s = c .before .before .before .before .before .before in (s .pre .0, placed s (c .before .before .piece8 .given .1))
+    let s = c .before .before .before .before .before .before in
+    ((record { table-is = s .pre .0 .0; few = s .pre .0 .1 }, s .pre .0 .2), placed s (c .before .before .piece8 .given .1))
 
 returns : tie.Need-returns
 returns c =

@@ -45,7 +45,7 @@ returns-4 : tie.Need-returns-4
 returns-4 c =
     let g = c .answer .ensures in
     let o = c .before .before .before .before in
-    ((omega arith, omega (arith, g .1)), rw (g .0) (one-test (known o) (o .operator .ensures) (c .before .if4 .taken)))
+    (record { kind = omega arith; small = omega (arith, g .1) }, rw (g .0) (one-test (known o) (o .operator .ensures) (c .before .if4 .taken)))
 
 of-list-requires : tie.Need-of-list-requires
 of-list-requires c κs = known (c .before .before .before)

@@ -16,7 +16,7 @@ returns-2 c =
     let w = s .args .words .now in
     let k = c .skip .ensures in
     let p = s .pre in (
-      (omega arith, omega (arith, k .0, part-length w 2, p .least, p .most), record { order = omega arith; most = p .most }),
+      record { variable = omega arith; body = omega (arith, k .0, part-length w 2, p .least, p .most); order = omega arith; most = p .most },
       fix-lambda p (rest-span w 2 (k .1)) (c .before .before .if1 .left),
     )
 
