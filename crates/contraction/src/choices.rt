@@ -8,17 +8,15 @@ use crate::unary::contract_1;
 use nodes::kinds::Kinds;
 use nodes::kinds::row_at;
 ghost use mathlib.Core.Path.{_≡_};
-ghost use Prim.Native.Nat.{_≤_};
 ghost use lib.ListN.{length};
-ghost use Rattle.nodes.specs.Table.{kinds};
-ghost use Rattle.writing.specs.Given.{mostWords};
+ghost use Rattle.writing.specs.Given.{Given};
 ghost use Rattle.writing.specs.Spans.{span};
 ghost use Rattle.contraction.specs.Told.{Within};
 ghost use Rattle.contraction.specs.Chosen.{OfNode};
 
-// What the node that the words start with becomes, whose words end at `end`. The words may be 2^20.
+// What the node that the words start with becomes, whose words end at `end`.
 pub fn contract(table: &Kinds, words: &[u32], end: usize) -> Became
-    requires { ⌜ (now table ≡ kinds) × (length (now words) ≤ mostWords) × (end ≡ span (now words) 1) ⌝ }
+    requires { ⌜ Given (now table) (now words) × (end ≡ span (now words) 1) ⌝ }
     ensures placed { λ r. ⌜ Within (length (now (words .entry))) r ⌝ }
     ensures told { λ r. ⌜ OfNode (now (words .entry)) r ⌝ }
 {

@@ -6,11 +6,9 @@ use nodes::kinds::Kinds;
 use writing::copy;
 use writing::put;
 use writing::substitution::substitute;
-ghost use mathlib.Core.Path.{_≡_};
 ghost use mathlib.Core.List.{_∷_};
 ghost use Prim.Native.Nat.{_+_, _*_, _≤_};
 ghost use lib.ListN.{length};
-ghost use Rattle.nodes.specs.Table.{kinds};
 ghost use Rattle.writing.specs.Given.{mostWords, mostPiece, mostPlace, Given};
 ghost use Rattle.writing.specs.Wrote.{Wrote};
 ghost use Rattle.contraction.specs.Told.{PartIn, ConsIn, LambdaIn, Placed, stretch, consWords, intoMLWords, intoSchemeWords};
@@ -135,9 +133,9 @@ fn substituted(
     r.at
 }
 
-// A piece of what the node that the words start with becomes. Returns the place after it. The words may be 2^20.
+// A piece of what the node that the words start with becomes. Returns the place after it.
 pub fn write(table: &Kinds, words: &[u32], piece: Piece, target: &mut [u32], n: usize) -> usize
-    requires { ⌜ (now table ≡ kinds) × (length (now words) ≤ mostWords) × (n ≤ mostPlace) ⌝ }
+    requires { ⌜ Given (now table) (now words) × (n ≤ mostPlace) ⌝ }
     requires { ⌜ Placed (length (now words)) piece ⌝ }
     ensures { λ r. ⌜ Writes (now (words .entry)) piece (now (target .entry)) n r (now (target .exit)) ⌝ }
     ensures bound { λ r. ⌜ (n ≤ r) × (r ≤ n + mostPiece) ⌝ }

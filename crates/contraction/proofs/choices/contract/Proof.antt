@@ -28,7 +28,7 @@ module _ (c : tie.After-row-at) where
   node : (shape n : ℕ) → c .row-at .result .shape ≡ shape → partsBy shape (partCount (getD ws 0 0)) ≡ n
       → Node n (start .args .table .now) ws (start .args .end)
   node shape n e p =
-      parts.node (record { table-is = start .pre .0; few = start .pre .1 }) (omega (arith, c .before .before .if1 .left)) (start .pre .2)
+      parts.node (start .pre .0) (omega (arith, c .before .before .if1 .left)) (start .pre .1)
       (shape-parts (getD ws 0 0) shape (sym shape-is ∙ e) n p)
 
 returns : tie.Need-returns

@@ -14,7 +14,7 @@ use Rattle.contraction.proofs.pieces.write.Tie as tie
 -- What is known of the words, and of the piece once it is told.
 module _ (s : tie.Start) where
   near : Near (s .args .words .now) (s .args .n) mostPlace
-  near = record { few = s .pre .0 .1; place = s .pre .0 .2 }
+  near = record { few = s .pre .0 .0 .few; place = s .pre .0 .1 }
 
   placed : {p : Piece} → s .args .piece ≡ p → Placed (length (s .args .words .now)) p
   placed e = subst (Placed (length (s .args .words .now))) e (s .pre .1)
@@ -22,7 +22,7 @@ module _ (s : tie.Start) where
 put-number-requires : tie.Need-put-number-requires
 put-number-requires c κs =
     let s = c .before .before .before .before .before .before in
-    let p = placed s (c .before .before .piece .given .1) in (p .kind, p .small, omega (arith, s .pre .0 .2))
+    let p = placed s (c .before .before .piece .given .1) in (p .kind, p .small, omega (arith, s .pre .0 .1))
 
 -- A part of the words.
 module _ (c : tie.After-piece2) where
@@ -33,7 +33,7 @@ module _ (c : tie.After-piece2) where
   part = placed start (c .piece2 .given .1)
 
 mul-copy : tie.Need-mul-copy
-mul-copy c = let p = part (c .before) in record { fits = omega (arith, p, start (c .before) .pre .0 .1) }
+mul-copy c = let p = part (c .before) in record { fits = omega (arith, p, start (c .before) .pre .0 .0 .few) }
 
 sub-copy : tie.Need-sub-copy
 sub-copy c = let p = part (c .before) in omega (arith, p)
@@ -48,12 +48,12 @@ copy-requires : tie.Need-copy-requires
 copy-requires c κs =
     let k = c .before .before .before in
     let r = k .piece2 .given in
-    omega (arith, stretch-length (start k .args .words .now) (r .0 .0) (r .0 .1 .0), start k .pre .0 .1, start k .pre .0 .2)
+    omega (arith, stretch-length (start k .args .words .now) (r .0 .0) (r .0 .1 .0), start k .pre .0)
 
 lead-requires : tie.Need-lead-requires
 lead-requires c κs =
     let s = c .before .before .before .before .before .before in
-    (record { few = s .pre .0 .1; place = omega (arith, s .pre .0 .2) }, placed s (c .before .before .piece3 .given .1))
+    (record { few = near s .few; place = omega (arith, near s .place) }, placed s (c .before .before .piece3 .given .1))
 
 lead-two-requires : tie.Need-lead-two-requires
 lead-two-requires c κs =
@@ -73,8 +73,7 @@ into-scheme-requires c κs =
 
 substituted-requires : tie.Need-substituted-requires
 substituted-requires c κs =
-    let s = c .before .before .before .before .before .before in
-    ((record { table-is = s .pre .0 .0; few = s .pre .0 .1 }, s .pre .0 .2), placed s (c .before .before .piece8 .given .1))
+    let s = c .before .before .before .before .before .before in (s .pre .0, placed s (c .before .before .piece8 .given .1))
 
 returns : tie.Need-returns
 returns c =
@@ -89,7 +88,7 @@ returns-2 c =
     let k = c .before .before .before .before .before .before in
     let r = k .piece2 .given in
     let l = stretch-length (start k .args .words .now) (r .0 .0) (r .0 .1 .0) in
-    (known-piece (r .1) (words-write (λ l u g. g) w), (omega (arith, w .place), omega (arith, w .place, l, start k .pre .0 .1)))
+    (known-piece (r .1) (words-write (λ l u g. g) w), (omega (arith, w .place), omega (arith, w .place, l, near (start k) .few)))
 
 returns-3 : tie.Need-returns-3
 returns-3 c =

@@ -45,7 +45,7 @@ write-requires c κs =
     let s = start in
     let l = part-length (s .args .source .now) (s .args .place) in
     let p = subst (λ (n : ℕ). Placed n (s .args .piece)) (sym l) (s .pre .2 .within) in
-    ((s .pre .0, omega (arith, l, s .pre .1), omega (arith, s .pre .1, s .pre .2 .inside)), p)
+    ((record { table-is = s .pre .0; few = omega (arith, l, s .pre .1) }, omega (arith, s .pre .1, s .pre .2 .inside)), p)
 
 write-next-requires : tie.Need-write-next-requires
 write-next-requires c κs =

@@ -97,7 +97,7 @@ contract-requires c κs =
     let p = after-found .found .given .0 .0 in
     let l = part-length (s .args .source .now) p in
     let e = ap (λ (v : List ℕ). span v 1) (part-to-end (s .args .source .now) p) in
-    (s .pre .0, omega (arith, l, s .pre .1), omega (arith, e, end-is after-found))
+    (record { table-is = s .pre .0; few = omega (arith, l, s .pre .1) }, omega (arith, e, end-is after-found))
 
 enum-told-2 : tie.Need-enum-told-2
 enum-told-2 c = search needs
