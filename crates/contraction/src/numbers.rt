@@ -2,10 +2,12 @@
 
 ghost use mathlib.Core.Path.{_≡_};
 ghost use mathlib.Core.List.{[], _∷_};
-ghost use Prim.Native.Nat.{_/_, _<_, _≤_, _^_};
+ghost use Prim.Native.Nat.{_/_, _<_, _≤_};
 ghost use lib.ListN.{getD};
 ghost use Rattle.calculus.specs.Words.{word};
+ghost use Rattle.writing.specs.Given.{mostCount};
 ghost use Rattle.writing.specs.Wrote.{Wrote};
+ghost use Rattle.contraction.specs.Told.{NumberOf};
 
 // The operand of a word.
 fn operand(w: u32) -> u32
@@ -28,7 +30,7 @@ pub fn number_at(words: &[u32]) -> u32
 
 // A number of a kind, from the place n on.
 pub fn put_number(kind: u32, number: u32, target: &mut [u32], n: usize) -> usize
-    requires { ⌜ (kind ≤ 33) × (number ≤ 16777215) × (n < 2 ^ 62) ⌝ }
+    requires { ⌜ NumberOf kind number × (n < mostCount) ⌝ }
     ensures { λ r. ⌜ Wrote (now (target .entry)) n (word kind number ∷ []) r (now (target .exit)) ⌝ }
 {
     writing::put(target, n, kind + 256 * number)

@@ -52,21 +52,21 @@ fn put_cons(
 fn into_ml(
     words: &[u32],
     second: usize,
-    value: usize,
+    lambda: usize,
     end: usize,
     target: &mut [u32],
     n: usize,
 ) -> usize
-    requires { ⌜ Near (now words) n mostPlace × LambdaIn (length (now words)) second value end ⌝ }
-    ensures { λ r. ⌜ Wrote (now (target .entry)) n (intoMLWords second value end (now (words .entry))) r (now (target .exit)) ⌝ }
+    requires { ⌜ Near (now words) n mostPlace × LambdaIn (length (now words)) second lambda end ⌝ }
+    ensures { λ r. ⌜ Wrote (now (target .entry)) n (intoMLWords second lambda end (now (words .entry))) r (now (target .exit)) ⌝ }
     ensures bound { λ r. ⌜ (n ≤ r) × (r ≤ n + 8 * mostWords) ⌝ }
 {
     let a = lead(nodes::words::ML_LAMBDA, words, 2, second, target, n);
-    let b = lead(nodes::words::MS, words, second, value, target, a);
+    let b = lead(nodes::words::MS, words, second, lambda, target, a);
     let c = lead(
         nodes::words::SCHEME_APPLICATION,
         words,
-        value,
+        lambda,
         end,
         target,
         b,
@@ -79,18 +79,18 @@ fn into_ml(
 fn into_scheme(
     words: &[u32],
     second: usize,
-    value: usize,
+    lambda: usize,
     end: usize,
     target: &mut [u32],
     n: usize,
 ) -> usize
-    requires { ⌜ Near (now words) n mostPlace × LambdaIn (length (now words)) second value end ⌝ }
-    ensures { λ r. ⌜ Wrote (now (target .entry)) n (intoSchemeWords second value end (now (words .entry))) r (now (target .exit)) ⌝ }
+    requires { ⌜ Near (now words) n mostPlace × LambdaIn (length (now words)) second lambda end ⌝ }
+    ensures { λ r. ⌜ Wrote (now (target .entry)) n (intoSchemeWords second lambda end (now (words .entry))) r (now (target .exit)) ⌝ }
     ensures bound { λ r. ⌜ (n ≤ r) × (r ≤ n + 8 * mostWords) ⌝ }
 {
     let a = put(target, n, nodes::words::SCHEME_LAMBDA);
-    let b = lead(nodes::words::SM, words, second, value, target, a);
-    let c = lead(nodes::words::ML_APPLICATION, words, value, end, target, b);
+    let b = lead(nodes::words::SM, words, second, lambda, target, a);
+    let c = lead(nodes::words::ML_APPLICATION, words, lambda, end, target, b);
     let d = lead(nodes::words::MS, words, 2, second, target, c);
     put(target, d, nodes::words::SCHEME_VARIABLE)
 }
@@ -133,7 +133,7 @@ fn substituted(
     r.at
 }
 
-// A piece of what the node that the words start with becomes. Returns the place after it.
+// The piece that the node becomes that the words start with. Returns the place after it.
 pub fn write(table: &Kinds, words: &[u32], piece: Piece, target: &mut [u32], n: usize) -> usize
     requires { ⌜ Given (now table) (now words) × (n ≤ mostPlace) ⌝ }
     requires { ⌜ Placed (length (now words)) piece ⌝ }

@@ -22,7 +22,7 @@ module _ (s : tie.Start) where
 put-number-requires : tie.Need-put-number-requires
 put-number-requires c κs =
     let s = c .before .before .before .before .before .before in
-    let p = placed s (c .before .before .piece .given .1) in (p .kind, p .small, omega (arith, s .pre .0 .1))
+    (placed s (c .before .before .piece .given .1), omega (arith, s .pre .0 .1))
 
 -- A part of the words.
 module _ (c : tie.After-piece2) where
