@@ -19,7 +19,8 @@ use Rattle.contraction.specs.declared.became.Became.{Became}
 use Rattle.contraction.specs.declared.became.Became.the-variants.{Nothing, Raises}
 use Rattle.contraction.specs.declared.became.Piece.{Piece}
 use Rattle.contraction.specs.declared.became.Piece.the-variants.{Substituted}
-use Rattle.contraction.specs.Told.{Gives, Tells, stretch}
+use Rattle.contraction.specs.Told.{Gives, Tells}
+use Rattle.writing.specs.Stretches.{stretch}
 use Rattle.contraction.specs.Chosen.{OfOne, OfTwo, OfIf, OfBoundary, OfNode, Writes}
 use Rattle.contraction.proofs.Views.{size-some}
 

@@ -14,7 +14,7 @@ use Rattle.writing.specs.Spans.{span}
 use Rattle.writing.proofs.Measures.{span-tree}
 use Rattle.writing.proofs.Lengths.{span-parts, span-within}
 use Rattle.contraction.specs.Forms.{formAt}
-use Rattle.contraction.specs.Told.{stretch}
+use Rattle.writing.specs.Stretches.{stretch}
 use Rattle.contraction.specs.Chosen.{Node}
 
 pub record Stands (s : Sort) (t : Tree s) (k ws : List ℕ) (a e : ℕ) : Type 0 where

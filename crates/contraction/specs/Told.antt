@@ -1,22 +1,19 @@
 -- What a piece writes, and that the code's answer tells what a node becomes.
-use Prim.Native.Nat.{ℕ, _+_, _-_, _≤_}
+use Prim.Native.Nat.{ℕ, _+_, _≤_}
 use mathlib.Core.Bool.{Bool, true, false, cond}
 use mathlib.Core.List.{List, [], _∷_, _++_}
 use mathlib.Core.Path.{_≡_}
 use lib.Dec.{eqb, leb}
-use lib.ListN.{take, drop}
+use lib.ListN.{drop}
 use Rattle.calculus.specs.Trees.{Ty, Lang, ml, sc, Op1, HD, TL, Term}
 use Rattle.calculus.specs.Words.{word, by, put, words}
 use Rattle.calculus.specs.Reduction as calculus
 use Rattle.calculus.specs.Reduction.{becomes, raises, nothing, substitute, toML, toScheme}
+use Rattle.writing.specs.Stretches.{stretch}
 use Rattle.contraction.specs.declared.became.Became.{Became}
 use Rattle.contraction.specs.declared.became.Became.the-variants.{Nothing, Raises, Becomes}
 use Rattle.contraction.specs.declared.became.Piece.{Piece}
 use Rattle.contraction.specs.declared.became.Piece.the-variants.{Number, Part, Led, Led2, Cons, IntoML, IntoScheme, Substituted}
-
--- The words from a place to another.
-abbrev pub stretch : ℕ → ℕ → List ℕ → List ℕ
-stretch a e ws = take (e - a) (drop a ws)
 
 -- The words of a cons and of a lambda brought over, from where they stand.
 abbrev pub consWords : ℕ → ℕ → ℕ → ℕ → ℕ → List ℕ → List ℕ

@@ -19,7 +19,7 @@ use Rattle.checker.specs.declared.Checked.{Checked}
 use Rattle.checker.specs.declared.Checked.the-variants.{Refused, Accepted}
 use Rattle.checker.specs.Checks.{checked, accepting}
 use Rattle.demands.specs.Demanded.{Recipe, Checks, Twice}
-use Rattle.engine.specs.Lent.{Lent, Given}
+use Rattle.engine.specs.Lent.{Lent, Returned}
 use Rattle.demands.proofs.Running.{Promised, grow}
 
 -- A refusal is its number and place.
@@ -94,7 +94,7 @@ module _ (bytes : List ℕ) where
           seven = λ x q. subst Numbered (refuses-iff x .0 q) (number-in-table bytes);
         }
 
-pub twice : (c : Checked) (l m : Lent) (g h : Given) → l .bytes ≡ m .bytes → checked c ≡ accepting (check (l .bytes)) → Promised l g → Promised m h
+pub twice : (c : Checked) (l m : Lent) (g h : Returned) → l .bytes ≡ m .bytes → checked c ≡ accepting (check (l .bytes)) → Promised l g → Promised m h
     → Twice c l g m h
 twice c l m g h b k p q =
     record {

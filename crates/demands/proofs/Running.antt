@@ -30,10 +30,10 @@ use Rattle.engine.specs.declared.runs.Answer.the-variants.{Refused, Ended}
 use Rattle.engine.specs.Results.{Line, lineOf, endOf, told}
 use Rattle.engine.specs.Answered.{spoken, Answered}
 use Rattle.demands.specs.Demanded.{Finishes, refuses, ends, Reduces, Fitting, Over, RefusedBy, Exact, Once, Same}
-use Rattle.engine.specs.Lent.{Lent, Given, room}
+use Rattle.engine.specs.Lent.{Lent, Returned, room}
 
 -- What `run` promises of what it is lent and gives back.
-abbrev pub Promised : Lent → Given → Type 0
+abbrev pub Promised : Lent → Returned → Type 0
 Promised l g =
     Answered (operate (l .bytes) (l .limit) (length (l .first)) (length (l .second))) (g .answer) (l .first) (l .second) (g .first) (g .second)
 
@@ -52,7 +52,7 @@ refused-left : (v : Verdict spec.Result) (x : Refusal) → refusal x ≡ andThen
 refused-left (refused n p) x q = refl
 refused-left (passed y) x q = absurd (not-both (numberOf x) (placeOf x) (lineOf y) q)
 
-finish : (l : Lent) (g : Given) (a : Answer) → g .answer ≡ a → Promised l g → Finishes l g
+finish : (l : Lent) (g : Returned) (a : Answer) → g .answer ≡ a → Promised l g → Finishes l g
 finish l g (Refused x) q h =
     let v = operate (l .bytes) (l .limit) (length (l .first)) (length (l .second)) in
     let z = refused-left v x (ap spoken (sym q) ∙ h .answer-is) in
@@ -65,7 +65,7 @@ ended-by : (a : Answer) (y : Line) → spoken a ≡ passed y → (x : Report) ×
 ended-by (Refused x) y q = absurd (not-both (numberOf x) (placeOf x) y q)
 ended-by (Ended x) y q = (x, refl, passed-injective (told x) y q)
 
-reduce : (l : Lent) (g : Given) (e : Term ml) (x : Ending (l .limit) (room l) e)
+reduce : (l : Lent) (g : Returned) (e : Term ml) (x : Ending (l .limit) (room l) e)
     → operate (l .bytes) (l .limit) (length (l .first)) (length (l .second)) ≡ passed (x .result) → Promised l g → Reduces l g e
 reduce l g e x o h =
     let b = ended-by (g .answer) (lineOf (x .result)) (h .answer-is ∙ ap (λ (v : Verdict spec.Result). andThen v (λ y. passed (lineOf y))) o) in
@@ -85,14 +85,14 @@ passed-by (refused n p) x q = absurd (not-both n p (told x) (sym q))
 passed-by (passed r) x q = (r, refl, passed-injective (told x) (lineOf r) q)
 
 -- A run's first words are those that it leaves.
-front : (l : Lent) (g : Given) (r : spec.Result) → operate (l .bytes) (l .limit) (length (l .first)) (length (l .second)) ≡ passed r → Promised l g
+front : (l : Lent) (g : Returned) (r : spec.Result) → operate (l .bytes) (l .limit) (length (l .first)) (length (l .second)) ≡ passed r → Promised l g
     → take (length (r .left)) (g .first) ≡ r .left
 front l g r o h =
     let n = operate-bounded (l .bytes) (l .limit) (length (l .first)) (length (l .second)) r o .0 in
     ap (take (length (r .left))) (h .first-is ∙ ap (λ (v : Verdict spec.Result). padded (length (l .first)) (leftBy v)) o)
     ∙ padded-take (length (l .first)) (length (r .left)) (r .left) (omega arith) refl
 
-pub grow : (l m : Lent) (g h : Given) (x : Report) → l .bytes ≡ m .bytes → l .limit ≤ m .limit → room l ≤ room m → Promised l g → Promised m h
+pub grow : (l m : Lent) (g h : Returned) (x : Report) → l .bytes ≡ m .bytes → l .limit ≤ m .limit → room l ≤ room m → Promised l g → Promised m h
     → g .answer ≡ Ended x
     → spec.Final (endOf (x .end)) → Same x g h
 grow l m g h x b i c p q a f =
@@ -164,13 +164,13 @@ way l = by (check (l .bytes)) refl
     by (refused n p) q = fails n p q
     by (passed x) q = sized (x .0) (x .1) (check-iff (l .bytes) (x .0) (x .1) .0 q) (leb (size (x .1)) (room l)) refl
 
-reduces-of : (l : Lent) (g : Given) → Promised l g → (τ : Ty) (e : Term ml) → Accepted (l .bytes) τ e → size e ≤ room l → Reduces l g e
+reduces-of : (l : Lent) (g : Returned) → Promised l g → (τ : Ty) (e : Term ml) → Accepted (l .bytes) τ e → size e ≤ room l → Reduces l g e
 reduces-of l g h τ e a s =
     let x = ending (l .limit) (room l) e τ (a .typed) in
     let q = ends-iff (l .limit) (room l) e τ (a .typed) (x .result) .0 (x .ends) in
     reduce l g e x (operate-iff (l .bytes) (l .limit) (length (l .first)) (length (l .second)) (x .result) .1 (τ, e, a, s, sym q)) h
 
-exact-of : (l : Lent) (g : Given) → Promised l g → Exact l g
+exact-of : (l : Lent) (g : Returned) → Promised l g → Exact l g
 exact-of l g h =
     record {
       ends = (
@@ -219,5 +219,5 @@ exact-of l g h =
     fails-by n p b (fails m q c) =
         let i = numbers-are (b .refusal) m q (b .refused) (refuses-as l m q c) in c ∙ rw (← (i .0), ← (i .1), b .number, b .place)
 
-pub once : (l : Lent) (g : Given) → Promised l g → Once l g
+pub once : (l : Lent) (g : Returned) → Promised l g → Once l g
 once l g h = record { finishes = finish l g (g .answer) refl h; exact = exact-of l g h }

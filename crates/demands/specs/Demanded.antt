@@ -21,10 +21,10 @@ use Rattle.engine.specs.declared.ends.Report.{Report}
 use Rattle.engine.specs.declared.runs.Answer.{Answer}
 use Rattle.engine.specs.declared.runs.Answer.the-variants.{Refused, Ended}
 use Rattle.engine.specs.Results.{lineOf, endOf, told}
-use Rattle.engine.specs.Lent.{Lent, Given, room}
+use Rattle.engine.specs.Lent.{Lent, Returned, room}
 
 -- Demand 1: "finishes: with one of the eight refusals in document 01, both buffers then all zero, or with one of its four ends".
-pub data Finishes (l : Lent) (g : Given) : Type 0 where
+pub data Finishes (l : Lent) (g : Returned) : Type 0 where
   refuses : (r : Refusal) → g .answer ≡ Refused r → 1 ≤ numberOf r → numberOf r ≤ 8 → g .first ≡ replicate (length (l .first)) 0
       → g .second ≡ replicate (length (l .second)) 0 → Finishes l g
   ends : (x : Report) → g .answer ≡ Ended x → Finishes l g
@@ -42,7 +42,7 @@ pub record Checks (bytes : List ℕ) (r : Checked) : Type 0 where
 
 -- "The end of a run, its code, its count of steps and the words it leaves are exactly those of the published reductions, taken in their order
 -- of evaluation under the limits lent": those of the term's one ending by `⟶`.
-pub record Reduces (l : Lent) (g : Given) (e : Term ml) : Type 0 where
+pub record Reduces (l : Lent) (g : Returned) (e : Term ml) : Type 0 where
   pub by-rules : Ending (l .limit) (room l) e
   pub report : Report
   pub ended : g .answer ≡ Ended report
@@ -58,7 +58,7 @@ abbrev pub Over : Lent → Type 0
 Over l = (τ : Ty) × (e : Term ml) × Accepted (l .bytes) τ e × (room l < size e)
 
 -- "A refusal carries its number and a place": the answer is the refusal of that number and place, one of the check's seven.
-pub record RefusedBy (g : Given) (n p : ℕ) : Type 0 where
+pub record RefusedBy (g : Returned) (n p : ℕ) : Type 0 where
   pub refusal : Refusal
   pub refused : g .answer ≡ Refused refusal
   pub number : numberOf refusal ≡ n
@@ -68,19 +68,19 @@ pub record RefusedBy (g : Given) (n p : ℕ) : Type 0 where
 
 -- Demand 2 of a run, both ways: it ends exactly if the file is accepted and its term fits, and then as that term reduces; it is refused by 8
 -- exactly if the file is accepted and its term does not fit; and by any other number and place exactly if the check gives these.
-pub record Exact (l : Lent) (g : Given) : Type 0 where
+pub record Exact (l : Lent) (g : Returned) : Type 0 where
   pub ends : ((x : Report) × (g .answer ≡ Ended x)) ↔ Fitting l
   pub reduces : (τ : Ty) (e : Term ml) → Accepted (l .bytes) τ e → size e ≤ room l → Reduces l g e
   pub over : (g .answer ≡ Refused Capacity) ↔ Over l
   pub refuses : (n p : ℕ) → RefusedBy g n p ↔ (check (l .bytes) ≡ refused n p)
 
 -- Demands 1 and 2 of one run.
-pub record Once (l : Lent) (g : Given) : Type 0 where
+pub record Once (l : Lent) (g : Returned) : Type 0 where
   pub finishes : Finishes l g
   pub exact : Exact l g
 
 -- "the second gives the same end, the same code, the same count of steps and the same words": as the first, which reports x.
-pub record Same (x : Report) (g h : Given) : Type 0 where
+pub record Same (x : Report) (g h : Returned) : Type 0 where
   pub report : Report
   pub ended : h .answer ≡ Ended report
   pub numbers : told report ≡ told x
@@ -88,7 +88,7 @@ pub record Same (x : Report) (g h : Given) : Type 0 where
 
 -- Demand 3. "Whatever recipe the check accepts", all that its reduction reaches is sound; "And whatever file is run twice, .. let the second run be
 -- lent at least as many steps and at least the capacity of the first. If the first ends as a value or an error, the second gives the same" as it.
-pub record Twice (c : Checked) (l : Lent) (g : Given) (m : Lent) (h : Given) : Type 0 where
+pub record Twice (c : Checked) (l : Lent) (g : Returned) (m : Lent) (h : Returned) : Type 0 where
   pub accepts : (c ≡ checked.Accepted) ↔ Recipe (l .bytes)
   pub safe : (τ : Ty) (e : Term ml) → Accepted (l .bytes) τ e → Safe τ e
   pub grows : (x : Report) → l .limit ≤ m .limit → room l ≤ room m → g .answer ≡ Ended x → Final (endOf (x .end)) → Same x g h

@@ -5,7 +5,7 @@ use checker::Checked;
 use checker::check;
 use engine::runs::Answer;
 use engine::runs::run;
-ghost use Rattle.engine.specs.Lent.{lent, given};
+ghost use Rattle.engine.specs.Lent.{lent, returned};
 ghost use Rattle.demands.specs.Demanded.{Checks, Once, Twice};
 
 // Three answers on one file: the check's, and those of two runs.
@@ -27,7 +27,7 @@ pub fn run_once(file: &[u8], limit: u32, first: &mut [u32], second: &mut [u32]) 
     ensures { λ x. ⌜
         Once
         (lent (now (file .entry)) limit (now (first .entry)) (now (second .entry)))
-        (given x (now (first .exit)) (now (second .exit)))
+        (returned x (now (first .exit)) (now (second .exit)))
         ⌝ }
 {
     run(file, limit, first, second)
@@ -46,9 +46,9 @@ pub fn run_twice(
     ensures { λ r. ⌜
         Twice (r .checked)
         (lent (now (file .entry)) limit (now (first .entry)) (now (second .entry)))
-        (given (r .earlier) (now (first .exit)) (now (second .exit)))
+        (returned (r .earlier) (now (first .exit)) (now (second .exit)))
         (lent (now (file .entry)) limit_2 (now (first_2 .entry)) (now (second_2 .entry)))
-        (given (r .later) (now (first_2 .exit)) (now (second_2 .exit)))
+        (returned (r .later) (now (first_2 .exit)) (now (second_2 .exit)))
         ⌝ }
 {
     let checked = check(file);

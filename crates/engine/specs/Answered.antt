@@ -11,7 +11,7 @@ use Rattle.calculus.specs.File.{runIn, firstAfter, secondAfter}
 use Rattle.nodes.specs.Refusals.{refusal}
 use Rattle.engine.specs.declared.runs.Answer.{Answer}
 use Rattle.engine.specs.declared.runs.Answer.the-variants.{Refused, Ended}
-use Rattle.engine.specs.Lent.{Lent, Given, operated}
+use Rattle.engine.specs.Lent.{Lent, Returned, operated}
 use Rattle.engine.specs.Ran.{Good}
 use Rattle.engine.specs.Results.{Line, lineOf, told}
 
@@ -27,7 +27,7 @@ pub record Answered (v : Verdict Result) (x : Answer) (first second first′ sec
   pub second-is : second′ ≡ secondAfter (length second) v
 
 -- A run of what is lent.
-abbrev pub Runs : Lent → Given → Type 0
+abbrev pub Runs : Lent → Returned → Type 0
 Runs l g = Answered (operated l) (g .answer) (l .first) (l .second) (g .first) (g .second)
 
 -- Of the words of a term that was accepted.

@@ -18,13 +18,13 @@ abbrev pub lent : List ℕ → ℕ → List ℕ → List ℕ → Lent
 lent bytes limit first second = record { bytes = bytes; limit = limit; first = first; second = second }
 
 -- What a run gives back: its answer, and what both buffers hold then.
-pub record Given : Type 0 where
+pub record Returned : Type 0 where
   pub answer : Answer
   pub first : List ℕ
   pub second : List ℕ
 
-abbrev pub given : Answer → List ℕ → List ℕ → Given
-given x first second = record { answer = x; first = first; second = second }
+abbrev pub returned : Answer → List ℕ → List ℕ → Returned
+returned x first second = record { answer = x; first = first; second = second }
 
 -- "Capacity is the shorter length, at most 16,384": of what is lent.
 abbrev pub room : Lent → ℕ

@@ -13,6 +13,7 @@ ghost use Prim.Native.Nat.{_+_, _*_, _≤_};
 ghost use lib.ListN.{length, take};
 ghost use Rattle.calculus.specs.Run.{capacity};
 ghost use Rattle.nodes.specs.Table.{kinds};
+ghost use Rattle.reducer.specs.Placed.{FewDue};
 ghost use Rattle.engine.specs.Buffered.{Room};
 ghost use Rattle.engine.specs.Ran.{Advanced, Ran, Reduced};
 
@@ -31,7 +32,7 @@ fn advance(
     n: usize,
     from: From,
 ) -> Move
-    requires { ⌜ (now table ≡ kinds) × Room (now first) (now second) n × (from .due ≤ 1 + 3 * from .place) ⌝ }
+    requires { ⌜ (now table ≡ kinds) × Room (now first) (now second) n × FewDue from ⌝ }
     ensures { λ r. ⌜ Advanced front n from (now (first .entry)) (now (second .entry)) r (now (first .exit)) (now (second .exit)) ⌝ }
 {
     if front {

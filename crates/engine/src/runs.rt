@@ -9,7 +9,7 @@ use nodes::refusals::Refusal;
 ghost use mathlib.Core.Path.{_≡_};
 ghost use Prim.Native.Nat.{_≤_};
 ghost use lib.ListN.{length};
-ghost use Rattle.engine.specs.Lent.{lent, given};
+ghost use Rattle.engine.specs.Lent.{lent, returned};
 ghost use Rattle.engine.specs.Answered.{Answered, Runs, Begun};
 ghost use Rattle.nodes.specs.Refusals.{refusal};
 
@@ -44,7 +44,7 @@ pub fn run(file: &[u8], limit: u32, first: &mut [u32], second: &mut [u32]) -> An
     ensures { λ x. ⌜
         Runs
         (lent (now (file .entry)) limit (now (first .entry)) (now (second .entry)))
-        (given x (now (first .exit)) (now (second .exit)))
+        (returned x (now (first .exit)) (now (second .exit)))
         ⌝ }
 {
     let mut all = [0u32; 4096];

@@ -1,5 +1,5 @@
 -- One step in words: what the code answers, and what it leaves in the target, is the calculus's step.
-use Prim.Native.Nat.{ℕ, _+_, _*_, _-_, _<_, _≤_}
+use Prim.Native.Nat.{ℕ, _+_, _-_, _<_}
 use mathlib.Core.List.{List, _++_}
 use mathlib.Core.Path.{_≡_}
 use lib.ListN.{length, getD, drop}
@@ -18,6 +18,7 @@ use Rattle.reducer.specs.declared.steps.Change.{Change}
 use Rattle.reducer.specs.declared.steps.Move.{Move}
 use Rattle.reducer.specs.declared.steps.Move.the-variants.{Value, Raised, Next, Stuck}
 use Rattle.reducer.specs.Around.{Standing}
+use Rattle.reducer.specs.Placed.{FewDue}
 
 -- A piece that is what the node at a place of the source becomes, and whose places are within the words.
 pub record Fits (source : List ℕ) (place end : ℕ) (piece : Piece) : Type 0 where
@@ -53,11 +54,11 @@ Moved e r b b′ (raised c) = (r ≡ Raised c) × (b′ ≡ b)
 Moved e r b b′ (next e′) = (c : Change) × (r ≡ Next c) × Changed e e′ b c b′
 Moved e r b b′ stuck = (r ≡ Stuck) × (b′ ≡ b)
 
--- Not more parts are due than the words before the place have.
+-- Where the next walk may begin, few parts are due.
 abbrev pub Few : Move → Type 0
 Few Value = Unit {0}
 Few (Raised c) = Unit {0}
-Few (Next c) = c .back .due ≤ 1 + 3 * c .back .place
+Few (Next c) = FewDue (c .back)
 Few Stuck = Unit {0}
 
 -- Of every term whose words these are, if the walk may begin where it is said to.

@@ -17,6 +17,10 @@ use Rattle.reducer.specs.declared.turns.From.{From}
 use Rattle.reducer.specs.declared.turns.Look.{Look}
 use Rattle.reducer.specs.Around.{lengthBefore, waitsFor, follows, Standing, Ripe}
 
+-- Not more parts are due than the words before the place have.
+abbrev pub FewDue : From → Type 0
+FewDue f = f .due ≤ 1 + 3 * f .place
+
 -- What a walk from a place tells: the node whose turn it is; or that all parts from there on are values, up to the end of a node that waits,
 -- or of the term.
 abbrev pub Told : Term ml → From → Found → Type 0
@@ -34,7 +38,7 @@ pub record Turns (ws : List ℕ) (from whole : From) (r : Found) : Type 0 where
 -- The node stands within the words, and ends where one node's words do.
 abbrev pub Spanned : List ℕ → Found → Type 0
 Spanned ws Nothing = Unit {0}
-Spanned ws (At place end back) = (place < length ws) × (end ≡ place + span (drop place ws) 1) × (back .due ≤ 1 + 3 * back .place)
+Spanned ws (At place end back) = (place < length ws) × (end ≡ place + span (drop place ws) 1) × FewDue back
 
 -- The walk's answer: the node at the place, if one waited.
 abbrev pub finished : Bool → ℕ → ℕ → From → Found

@@ -9,11 +9,8 @@ use contraction::choices::contract;
 use contraction::pieces::write;
 use nodes::kinds::Kinds;
 use writer::write_next;
-ghost use mathlib.Core.Path.{_≡_};
-ghost use Prim.Native.Nat.{_+_, _*_, _≤_};
-ghost use lib.ListN.{length};
-ghost use Rattle.nodes.specs.Table.{kinds};
-ghost use Rattle.reducer.specs.Placed.{beginning, Spanned, Turns};
+ghost use Rattle.writing.specs.Given.{Given};
+ghost use Rattle.reducer.specs.Placed.{FewDue, beginning, Spanned, Turns};
 ghost use Rattle.reducer.specs.Moves.{Fits, Spliced, Few, Steps};
 
 // The word of the node whose turn it was, its place, how many words stood there, how many stand there now, how many words the next term has,
@@ -44,7 +41,7 @@ fn splice(
     piece: Piece,
     target: &mut [u32],
 ) -> Change
-    requires { ⌜ (now table ≡ kinds) × (length (now source) ≤ 1048576) × Fits (now source) place end piece ⌝ }
+    requires { ⌜ Given (now table) (now source) × Fits (now source) place end piece ⌝ }
     ensures { λ r. ⌜ Spliced (now (source .entry)) place back (now (target .entry)) r (now (target .exit)) ⌝ }
 {
     let after = write(table, &source[place..], piece, target, place);
@@ -61,7 +58,7 @@ fn splice(
 
 // The walk to the turn, from a place on; and from the start, if all is a value from there on.
 fn whose(table: &Kinds, source: &[u32], from: From) -> Found
-    requires { ⌜ (now table ≡ kinds) × (length (now source) ≤ 1048576) × (from .due ≤ 1 + 3 * from .place) ⌝ }
+    requires { ⌜ Given (now table) (now source) × FewDue from ⌝ }
     ensures spanned { λ r. ⌜ Spanned (now (source .entry)) r ⌝ }
     ensures is { λ r. ⌜ Turns (now (source .entry)) from beginning r ⌝ }
 {
@@ -72,9 +69,9 @@ fn whose(table: &Kinds, source: &[u32], from: From) -> Found
     turn(table, source, From { place: 0, due: 1 })
 }
 
-// The step of the term in the source, which may have 2^20 words; the walk to the turn begins at a place.
+// The step of the term in the source; the walk to the turn begins at a place.
 pub fn step(table: &Kinds, source: &[u32], target: &mut [u32], from: From) -> Move
-    requires { ⌜ (now table ≡ kinds) × (length (now source) ≤ 1048576) × (from .due ≤ 1 + 3 * from .place) ⌝ }
+    requires { ⌜ Given (now table) (now source) × FewDue from ⌝ }
     ensures few { λ r. ⌜ Few r ⌝ }
     ensures is { λ r. ⌜ Steps (now (source .entry)) from (now (target .entry)) r (now (target .exit)) ⌝ }
 {

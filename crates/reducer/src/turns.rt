@@ -8,11 +8,11 @@ use nodes::kinds::row_at;
 use writing::spans::skip;
 ghost use mathlib.Core.Bool.{true, cond};
 ghost use mathlib.Core.Path.{_≡_};
-ghost use Prim.Native.Nat.{_+_, _*_, _≤_};
+ghost use Prim.Native.Nat.{_+_, _≤_};
 ghost use lib.ListN.{length, drop};
-ghost use Rattle.nodes.specs.Table.{kinds};
+ghost use Rattle.writing.specs.Given.{Given};
 ghost use Rattle.writing.specs.Spans.{span};
-ghost use Rattle.reducer.specs.Placed.{taking, Looked, finished, Spanned, Turns};
+ghost use Rattle.reducer.specs.Placed.{FewDue, taking, Looked, finished, Spanned, Turns};
 
 // Where a walk begins: a place, and how many parts are due there.
 pub struct From {
@@ -49,7 +49,7 @@ fn taking(start: usize, takes: usize, rest: usize, own: bool) -> Look
 
 // A look at the node that the words start with.
 fn look_at(table: &Kinds, words: &[u32]) -> Look
-    requires { ⌜ (now table ≡ kinds) × (length (now words) ≤ 1048576) × (1 ≤ length (now words)) ⌝ }
+    requires { ⌜ Given (now table) (now words) × (1 ≤ length (now words)) ⌝ }
     ensures { λ r. ⌜ Looked (now (words .entry)) r ⌝ }
 {
     let shape = row_at(table, words[0]).shape;
@@ -82,7 +82,7 @@ fn finish(
     back: From,
     waits: bool,
 ) -> Found
-    requires { ⌜ (now table ≡ kinds) × (length (now words) ≤ 1048576) × (waits ≡ true → i ≤ length (now words)) × (rest ≤ 3) ⌝ }
+    requires { ⌜ Given (now table) (now words) × (waits ≡ true → i ≤ length (now words)) × (rest ≤ 3) ⌝ }
     ensures { λ r. ⌜ r ≡ finished waits place (i + span (drop i (now (words .entry))) rest) back ⌝ }
 {
     if waits {
@@ -101,9 +101,9 @@ fn around(waits: bool, node: From, here: From) -> From
     here
 }
 
-// A walk from a place of a term whose words these are, which may be 2^20. `due` parts that evaluation takes stand from the place i on.
+// A walk from a place of a term whose words these are. `due` parts that evaluation takes stand from the place i on.
 pub fn turn(table: &Kinds, words: &[u32], from: From) -> Found
-    requires { ⌜ (now table ≡ kinds) × (length (now words) ≤ 1048576) × (from .due ≤ 1 + 3 * from .place) ⌝ }
+    requires { ⌜ Given (now table) (now words) × FewDue from ⌝ }
     ensures spanned { λ r. ⌜ Spanned (now (words .entry)) r ⌝ }
     ensures is { λ r. ⌜ Turns (now (words .entry)) from from r ⌝ }
 {

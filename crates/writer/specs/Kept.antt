@@ -4,6 +4,7 @@ use Prim.Native.Nat.{ℕ, _≤_}
 use mathlib.Core.List.{List}
 use lib.ListN.{length}
 use denote.Ref.{now, at-last}
+use Rattle.writing.specs.Given.{mostWords, mostPlace}
 use Rattle.writing.specs.Wrote.{Wrote}
 use Rattle.writing.specs.Stretches.{stretch}
 use Rattle.writer.specs.declared.Writer.{Writer}
@@ -16,10 +17,10 @@ pub record Put (w : Writer) (src : List ℕ) (a e : ℕ) (r : Writer) : Type 0 w
 
 -- What is told of the next term: the node's words stand in src from p to e, and what it becomes is there from p up to a.
 pub record Gap (src : List ℕ) (p a e : ℕ) : Type 0 where
-  pub few : length src ≤ 1048576
+  pub few : length src ≤ mostWords
   pub first : p ≤ length src
   pub last : e ≤ length src
-  pub near : a ≤ 4398046511104
+  pub near : a ≤ mostPlace
 
 -- Into b the words of src before p, and from the place a on those from e on.
 pub record Next (src : List ℕ) (p a e : ℕ) (b : List ℕ) (k : ℕ) (b′ : List ℕ) : Type 0 where

@@ -36,7 +36,9 @@ pub fn substitute(
     requires { ⌜ (length (now value) ≤ mostWords) × (x + 256 * length (now words) < 4294967040) × (n + mostWords * length (now words) < halfCount) ⌝ }
     ensures within { λ r. ⌜ (at ≤ r .read) × (r .read ≤ at + length (now (words .entry))) ⌝ }
     ensures bound { λ r. ⌜ (n ≤ r .at) × (r .at + mostWords * at ≤ n + mostWords * r .read) ⌝ }
-    ensures is { λ r. ⌜ Substituted (now (words .entry)) at due x (now (value .entry)) (now (target .entry)) n (r .read) (r .at) (now (target .exit)) ⌝ }
+    ensures is { λ r. ⌜
+        Substituted (now (words .entry)) at due x (now (value .entry)) (now (target .entry)) n (r .read) (r .at) (now (target .exit))
+        ⌝ }
 {
     let mut left = due;
     let mut i = 0;

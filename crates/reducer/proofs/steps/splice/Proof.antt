@@ -17,18 +17,18 @@ module _ (c : tie.Start) where
   end-in =
       let s = c .args in
       let l = length-drop (s .place) (s .source .now) in
-      omega (arith, c .pre .2 .ends, span-within (drop (s .place) (s .source .now)) 1, l, c .pre .2 .inside)
+      omega (arith, c .pre .1 .ends, span-within (drop (s .place) (s .source .now)) 1, l, c .pre .1 .inside)
 
   place-in : c .args .place ≤ length (c .args .source .now)
-  place-in = omega (arith, c .pre .2 .inside)
+  place-in = omega (arith, c .pre .1 .inside)
 
   end-past : c .args .place ≤ c .args .end
-  end-past = omega (arith, c .pre .2 .ends)
+  end-past = omega (arith, c .pre .1 .ends)
 
 mul-write : tie.Need-mul-write
 mul-write c =
     let start = c .before .before in
-    record { fits = omega (arith, start .pre .1, start .pre .2 .inside) }
+    record { fits = omega (arith, start .pre .0 .few, start .pre .1 .inside) }
 
 sub-write : tie.Need-sub-write
 sub-write c = place-in (c .before .before)
@@ -44,8 +44,8 @@ write-requires c κs =
     let start = c .before .before .before .before in
     let s = start in
     let l = part-length (s .args .source .now) (s .args .place) in
-    let p = subst (λ (n : ℕ). Placed n (s .args .piece)) (sym l) (s .pre .2 .within) in
-    ((record { table-is = s .pre .0; few = omega (arith, l, s .pre .1) }, omega (arith, s .pre .1, s .pre .2 .inside)), p)
+    let p = subst (λ (n : ℕ). Placed n (s .args .piece)) (sym l) (s .pre .1 .within) in
+    ((record { table-is = s .pre .0 .table-is; few = omega (arith, l, s .pre .0 .few) }, omega (arith, s .pre .0 .few, s .pre .1 .inside)), p)
 
 write-next-requires : tie.Need-write-next-requires
 write-next-requires c κs =
@@ -53,10 +53,10 @@ write-next-requires c κs =
     let start = c .before .before .before .before .before .before .before .before in
     let s = start in
     record {
-      few = s .pre .1;
+      few = s .pre .0 .few;
       first = place-in s;
       last = end-in s;
-      near = omega (arith, after-write .write .ensures .1 .1, s .pre .1, s .pre .2 .inside);
+      near = omega (arith, after-write .write .ensures .1 .1, s .pre .0 .few, s .pre .1 .inside);
     }
 
 -- The moment when the node's words have been written, and the moment when the others have.
@@ -73,10 +73,10 @@ module _ (c : tie.After-shared-slice-known2) where
 mul-t10 : tie.Need-mul-t10
 mul-t10 c =
     let start = c .before .before .before .before .before .before .before .before .before .before .before in
-    record { fits = omega (arith, start .pre .1, start .pre .2 .inside) }
+    record { fits = omega (arith, start .pre .0 .few, start .pre .1 .inside) }
 
 shared-slice-read-t20 : tie.Need-shared-slice-read-t20
-shared-slice-read-t20 c = begun c .pre .2 .inside
+shared-slice-read-t20 c = begun c .pre .1 .inside
 
 sub-t12 : tie.Need-sub-t12
 sub-t12 c = end-past (begun c)
@@ -89,7 +89,7 @@ same-length c = search needs
 
 returns : tie.Need-returns
 returns c =
-    spliced _ _ _ _ (begun c .pre .2) _ _ _ _ _ _ (after-write c .write .ensures .0) (after-next c .write-next .ensures)
+    spliced _ _ _ _ (begun c .pre .1) _ _ _ _ _ _ (after-write c .write .ensures .0) (after-next c .write-next .ensures)
 
 pub splice-spec : {M : Type 1} → statement M
 splice-spec =

@@ -52,7 +52,7 @@ module _ (c : tie.After-contract) where
 whose-requires : tie.Need-whose-requires
 whose-requires c κs =
     let start = c .before .before in
-    (start .pre .0, start .pre .1, start .pre .2)
+    start .pre
 
 enum-known-found : tie.Need-enum-known-found
 enum-known-found c = search needs
@@ -69,7 +69,7 @@ mul-contract : tie.Need-mul-contract
 mul-contract c =
     let after-found = c .before in
     let start = c .before .before .before .before .before .before in
-    record { fits = omega (arith, place-in after-found, start .pre .1) }
+    record { fits = omega (arith, place-in after-found, start .pre .0 .few) }
 
 sub-contract : tie.Need-sub-contract
 sub-contract c =
@@ -97,7 +97,7 @@ contract-requires c κs =
     let p = after-found .found .given .0 .0 in
     let l = part-length (s .args .source .now) p in
     let e = ap (λ (v : List ℕ). span v 1) (part-to-end (s .args .source .now) p) in
-    (record { table-is = s .pre .0; few = omega (arith, l, s .pre .1) }, omega (arith, e, end-is after-found))
+    (record { table-is = s .pre .0 .table-is; few = omega (arith, l, s .pre .0 .few) }, omega (arith, e, end-is after-found))
 
 enum-told-2 : tie.Need-enum-told-2
 enum-told-2 c = search needs
@@ -117,7 +117,6 @@ splice-requires c κs =
     let l = part-length (s .args .source .now) (f .found .given .0 .0) in
     let w = subst (λ (n : ℕ). Within n (after-contract .contract .result)) l (after-contract .contract .ensures .0) in (
       s .pre .0,
-      s .pre .1,
       record { inside = known f .0; ends = end-is f; told = subst (OfNode _) e (told after-contract); within = subst (Within _) e w },
     )
 

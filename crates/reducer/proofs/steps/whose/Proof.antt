@@ -8,7 +8,7 @@ use Rattle.reducer.proofs.steps.whose.Tie as tie
 turn-requires : tie.Need-turn-requires
 turn-requires c κs =
     let start = c .before in
-    (start .pre .0, start .pre .1, start .pre .2)
+    start .pre
 
 enum-told : tie.Need-enum-told
 enum-told c = search needs
@@ -25,7 +25,7 @@ returns c =
 turn-requires-2 : tie.Need-turn-requires-2
 turn-requires-2 c κs =
     let start = c .before .before .before .before in
-    (start .pre .0, start .pre .1, omega arith)
+    (start .pre .0, omega arith)
 
 returns-2 : tie.Need-returns-2
 returns-2 c = (c .turn2 .ensures .0, from-the-start (c .turn2 .ensures .1))

@@ -18,12 +18,12 @@ module _ (c : tie.Then1) where
   start = c .before .before
 
   inside : start .args .i ≤ length (start .args .words .now)
-  inside = start .pre .2 (c .if1 .taken)
+  inside = start .pre .1 (c .if1 .taken)
 
 mul-skip : tie.Need-mul-skip
 mul-skip c =
     let start = c .before .before in
-    record { fits = omega (arith, inside c, start .pre .1) }
+    record { fits = omega (arith, inside c, start .pre .0 .few) }
 
 sub-skip : tie.Need-sub-skip
 sub-skip c = inside c
@@ -37,13 +37,13 @@ part-skip-end c = search needs
 skip-requires : tie.Need-skip-requires
 skip-requires c κs =
     let start = c .before .before .before in
-    (start .pre .0, omega (arith, part-length (start .args .words .now) (start .args .i), start .pre .1, start .pre .3))
+    (start .pre .0 .table-is, omega (arith, part-length (start .args .words .now) (start .args .i), start .pre .0 .few, start .pre .2))
 
 add-t15 : tie.Need-add-t15
 add-t15 c =
     let then1 = c .before .before in
     let start = c .before .before .before .before in
-    omega (arith, c .skip .ensures .0, part-length (start .args .words .now) (start .args .i), start .pre .1, inside then1)
+    omega (arith, c .skip .ensures .0, part-length (start .args .words .now) (start .args .i), start .pre .0 .few, inside then1)
 
 returns : tie.Need-returns
 returns c =

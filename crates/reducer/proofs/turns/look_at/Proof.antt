@@ -30,7 +30,7 @@ module _ (c : tie.After-skip) where
   start-is = ap (λ (n : ℕ). 1 + n) (c .skip .ensures .1 ∙ ap (λ (v : List ℕ). span v 1) (part-to-end (start′ .args .words .now) 1))
 
   start-in : 1 + c .skip .result ≤ length (start′ .args .words .now)
-  start-in = omega (arith, c .skip .ensures .0, part-length (start′ .args .words .now) 1, start′ .pre .2)
+  start-in = omega (arith, c .skip .ensures .0, part-length (start′ .args .words .now) 1, start′ .pre .1)
 
 shared-slice-read-row-at : tie.Need-shared-slice-read-row-at
 shared-slice-read-row-at c = search needs
@@ -46,7 +46,7 @@ returns c =
     let then1 = c .before in
     let after-row-at = c .before .before in
     let start = c .before .before .before .before .before in
-    rw (c .taking .ensures) (look-number _ _ (shape-is after-row-at) (start .pre .2) (then1 .if1 .taken))
+    rw (c .taking .ensures) (look-number _ _ (shape-is after-row-at) (start .pre .1) (then1 .if1 .taken))
 
 form-at-requires : tie.Need-form-at-requires
 form-at-requires c κs = search needs
@@ -60,7 +60,7 @@ returns-2 c =
     let then2 = c .before .before in
     let after-row-at = c .before .before .before .before in
     let start = c .before .before .before .before .before .before .before in
-    rw (c .taking2 .ensures) (look-two _ _ (shape-is after-row-at) (start .pre .2) _ (after-form-at .form-at .ensures) (then2 .if2 .taken))
+    rw (c .taking2 .ensures) (look-two _ _ (shape-is after-row-at) (start .pre .1) _ (after-form-at .form-at .ensures) (then2 .if2 .taken))
 
 taking-requires-3 : tie.Need-taking-requires-3
 taking-requires-3 c κs = search needs
@@ -70,7 +70,7 @@ returns-3 c =
     let then3 = c .before in
     let after-row-at = c .before .before .before .before in
     let start = c .before .before .before .before .before .before .before in
-    rw (c .taking3 .ensures) (look-one _ _ (shape-is after-row-at) (start .pre .2) (then3 .if3 .taken))
+    rw (c .taking3 .ensures) (look-one _ _ (shape-is after-row-at) (start .pre .1) (then3 .if3 .taken))
 
 taking-requires-4 : tie.Need-taking-requires-4
 taking-requires-4 c κs = search needs
@@ -80,7 +80,7 @@ returns-4 c =
     let then4 = c .before in
     let after-row-at = c .before .before .before .before .before in
     let start = c .before .before .before .before .before .before .before .before in
-    rw (c .taking4 .ensures) (look-choice _ _ (shape-is after-row-at) (start .pre .2) (then4 .if4 .taken))
+    rw (c .taking4 .ensures) (look-choice _ _ (shape-is after-row-at) (start .pre .1) (then4 .if4 .taken))
 
 form-at-requires-2 : tie.Need-form-at-requires-2
 form-at-requires-2 c κs = search needs
@@ -112,7 +112,7 @@ returns-5 c =
     let start = c .before .before .before .before .before .before .before .before .before .before .before .before in
     let s = after-skip in
     rw (c .taking5 .ensures)
-    (look-boundary _ _ (shape-is after-row-at) (start .pre .2) _ (after-form-at2 .form-at2 .ensures) _ (start-is s) (start-in s)
+    (look-boundary _ _ (shape-is after-row-at) (start .pre .1) _ (after-form-at2 .form-at2 .ensures) _ (start-is s) (start-in s)
     (then5 .if5 .taken))
 
 skip-requires-2 : tie.Need-skip-requires-2
@@ -134,7 +134,7 @@ returns-6 c =
     let s = after-skip2 .skip2 .ensures in
     let f = after-form-at2 .form-at2 .ensures in
     rw (c .taking6 .ensures)
-    (look-alone _ _ (shape-is after-row-at) (start .pre .2) _ f _ (s .1) (s .0)
+    (look-alone _ _ (shape-is after-row-at) (start .pre .1) _ f _ (s .1) (s .0)
     (else3 .if3 .left) (else2 .if2 .left) (else4 .if4 .left) (else5 .if5 .left))
 
 pub look-at-spec : {M : Type 1} → statement M

@@ -61,13 +61,13 @@ module _ (c : tie.Joined2 Inv-loop μ-loop) where
 loop-holds : tie.Need-loop-holds Inv-loop μ-loop
 loop-holds c =
     let start = c .before in
-    walking-start _ _ (start .pre .2)
+    walking-start _ _ (start .pre .1)
 
 finish-requires : tie.Need-finish-requires Inv-loop μ-loop
 finish-requires c κs =
     let at-loop = c .before .before in
     let start = c .before .before .before .before in
-    let i = at-loop .loop .inv in (start .pre .0, start .pre .1, λ b. i .waiting b .inside, i .small)
+    let i = at-loop .loop .inv in (start .pre .0, λ b. i .waiting b .inside, i .small)
 
 returns : tie.Need-returns Inv-loop μ-loop
 returns c =
@@ -106,7 +106,7 @@ add-due c =
     let after-look-at = c .before .before .before in
     let in-loop = c .before .before .before .before .before .before in
     let start = c .before .before .before .before .before .before .before .before .before in
-    omega (arith, due-few joined2, seen after-look-at .few, in-loop .loop-test .taken, start .pre .1)
+    omega (arith, due-few joined2, seen after-look-at .few, in-loop .loop-test .taken, start .pre .0 .few)
 
 add-i : tie.Need-add-i Inv-loop μ-loop
 add-i c = search needs
@@ -123,7 +123,7 @@ finish-requires-2 : tie.Need-finish-requires-2 Inv-loop μ-loop
 finish-requires-2 c κs =
     let at-loop = c .before in
     let start = c .before .before .before in
-    let i = at-loop .loop .inv in (start .pre .0, start .pre .1, λ b. i .waiting b .inside, i .small)
+    let i = at-loop .loop .inv in (start .pre .0, λ b. i .waiting b .inside, i .small)
 
 returns-2 : tie.Need-returns-2 Inv-loop μ-loop
 returns-2 c =
