@@ -49,7 +49,19 @@ lift w p end s t v false r e p′ f x = (
       omega (arith, d, z, i .0),
 )
 
+-- The types that p and q mean have one shape f, with a part, and those written behind p and q are compared.
+pub record OneShape (w : List ℕ) (p q f g : ℕ) (m : Match) : Type 0 where
+  pub first : f ≡ formerAt w p
+  pub second : g ≡ formerAt w q
+  pub same : f ≡ g
+  pub many : 12 ≤ f
+  pub matched : Matched (take (length w - (p + 1)) (drop (p + 1) w)) (take (length w - (q + 1)) (drop (q + 1) w)) (p + 1) m
+
 module _ (w ls : List ℕ) (p q room : ℕ) where
+  -- The answer is right where p and q mean these types.
+  abbrev Right : Comparison → Ty → Ty → Type 0
+  Right r t u = (lo hi lo′ hi′ : ℕ) → Means w ls lo hi p t → Means w ls lo′ hi′ q u → arrows t < room → Says w p t u (sameType ml t u) r
+
   pub no-room : room ≡ 0 → Compares w ls p q room (At p)
   no-room z t u lo hi lo′ hi′ mp mq less = absurd (omega arith)
 
@@ -63,13 +75,10 @@ module _ (w ls : List ℕ) (p q room : ℕ) where
 
     module _ (same : f ≡ g) where
       -- By cases on the shape, which both have.
-      abbrev Answers : Comparison → Ty → Ty → Type 0
-      Answers r t u = (lo hi lo′ hi′ : ℕ) → Means w ls lo hi p t → Means w ls lo′ hi′ q u → arrows t < room → Says w p t u (sameType ml t u) r
-
-      by-shape : (r : Comparison) → (f ≡ 10 → Answers r N N) → (f ≡ 11 → Answers r L L) → (f ≡ 12 → (t u : Ty) → Answers r (list t) (list u))
-          → (f ≡ 13 → (s t u v : Ty) → Answers r (s to t) (u to v)) → Compares w ls p q room r
+      by-shape : (r : Comparison) → (f ≡ 10 → Right r N N) → (f ≡ 11 → Right r L L) → (f ≡ 12 → (t u : Ty) → Right r (list t) (list u))
+          → (f ≡ 13 → (s t u v : Ty) → Right r (s to t) (u to v)) → Compares w ls p q room r
       by-shape r a b c d t u lo hi lo′ hi′ mp mq less =
-          one-shape (Answers r) f a b c d t u (ef ∙ means-former w ls lo hi p t mp) (same ∙ eg ∙ means-former w ls lo′ hi′ q u mq)
+          one-shape (Right r) f a b c d t u (ef ∙ means-former w ls lo hi p t mp) (same ∙ eg ∙ means-former w ls lo′ hi′ q u mq)
           lo hi lo′ hi′ mp mq less
 
       pub no-parts : f < 12 → Compares w ls p q room Equal
@@ -78,63 +87,67 @@ module _ (w ls : List ℕ) (p q room : ℕ) where
           by-shape Equal (λ e lo hi lo′ hi′ mp mq less. refl) (λ e lo hi lo′ hi′ mp mq less. refl)
           (λ e. absurd (omega arith)) (λ e. absurd (omega arith))
 
-      module _ (big : 12 ≤ f) (m : Match)
-          (h : Matched (take (length w - (p + 1)) (drop (p + 1) w)) (take (length w - (q + 1)) (drop (q + 1) w)) (p + 1) m) where
-        part : Matched (drop (p + 1) w) (drop (q + 1) w) (p + 1) m
-        part = subst₂ (λ (a b : List ℕ). Matched a b (p + 1) m) (part-to-end w (p + 1)) (part-to-end w (q + 1)) h
+  module _ {f g : ℕ} {m : Match} (B : OneShape w p q f g m) where
+    by-parts : (r : Comparison) → (f ≡ 12 → (t u : Ty) → Right r (list t) (list u)) → (f ≡ 13 → (s t u v : Ty) → Right r (s to t) (u to v))
+        → Compares w ls p q room r
+    by-parts r =
+        by-shape f (B .first) g (B .second) (B .same) r (λ e. absurd (omega (arith, B .many))) (λ e. absurd (omega (arith, B .many)))
 
-        -- The types written behind differ.
-        behind-differ : (d : ℕ) → m ≡ Differ d → (t u : Ty) → Written w (p + 1) t → Written w (q + 1) u → (a b : List ℕ)
-            → (sameType ml t u ≡ false) × (d ≡ p + 1 + firstDifference (putTy t a) (putTy u b))
-        behind-differ d e t u x y a b =
-            let i = if-differ t u _ d _ m e (part .is t u (x .0) (y .0) (x .1) (y .1)) in
-            (i .0, i .1 ∙ rw (x .1, y .1, within-types t u (x .0) (y .0) a b (i .0)))
+    part : Matched (drop (p + 1) w) (drop (q + 1) w) (p + 1) m
+    part = subst₂ (λ (a b : List ℕ). Matched a b (p + 1) m) (part-to-end w (p + 1)) (part-to-end w (q + 1)) (B .matched)
 
-        pub differ : (d : ℕ) → m ≡ Differ d → Compares w ls p q room (At d)
-        unfolding Says firstDifference putTy
-        differ d e =
-            by-shape (At d) (λ e. absurd (omega arith)) (λ e. absurd (omega arith))
-            (λ _ t u lo hi lo′ hi′ mp mq less.
-            let i = behind-differ d e t u (element-written w ls lo hi p t mp) (element-written w ls lo′ hi′ q u mq) [] [] in
-            rw (same-lists t u, i .0) (d, refl, λ x. omega (arith, i .1)))
-            (λ _ s t u v lo hi lo′ hi′ mp mq less.
-            let i = behind-differ d e s u (argument-written w ls lo hi p s t mp) (argument-written w ls lo′ hi′ q u v mq) (wordsTy t) (wordsTy v) in
-            rw (same-functions s t u v, i .0) (d, refl, λ x. omega (arith, i .1)))
+    -- The types written behind differ.
+    behind-differ : (d : ℕ) → m ≡ Differ d → (t u : Ty) → Written w (p + 1) t → Written w (q + 1) u → (a b : List ℕ)
+        → (sameType ml t u ≡ false) × (d ≡ p + 1 + firstDifference (putTy t a) (putTy u b))
+    behind-differ d e t u x y a b =
+        let i = if-differ t u _ d _ m e (part .is t u (x .0) (y .0) (x .1) (y .1)) in
+        (i .0, i .1 ∙ rw (x .1, y .1, within-types t u (x .0) (y .0) a b (i .0)))
 
-        module _ (end : ℕ) (e : m ≡ Same end) where
-          pub ends : p + 1 ≤ length w → q + 1 ≤ length w → (p + 1 < end) × (end ≤ length w) × (q + (end - p) ≤ length w)
-          ends hp hq =
-              let b = same-in _ _ _ end m (part .within) e in
-              (b .0, omega (arith, b .1, length-drop (p + 1) w), omega (arith, b .0, b .2, length-drop (q + 1) w))
+    pub differ : (d : ℕ) → m ≡ Differ d → Compares w ls p q room (At d)
+    unfolding Says firstDifference putTy
+    differ d e =
+        by-parts (At d)
+        (λ _ t u lo hi lo′ hi′ mp mq less.
+        let i = behind-differ d e t u (element-written w ls lo hi p t mp) (element-written w ls lo′ hi′ q u mq) [] [] in
+        rw (same-lists t u, i .0) (d, refl, λ x. omega (arith, i .1)))
+        (λ _ s t u v lo hi lo′ hi′ mp mq less.
+        let i = behind-differ d e s u (argument-written w ls lo hi p s t mp) (argument-written w ls lo′ hi′ q u v mq) (wordsTy t) (wordsTy v) in
+        rw (same-functions s t u v, i .0) (d, refl, λ x. omega (arith, i .1)))
 
-          behind-same : (t u : Ty) → Written w (p + 1) t → Written w (q + 1) u → (sameType ml t u ≡ true) × (end ≡ p + 1 + sizeTy t) × (t ≡ u)
-          behind-same t u x y = if-same t u _ end _ m e (part .is t u (x .0) (y .0) (x .1) (y .1))
+    module _ (end : ℕ) (e : m ≡ Same end) where
+      pub ends : p + 1 ≤ length w → q + 1 ≤ length w → (p + 1 < end) × (end ≤ length w) × (q + (end - p) ≤ length w)
+      ends hp hq =
+          let b = same-in _ _ _ end m (part .within) e in
+          (b .0, omega (arith, b .1, length-drop (p + 1) w), omega (arith, b .0, b .2, length-drop (q + 1) w))
 
-          pub lists : f ≡ 12 → Compares w ls p q room Equal
-          unfolding Says
-          lists twelve =
-              by-shape Equal (λ e. absurd (omega arith)) (λ e. absurd (omega arith))
-              (λ _ t u lo hi lo′ hi′ mp mq less.
-              let i = behind-same t u (element-written w ls lo hi p t mp) (element-written w ls lo′ hi′ q u mq) in
-              rw (same-lists t u, i .0) refl)
-              (λ e. absurd (omega arith))
+      behind-same : (t u : Ty) → Written w (p + 1) t → Written w (q + 1) u → (sameType ml t u ≡ true) × (end ≡ p + 1 + sizeTy t) × (t ≡ u)
+      behind-same t u x y = if-same t u _ end _ m e (part .is t u (x .0) (y .0) (x .1) (y .1))
 
-          -- The result types are compared next.
-          pub functions : (f ≡ 12 → ⊥) → (p′ q′ : ℕ) (r : Comparison) → p′ ≡ codomainOf w ls p end → q′ ≡ codomainOf w ls q (q + (end - p))
-              → Compares w ls p′ q′ (room - 1) r → Compares w ls p q room r
-          unfolding arrows
-          functions other p′ q′ r ep eq rest =
-              by-shape r (λ e. absurd (omega arith)) (λ e. absurd (omega arith)) (λ e. absurd (other e))
-              (λ _ s t u v lo hi lo′ hi′ mp mq less.
-              let i = behind-same s u (argument-written w ls lo hi p s t mp) (argument-written w ls lo′ hi′ q u v mq) in
-              let j : q + (end - p) ≡ q + 1 + sizeTy u = omega (arith, i .1, ap sizeTy (i .2)) in
-              let mt : Means w ls lo hi p′ t = rw ep (means-codomain w ls lo hi p end s t mp (i .1)) in
-              let mv : Means w ls lo′ hi′ q′ v = rw eq (means-codomain w ls lo′ hi′ q (q + (end - p)) u v mq j) in
-              let x : Says w p′ t v (sameType ml t v) r = rest t v lo hi lo′ hi′ mt mv (omega arith) in
-              let y : Says w p (s to t) (s to v) (sameType ml t v) r =
-              lift w p end s t v (sameType ml t v) r (i .1) p′
-              (λ z. let c = codomain-written w ls p end s t (means-in w ls lo hi p (s to t) mp .0) (i .1) z in (ep ∙ c .0, c .1)) x in
-              rw (same-functions s t u v, i .0) (subst (λ (z : Ty). Says w p (s to t) (z to v) (sameType ml t v) r) (i .2) y))
+      pub lists : f ≡ 12 → Compares w ls p q room Equal
+      unfolding Says
+      lists twelve =
+          by-parts Equal
+          (λ _ t u lo hi lo′ hi′ mp mq less.
+          let i = behind-same t u (element-written w ls lo hi p t mp) (element-written w ls lo′ hi′ q u mq) in
+          rw (same-lists t u, i .0) refl)
+          (λ e. absurd (omega arith))
+
+      -- The result types are compared next.
+      pub functions : (f ≡ 12 → ⊥) → (p′ q′ : ℕ) (r : Comparison) → p′ ≡ codomainOf w ls p end → q′ ≡ codomainOf w ls q (q + (end - p))
+          → Compares w ls p′ q′ (room - 1) r → Compares w ls p q room r
+      unfolding arrows
+      functions other p′ q′ r ep eq rest =
+          by-parts r (λ e. absurd (other e))
+          (λ _ s t u v lo hi lo′ hi′ mp mq less.
+          let i = behind-same s u (argument-written w ls lo hi p s t mp) (argument-written w ls lo′ hi′ q u v mq) in
+          let j : q + (end - p) ≡ q + 1 + sizeTy u = omega (arith, i .1, ap sizeTy (i .2)) in
+          let mt : Means w ls lo hi p′ t = rw ep (means-codomain w ls lo hi p end s t mp (i .1)) in
+          let mv : Means w ls lo′ hi′ q′ v = rw eq (means-codomain w ls lo′ hi′ q (q + (end - p)) u v mq j) in
+          let x : Says w p′ t v (sameType ml t v) r = rest t v lo hi lo′ hi′ mt mv (omega arith) in
+          let y : Says w p (s to t) (s to v) (sameType ml t v) r =
+          lift w p end s t v (sameType ml t v) r (i .1) p′
+          (λ z. let c = codomain-written w ls p end s t (means-in w ls lo hi p (s to t) mp .0) (i .1) z in (ep ∙ c .0, c .1)) x in
+          rw (same-functions s t u v, i .0) (subst (λ (z : Ty). Says w p (s to t) (z to v) (sameType ml t v) r) (i .2) y))
 
 -- As much room as every type needs.
 pub enough : (w ls : List ℕ) (p q room : ℕ) (r : Comparison) → room ≡ length w + length w + 1 → Compares w ls p q room r → Compared w ls p q r

@@ -60,6 +60,13 @@ one-word t k l =
     let v = view type t in
     ap (λ (z : List ℕ). getD z 0 0) (v .spelt k) ∙ sym (ap (λ (z : List ℕ). getD z 0 0) (v .spelt l))
 
+-- x and y begin with one word, whose row is known.
+pub record OneWord (x y : List ℕ) (row : code.Row) : Type 0 where
+  pub more-x : length x ≡ 0 → ⊥
+  pub more-y : length y ≡ 0 → ⊥
+  pub word : getD x 0 0 ≡ getD y 0 0
+  pub known : row ≡ rowOf (getD x 0 0 % 256)
+
 module _ (x y : List ℕ) (at : ℕ) where
   pub no-x : length x ≡ 0 → Matched x y at (Differ at)
   no-x z = record { within = tt; is = λ t u k l p q. absurd (omega (arith, type-length x t k p)) }
@@ -80,33 +87,32 @@ module _ (x y : List ℕ) (at : ℕ) where
               absurd (d (ap (λ (z : List ℕ). getD z 0 0) e ∙ one-word u k l ∙ sym (ap (λ (z : List ℕ). getD z 0 0) q)))
           by false g = g
 
-  module _ (nx : length x ≡ 0 → ⊥) (ny : length y ≡ 0 → ⊥) (w : getD x 0 0 ≡ getD y 0 0) (row : code.Row)
-      (found : row ≡ rowOf (getD x 0 0 % 256)) where
+  module _ {row : code.Row} (F : OneWord x y row) where
     first-same : firstDifference x y ≡ suc (firstDifference (drop 1 x) (drop 1 y))
-    first-same = past-first x y (pos-of-ne-zero nx) (pos-of-ne-zero ny) w
+    first-same = past-first x y (pos-of-ne-zero (F .more-x)) (pos-of-ne-zero (F .more-y)) (F .word)
 
-    -- By cases on the shape, which both have.
-    abbrev Answers : Match → Ty → Ty → Type 0
-    Answers r t u = (k l : List ℕ) → x ≡ putTy t k → y ≡ putTy u l → r ≡ matching t u at (firstDifference x y)
+    -- The answer is right where x and y are these types; by cases on the shape, which both have.
+    abbrev Right : Match → Ty → Ty → Type 0
+    Right r t u = (k l : List ℕ) → x ≡ putTy t k → y ≡ putTy u l → r ≡ matching t u at (firstDifference x y)
 
-    by-shape : (r : Match) → (row .shape ≡ 10 → Answers r N N) → (row .shape ≡ 11 → Answers r L L)
-        → (row .shape ≡ 12 → (t u : Ty) → Answers r (list t) (list u)) → (row .shape ≡ 13 → (s t u v : Ty) → Answers r (s to t) (u to v))
-        → (t u : Ty) → Answers r t u
+    by-shape : (r : Match) → (row .shape ≡ 10 → Right r N N) → (row .shape ≡ 11 → Right r L L)
+        → (row .shape ≡ 12 → (t u : Ty) → Right r (list t) (list u)) → (row .shape ≡ 13 → (s t u v : Ty) → Right r (s to t) (u to v))
+        → (t u : Ty) → Right r t u
     by-shape r a b c d t u k l p q =
-        let e : row .shape ≡ rowOf (getD x 0 0 % 256) .shape = ap (λ (z : code.Row). z .shape) found in
-        one-shape (Answers r) (row .shape) a b c d t u (e ∙ shape-is x t k p) (e ∙ ap (λ (j : ℕ). rowOf (j % 256) .shape) w ∙ shape-is y u l q)
-        k l p q
+        let e : row .shape ≡ rowOf (getD x 0 0 % 256) .shape = ap (λ (z : code.Row). z .shape) (F .known) in
+        one-shape (Right r) (row .shape) a b c d t u (e ∙ shape-is x t k p)
+        (e ∙ ap (λ (j : ℕ). rowOf (j % 256) .shape) (F .word) ∙ shape-is y u l q) k l p q
 
     -- N and L have no parts.
     pub no-parts : row .shape < 12 → Matched x y at (Same (at + 1))
     unfolding sizeTy
     no-parts small =
         record {
-          within = (omega arith, omega (arith, pos-of-ne-zero nx), omega (arith, pos-of-ne-zero ny));
+          within = (omega arith, omega (arith, pos-of-ne-zero (F .more-x)), omega (arith, pos-of-ne-zero (F .more-y)));
           is = by-shape (Same (at + 1)) (λ e k l p q. refl) (λ e k l p q. refl) (λ e. absurd (omega arith)) (λ e. absurd (omega arith));
         }
 
-    module _ (big : 12 ≤ row .shape) (r : Match) (m : Matched (take (length x - 1) (drop 1 x)) (take (length y - 1) (drop 1 y)) (at + 1) r) where
+    module _ (big : 12 ≤ row .shape) {r : Match} (m : Matched (take (length x - 1) (drop 1 x)) (take (length y - 1) (drop 1 y)) (at + 1) r) where
       part : Matched (drop 1 x) (drop 1 y) (at + 1) r
       part = subst₂ (λ (a b : List ℕ). Matched a b (at + 1) r) (part-to-end x 1) (part-to-end y 1) m
 
@@ -133,7 +139,9 @@ module _ (x y : List ℕ) (at : ℕ) where
         pub ends : (at + 1 < n) × (n ≤ at + length x) × (n ≤ at + length y)
         ends =
             let b = same-in _ _ _ n r (part .within) g in
-            (b .0, omega (arith, b .1, length-drop 1 x, pos-of-ne-zero nx), omega (arith, b .2, length-drop 1 y, pos-of-ne-zero ny))
+            let nx = pos-of-ne-zero (F .more-x) in
+            let ny = pos-of-ne-zero (F .more-y) in
+            (b .0, omega (arith, b .1, length-drop 1 x, nx), omega (arith, b .2, length-drop 1 y, ny))
 
         -- The element types are the same.
         pub lists : row .shape ≡ 12 → Matched x y at (Same n)

@@ -9,6 +9,7 @@ ghost use mathlib.Core.Path.{_≡_};
 ghost use Prim.Native.Nat.{_+_, _≤_, _<_, _^_};
 ghost use lib.ListN.{length};
 ghost use Rattle.nodes.specs.Table.{kinds};
+ghost use Rattle.types.specs.Links.{Linked};
 ghost use Rattle.types.specs.References.{shapeAt, formerAt, codomainOf};
 ghost use Rattle.types.specs.Comparisons.{Matched, Ends, Compares, Compared, Equality};
 
@@ -109,7 +110,7 @@ fn place(x: u16) -> usize
 
 // The result type of the function type at p, whose argument type ends before `end`.
 pub fn codomain(table: &Kinds, all: &[u32], link: &[u16], p: usize, end: usize) -> usize
-    requires { ⌜ (now table ≡ kinds) × (length (now link) ≡ length (now all)) ⌝ }
+    requires { ⌜ Linked (now table) (now all) (now link) ⌝ }
     ensures { λ r. ⌜ r ≡ codomainOf (now (all .entry)) (now (link .entry)) p end ⌝ }
 {
     if shape_at(table, all, p) == nodes::kinds::LAMBDA {
@@ -127,7 +128,7 @@ fn compare_within(
     q: usize,
     room: usize,
 ) -> Comparison
-    requires { ⌜ (now table ≡ kinds) × (length (now link) ≡ length (now all)) ⌝ }
+    requires { ⌜ Linked (now table) (now all) (now link) ⌝ }
     ensures { λ r. ⌜ Compares (now (all .entry)) (now (link .entry)) p q room r ⌝ }
 {
     if room == 0 {
@@ -158,7 +159,7 @@ fn compare_within(
 
 // Compares the types of two references. No type of a file has as many arrows in a row as twice its words.
 pub fn compare(table: &Kinds, all: &[u32], link: &[u16], p: usize, q: usize) -> Comparison
-    requires { ⌜ (now table ≡ kinds) × (length (now link) ≡ length (now all)) ⌝ }
+    requires { ⌜ Linked (now table) (now all) (now link) ⌝ }
     ensures { λ r. ⌜ Compared (now (all .entry)) (now (link .entry)) p q r ⌝ }
 {
     compare_within(table, all, link, p, q, all.len() + all.len() + 1)
@@ -166,7 +167,7 @@ pub fn compare(table: &Kinds, all: &[u32], link: &[u16], p: usize, q: usize) -> 
 
 // Whether two references mean one type.
 pub fn same(table: &Kinds, all: &[u32], link: &[u16], p: usize, q: usize) -> bool
-    requires { ⌜ (now table ≡ kinds) × (length (now link) ≡ length (now all)) ⌝ }
+    requires { ⌜ Linked (now table) (now all) (now link) ⌝ }
     ensures { λ r. ⌜ Equality (now (all .entry)) (now (link .entry)) p q r ⌝ }
 {
     match compare(table, all, link, p, q) {

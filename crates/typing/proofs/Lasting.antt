@@ -11,7 +11,7 @@ use Rattle.calculus.specs.Typing.{of, Lambdas}
 use Rattle.calculus.specs.Inference.{infer}
 use Rattle.calculus.specs.Faults.{fault}
 use Rattle.types.proofs.Frames.{means-widen, means-frame}
-use Rattle.typing.specs.Links.{KeptBefore, LinkTo}
+use Rattle.types.specs.Links.{KeptBefore, LinkTo}
 use Rattle.typing.specs.Answers.{Reference, Answer, whole, bad, Refers, WrittenStatic, Passes, Advances, Answers}
 use Rattle.typing.specs.Variables.{Binds, Scope}
 use Rattle.typing.specs.Infers.{Told}

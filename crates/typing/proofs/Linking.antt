@@ -5,7 +5,7 @@ use mathlib.Core.Path.{_≡_, refl, _∙_}
 use lib.ListN.{length, getD, set, length-set}
 use lib.Seq.{getD-set-same, getD-set-other}
 use native.Mathlib.Omega.{arith}
-use Rattle.typing.specs.Links.{LinkTo}
+use Rattle.types.specs.Links.{LinkTo}
 use Rattle.typing.specs.Answers.{whole}
 use Rattle.typing.specs.Parts.{ScopeWithin, Function}
 

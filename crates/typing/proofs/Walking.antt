@@ -17,7 +17,7 @@ use Rattle.nodes.specs.Table.{shapeNumber}
 use Rattle.nodes.proofs.Ways.{part-length}
 use Rattle.nodes.proofs.Terms as node
 use Rattle.nodes.proofs.Terms.{Shaped}
-use Rattle.typing.specs.Links.{Linked, KeptBefore}
+use Rattle.types.specs.Links.{Linked, KeptBefore}
 use Rattle.typing.specs.Answers.{Reference, Answer, whole, bad, Advances, Answers, other, Crossed}
 use Rattle.typing.specs.Variables.{Scope}
 use Rattle.typing.specs.Parts.{leadSize, Begins, Read, PartsStart, ScopeWithin}

@@ -8,7 +8,7 @@ use Rattle.calculus.specs.Words.{put, size}
 use Rattle.calculus.specs.Typing.{Lambdas}
 use Rattle.calculus.specs.Inference.{infer}
 use Rattle.calculus.specs.Faults.{fault}
-use Rattle.typing.specs.Links.{KeptBefore}
+use Rattle.types.specs.Links.{KeptBefore}
 use Rattle.typing.specs.Answers.{Answer, Advances, Answers}
 use Rattle.typing.specs.Variables.{Scope}
 

@@ -1,4 +1,3 @@
-pub mod Links
 pub mod Answers
 pub mod Operators
 pub mod Variables

@@ -9,7 +9,7 @@ use Rattle.calculus.specs.Verdicts.{found}
 use Rattle.calculus.specs.Words.{put, sizeTy}
 use Rattle.nodes.specs.declared.kinds.Row as code
 use Rattle.nodes.specs.Table.{rowOf, kinds}
-use Rattle.typing.specs.Links.{Linked, LinkTo, KeptBefore}
+use Rattle.types.specs.Links.{Linked, LinkTo, KeptBefore}
 use Rattle.typing.specs.Answers.{Answer, whole}
 
 -- The type that the words of a node begin with, behind its own word.

@@ -11,7 +11,7 @@ ghost use Prim.Native.Nat.{_<_};
 ghost use lib.ListN.{length};
 ghost use Rattle.calculus.specs.Trees.{ml, sc};
 ghost use Rattle.typing.specs.Answers.{inferred, formed};
-ghost use Rattle.typing.specs.Links.{LinkTo};
+ghost use Rattle.types.specs.Links.{LinkTo};
 ghost use Rattle.typing.specs.Parts.{ReadBy, PartsStart, Leaf, ScopeWithin, Function};
 ghost use Rattle.typing.specs.Infers.{Infers};
 

@@ -11,7 +11,7 @@ ghost use mathlib.Core.List.{List};
 ghost use Prim.Native.Nat.{ℕ, _<_};
 ghost use Rattle.nodes.specs.Table.{kinds};
 ghost use Rattle.calculus.specs.Trees.{ml, sc, FIX, APP, CONS};
-ghost use Rattle.typing.specs.Links.{Linked, LinkedAt};
+ghost use Rattle.types.specs.Links.{Linked, LinkedAt};
 ghost use Rattle.typing.specs.Answers.{inferred, formed, conclusion, Crossed};
 ghost use Rattle.typing.specs.Operators.{ArgumentEnd, elementOf, IfSame, Rule1, Rule2, Result1, Result2, Result3};
 ghost use Rattle.typing.specs.Variables.{LambdaOf, Variable};

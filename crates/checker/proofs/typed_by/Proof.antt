@@ -47,7 +47,7 @@ same-requires : tie.Need-same-requires
 same-requires c κs =
     let i = c .before .before .before .before .before .before in
     let s = i .before .before .before .before .before in
-    (s .pre .0 .tabled, i .infer .ensures .same ∙ s .pre .0 .linked)
+    record { tabled = s .pre .0 .tabled; linked = i .infer .ensures .same ∙ s .pre .0 .linked }
 
 same-length-2 : tie.Need-same-length-2
 same-length-2 c = search needs

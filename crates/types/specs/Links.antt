@@ -5,7 +5,7 @@ use mathlib.Core.Path.{_≡_}
 use lib.ListN.{length, getD}
 use Rattle.nodes.specs.Table.{kinds}
 
--- What nearly each function asks of the table, the file's words and the links; and that a place is one of the file's.
+-- What nearly each function over types asks of the table, the file's words and the links; and that a place is one of the file's.
 pub record Linked (table w ls : List ℕ) : Type 0 where
   pub tabled : table ≡ kinds
   pub linked : length ls ≡ length w
