@@ -25,7 +25,7 @@ use Rattle.nodes.specs.Refusals.{numberOf, placeOf}
 use Rattle.nodes.specs.Table.{sortNumber, entry, noEntry, rowOf}
 use Rattle.nodes.specs.Walks.{walked, sortsOf, bothOrdered}
 use Rattle.nodes.proofs.Ways.{part-length}
-use Rattle.nodes.proofs.Nested.{Answer}
+use Rattle.nodes.proofs.Nested.{nestedAt}
 
 sort-alone : (s : Sort) → sortsOf (sortNumber s) ≡ s ∷ []
 unfolding sortsOf
@@ -34,7 +34,7 @@ sort-alone (term ml) = refl
 sort-alone (term sc) = refl
 
 -- Words in order: the walk over one node of a sort, and what is left.
-module _ (ws : List ℕ) (at sort : ℕ) (x : Walked) (q : walked x ≡ Answer ws at sort 256) where
+module _ (ws : List ℕ) (at sort : ℕ) (x : Walked) (q : walked x ≡ nestedAt ws at sort 256) where
   pub not-before : (n : ℕ) → x ≡ Took n → at ≤ n
   not-before n e =
       let r : n ≡ at + reach (walk nestedDue ws (levelled 256 (sortsOf sort))) =
@@ -90,7 +90,8 @@ module _ (ts ws : List ℕ) (x : Walked) (q : (s : Sort) → 1 ≡ sortNumber s 
       let k : 4 + i .0 ≡ n = passed-injective _ _ (sym (ap (later 4) (i .1)) ∙ g) in
       omega arith
 
-  pub terms-follow : (n : ℕ) → x ≡ Took n → (y : Walked) → ((s : Sort) → 2 ≡ sortNumber s → walked y ≡ later n (inOrder s ws)) → walked y ≡ bothOrdered ts ws
+  pub terms-follow : (n : ℕ) → x ≡ Took n → (y : Walked) → ((s : Sort) → 2 ≡ sortNumber s → walked y ≡ later n (inOrder s ws))
+      → walked y ≡ bothOrdered ts ws
   unfolding bothOrdered
   terms-follow n e y g =
       g (term ml) refl ∙ ap (λ (m : ℕ). later m (inOrder (term ml) ws)) (types-end n e)
@@ -111,7 +112,7 @@ unfolding rowOf
 sort-some k r e = ap (λ (o : Option (Row (sortOfKind k))). found o noEntry (λ r. entry r) .sort) e
 
 module _ (ws : List ℕ) (row : code.Row) (x : Walked) (is : row ≡ rowOf (getD ws 0 0 % 256)) (more : length ws ≡ 0 → ⊥)
-    (q : walked x ≡ Answer ws 0 (row .sort) (length ws)) where
+    (q : walked x ≡ nestedAt ws 0 (row .sort) (length ws)) where
   answer-by : (n : ℕ) → rowOf (getD ws 0 0 % 256) .sort ≡ n → walked x ≡ walk nestedDue ws (levelled (length ws) (sortsOf n))
   answer-by n e =
       q ∙ later-zero (walk nestedDue ws (levelled (length ws) (sortsOf (row .sort))))

@@ -1,4 +1,4 @@
 pub mod Table
 pub mod Refusals
 pub mod Walks
-pub mod Around
+pub mod Languages

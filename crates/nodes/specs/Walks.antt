@@ -1,7 +1,8 @@
 -- What is due in code, and what a walk answers.
-use Prim.Native.Nat.{ℕ, zero, suc, _+_, _/_, _%_, _<_}
+use Prim.Native.Nat.{ℕ, zero, suc, _+_, _/_, _%_, _^_, _<_}
 use mathlib.Core.Bool.{Bool, _&&_}
 use mathlib.Core.List.{List, [], _∷_}
+use mathlib.Core.Path.{_≡_}
 use lib.Dec.{eqb, leb}
 use lib.ListN.{length}
 use Rattle.calculus.specs.Verdicts.{Verdict, passed, andThen}
@@ -11,6 +12,7 @@ use Rattle.calculus.specs.Reading.{later, inOrder}
 use Rattle.nodes.specs.declared.kinds.Row as code
 use Rattle.nodes.specs.declared.walks.Walked.{Walked}
 use Rattle.nodes.specs.declared.walks.Walked.the-variants.{Took, Refused}
+use Rattle.nodes.specs.Table.{kinds}
 use Rattle.nodes.specs.Refusals.{refusal}
 
 -- How many words were taken, or the refusal.
@@ -33,6 +35,16 @@ pub record Digits (d : ℕ) : Type 0 where
   pub first : d % 5 < 4
   pub second : d / 5 % 5 < 4
   pub third : d / 25 < 4
+
+-- The words stand at a place, and are read by the one table. Places are numbers of 64 bits: below 2^63 no sum of two of them wraps.
+pub record WordsAt (table ws : List ℕ) (at : ℕ) : Type 0 where
+  pub tabled : table ≡ kinds
+  pub fits : at + length ws < 2 ^ 63
+
+-- A walk over the words begins, with nodes due of the sorts that a number stands for.
+pub record WalkFrom (table ws : List ℕ) (at due : ℕ) : Type 0 where
+  pub words : WordsAt table ws at
+  pub digits : Digits due
 
 -- A kind is of a sort, and has an operand in its range.
 abbrev pub isDue : code.Row → ℕ → ℕ → Bool

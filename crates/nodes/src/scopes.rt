@@ -7,18 +7,17 @@ use crate::refusals::Refusal;
 use crate::walks::Walked;
 ghost use mathlib.Core.Path.{_≡_};
 ghost use mathlib.Core.List.{[], _∷_};
-ghost use Prim.Native.Nat.{_+_, _%_, _<_, _≤_, _^_};
+ghost use Prim.Native.Nat.{_≤_};
 ghost use lib.ListN.{length};
 ghost use Rattle.calculus.specs.Reading.{later, walk};
-ghost use Rattle.calculus.specs.Scope.{isFree, inside, scopeDue};
-ghost use Rattle.nodes.specs.Table.{kinds, rowOf};
-ghost use Rattle.nodes.specs.Walks.{walked, Digits};
-ghost use Rattle.nodes.specs.Around.{around, each, Entered};
+ghost use Rattle.calculus.specs.Scope.{isFree, scopeDue};
+ghost use Rattle.nodes.specs.Walks.{walked};
+ghost use Rattle.nodes.specs.Languages.{held, each, WordIn, WalkIn, Entered};
 
 // A word is a variable without a lambda of its language there. The first `depth` bytes of `scope` are the languages of the lambdas around it.
 fn is_free(row: Row, w: u32, scope: &[u8], depth: usize) -> bool
-    requires { ⌜ (row ≡ rowOf (w % 256)) × (depth ≤ length (now scope)) ⌝ }
-    ensures { λ r. ⌜ r ≡ isFree (around depth (now (scope .entry))) w ⌝ }
+    requires { ⌜ WordIn row w (now scope) depth ⌝ }
+    ensures { λ r. ⌜ r ≡ isFree (held depth (now (scope .entry))) w ⌝ }
 {
     if row.shape != crate::kinds::VARIABLE {
         return false;
@@ -36,7 +35,7 @@ fn is_free(row: Row, w: u32, scope: &[u8], depth: usize) -> bool
 
 // Notes a lambda in the scope. Returns how many lambdas are around the word's parts.
 fn enter(row: Row, w: u32, scope: &mut [u8], depth: usize) -> usize
-    requires { ⌜ (row ≡ rowOf (w % 256)) × (depth < length (now scope)) ⌝ }
+    requires { ⌜ WordIn row w (now scope) depth ⌝ }
     ensures { λ r. ⌜ Entered (now (scope .entry)) (now (scope .exit)) depth w r ⌝ }
 {
     if row.shape != crate::kinds::LAMBDA {
@@ -59,9 +58,9 @@ fn variables(
     scope: &mut [u8],
     depth: usize,
 ) -> Walked
-    requires { ⌜ (now table ≡ kinds) × Digits due × (at + length (now words) < 2 ^ 63) × (depth + length (now words) ≤ length (now scope)) ⌝ }
-    ensures { λ r. ⌜ walked r ≡ later at (walk scopeDue (now (words .entry)) (each (around depth (now (scope .entry))) due)) ⌝ }
-    ensures { λ _. ⌜ around depth (now (scope .exit)) ≡ around depth (now (scope .entry)) ⌝ }
+    requires { ⌜ WalkIn (now table) (now words) at due (now scope) depth ⌝ }
+    ensures { λ r. ⌜ walked r ≡ later at (walk scopeDue (now (words .entry)) (each (held depth (now (scope .entry))) due)) ⌝ }
+    ensures { λ _. ⌜ held depth (now (scope .exit)) ≡ held depth (now (scope .entry)) ⌝ }
 {
     if due % crate::kinds::BASE == 0 {
         return Walked::Took(at);

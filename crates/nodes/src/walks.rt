@@ -5,12 +5,11 @@ use crate::kinds::Row;
 use crate::kinds::row_at;
 use crate::refusals::Refusal;
 ghost use mathlib.Core.Path.{_≡_};
-ghost use Prim.Native.Nat.{_+_, _/_, _<_, _^_};
-ghost use lib.ListN.{length};
+ghost use Prim.Native.Nat.{_/_};
 ghost use Rattle.calculus.specs.Reading.{later, walk, levelled, nestedDue, inOrder, nodeSize, nodeAt};
 ghost use Rattle.calculus.specs.Kinds.{Sort};
-ghost use Rattle.nodes.specs.Table.{kinds, sortNumber};
-ghost use Rattle.nodes.specs.Walks.{walked, sortsOf, Digits, isDue, bothOrdered};
+ghost use Rattle.nodes.specs.Table.{sortNumber};
+ghost use Rattle.nodes.specs.Walks.{walked, sortsOf, WalkFrom, isDue, bothOrdered};
 
 // How many words were gone by when the walk ended, or why it did not.
 pub enum Walked {
@@ -34,7 +33,7 @@ fn is_due(row: Row, sort: u64, w: u32) -> bool
 
 // Walks over the nodes of the sorts due, one after the other, with so many levels of nesting left for each. `at` words are gone by.
 pub fn walk(table: &Kinds, words: &[u32], at: usize, due: u64, room: usize) -> Walked
-    requires { ⌜ (now table ≡ kinds) × Digits due × (at + length (now words) < 2 ^ 63) ⌝ }
+    requires { ⌜ WalkFrom (now table) (now words) at due ⌝ }
     ensures { λ r. ⌜ walked r ≡ later at (walk nestedDue (now (words .entry)) (levelled room (sortsOf due))) ⌝ }
 {
     let first = due % crate::kinds::BASE;
@@ -62,7 +61,7 @@ pub fn walk(table: &Kinds, words: &[u32], at: usize, due: u64, room: usize) -> W
 
 // Whether the words, which stand at a place of the file, are one node of a sort, nested no deeper than 256: refusals 3 and 4.
 fn in_order(table: &Kinds, words: &[u32], at: usize, sort: u64) -> Walked
-    requires { ⌜ (now table ≡ kinds) × (sort < 4) × (at + length (now words) < 2 ^ 63) ⌝ }
+    requires { ⌜ WalkFrom (now table) (now words) at sort ⌝ }
     ensures { λ r. ⌜ ((s : Sort) → sort ≡ sortNumber s → walked r ≡ later at (inOrder s (now (words .entry)))) ⌝ }
 {
     let found = walk(table, words, at, sort, 256);

@@ -6,9 +6,10 @@
 use nodes::kinds::Kinds;
 use nodes::kinds::row_at;
 ghost use mathlib.Core.Path.{_≡_};
-ghost use Prim.Native.Nat.{_+_, _≤_, _<_, _^_};
+ghost use Prim.Native.Nat.{_≤_};
 ghost use lib.ListN.{length};
 ghost use Rattle.nodes.specs.Table.{kinds};
+ghost use Rattle.nodes.specs.Walks.{WordsAt};
 ghost use Rattle.types.specs.Links.{Linked};
 ghost use Rattle.types.specs.References.{shapeAt, formerAt, codomainOf};
 ghost use Rattle.types.specs.Comparisons.{Matched, Ends, Compares, Compared, Equality};
@@ -27,7 +28,7 @@ pub enum Comparison {
 
 // Compares the types that x, which stands at a place, and y begin with.
 fn compare_words(table: &Kinds, x: &[u32], y: &[u32], at: usize) -> Match
-    requires { ⌜ (now table ≡ kinds) × (at + length (now x) < 2 ^ 63) ⌝ }
+    requires { ⌜ WordsAt (now table) (now x) at ⌝ }
     ensures { λ r. ⌜ Matched (now (x .entry)) (now (y .entry)) at r ⌝ }
 {
     if x.len() == 0 {

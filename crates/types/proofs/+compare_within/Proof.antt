@@ -31,28 +31,28 @@ abbrev calls : ℕ → lts.Claims
 calls t = (former-at.Asked, former-at.Learnt, words.Asked, words.Learnt, codomain.Asked, codomain.Learnt, below t, compare-within.Post)
 
 -- A moment or a need, by the contracts that are cited.
-abbrev Of : ℕ → (lts.Claims → In 3 kinds.ps → Out 3 kinds.ps kinds.r → Type 0) → Type 0
-Of t M = M (calls t) (asked t) compare-within.Post
+abbrev Cited : ℕ → (lts.Claims → In 3 kinds.ps → Out 3 kinds.ps kinds.r → Type 0) → Type 0
+Cited t M = M (calls t) (asked t) compare-within.Post
 
 module _ {t : ℕ} where
   -- The moments, each by a later one: the types have one shape, with a part; the parts are compared; they are the same.
-  abbrev start : Of t lts.Else3 → Of t lts.Start
+  abbrev start : Cited t lts.Else3 → Cited t lts.Start
   start c = c .before .before .before .before .before .before .before
 
-  abbrev parts : Of t lts.After-compare-words → Of t lts.Else3
+  abbrev parts : Cited t lts.After-compare-words → Cited t lts.Else3
   parts c = c .before .before .before
 
-  abbrev same : Of t lts.After-arguments2 → Of t lts.After-compare-words
+  abbrev same : Cited t lts.After-arguments2 → Cited t lts.After-compare-words
   same c = c .before .before
 
   -- Both references have a type written behind.
-  first : (c : Of t lts.Else3) → start c .args .p + 1 ≤ length (start c .args .all .now)
+  first : (c : Cited t lts.Else3) → start c .args .p + 1 ≤ length (start c .args .all .now)
   first c = behind _ _ _ (c .before .before .before .former-at .ensures) (c .if3 .left) .1
 
-  second : (c : Of t lts.Else3) → start c .args .q + 1 ≤ length (start c .args .all .now)
+  second : (c : Cited t lts.Else3) → start c .args .q + 1 ≤ length (start c .args .all .now)
   second c = behind _ _ _ (c .before .if2 .left ∙ c .before .before .former-at2 .ensures) (c .if3 .left) .1
 
-  compared : (c : Of t lts.After-compare-words) → let s = start (parts c) .args in let k = parts c .before .before in
+  compared : (c : Cited t lts.After-compare-words) → let s = start (parts c) .args in let k = parts c .before .before in
       OneShape (s .all .now) (s .p) (s .q) (k .before .former-at .result) (k .former-at2 .result) (c .compare-words .result)
   compared c =
       let k = parts c .before in
@@ -65,7 +65,7 @@ module _ {t : ℕ} where
       }
 
   -- Where the type written behind the first ends.
-  past : (c : Of t lts.After-arguments2) → let s = start (parts (same c)) .args in
+  past : (c : Cited t lts.After-arguments2) → let s = start (parts (same c)) .args in
       let end = c .arguments2 .given .0 .0 in
       (s .p + 1 < end) × (end ≤ length (s .all .now)) × (s .q + (end - s .p) ≤ length (s .all .now))
   past c =
@@ -73,17 +73,18 @@ module _ {t : ℕ} where
       let s = start k .args in
       ends _ (s .link .now) _ _ (s .room) (compared (same c)) _ (c .arguments2 .given .1) (first k) (second k)
 
-  compare-words-requires : Of t lts.Need-compare-words-requires
+  compare-words-requires : Cited t lts.Need-compare-words-requires
   compare-words-requires c κs =
       let k = c .before .before in
       let s = start k in
-      (s .pre .1 .tabled, omega (arith, part-length (s .args .all .now) (s .args .p + 1), first k, s .good .1 .0 .1))
+      let l = part-length (s .args .all .now) (s .args .p + 1) in
+      record { tabled = s .pre .1 .tabled; fits = omega (arith, l, first k, s .good .1 .0 .1) }
 
-  add-codomain : Of t lts.Need-add-codomain
+  add-codomain : Cited t lts.Need-add-codomain
   add-codomain c =
       let k = c .before .before .before in record { fits = omega (arith, past k, start (parts (same k)) .good .1 .0 .1) }
 
-  returns-6 : Of t lts.Need-returns-6
+  returns-6 : Cited t lts.Need-returns-6
   returns-6 c =
       let at-codomain = c .before .before in
       let k = at-codomain .before .before .before in

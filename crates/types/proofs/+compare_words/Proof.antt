@@ -26,21 +26,21 @@ abbrev calls : ℕ → lts.Claims
 calls t = (row-at.Asked, row-at.Learnt, and 3 kinds.ps (falls 3 kinds.ps _<_ μ t) compare-words.Pre, compare-words.Post)
 
 -- A moment or a need, by the contracts that are cited.
-abbrev Of : ℕ → (lts.Claims → In 3 kinds.ps → Out 3 kinds.ps kinds.r → Type 0) → Type 0
-Of t M = M (calls t) (asked t) compare-words.Post
+abbrev Cited : ℕ → (lts.Claims → In 3 kinds.ps → Out 3 kinds.ps kinds.r → Type 0) → Type 0
+Cited t M = M (calls t) (asked t) compare-words.Post
 
 module _ {t : ℕ} where
   -- The moments, each by a later one: the first words are one, and its row is read; the first parts are compared; they are the same.
-  abbrev start : Of t lts.After-row-at → Of t lts.Start
+  abbrev start : Cited t lts.After-row-at → Cited t lts.Start
   start c = c .before .before .before .before .before .before .before .before
 
-  abbrev begun : Of t lts.After-compare-words → Of t lts.After-row-at
+  abbrev begun : Cited t lts.After-compare-words → Cited t lts.After-row-at
   begun c = c .before .before .before .before
 
-  abbrev first : Of t lts.After-first → Of t lts.After-compare-words
+  abbrev first : Cited t lts.After-first → Cited t lts.After-compare-words
   first c = c .before .before
 
-  one-word : (c : Of t lts.After-row-at) → OneWord (start c .args .x .now) (start c .args .y .now) (c .row-at .result)
+  one-word : (c : Cited t lts.After-row-at) → OneWord (start c .args .x .now) (start c .args .y .now) (c .row-at .result)
   one-word c =
       let at-else3 = c .before in
       let at-else2 = at-else3 .before .before .before in
@@ -52,40 +52,40 @@ module _ {t : ℕ} where
       }
 
   -- Past the first part.
-  past : (c : Of t lts.After-first) → let s = start (begun (first c)) .args in
+  past : (c : Cited t lts.After-first) → let s = start (begun (first c)) .args in
       let n = c .first .given .0 .0 in
       (s .at + 1 < n) × (n ≤ s .at + length (s .x .now)) × (n ≤ s .at + length (s .y .now))
   past c =
       let k = first c in
       ends _ _ _ (one-word (begun k)) (k .before .before .before .if4 .left) (k .compare-words .ensures) _ (c .first .given .1)
 
-  compare-words-requires : Of t lts.Need-compare-words-requires
+  compare-words-requires : Cited t lts.Need-compare-words-requires
   compare-words-requires c κs =
       let k = c .before .before .before in
       let s = start k in
       let l = part-length (s .args .x .now) 1 in
       let n = pos-of-ne-zero (one-word k .more-x) in
-      (omega (arith, l, n, s .pre .0), (s .pre .1 .0, omega (arith, l, n, s .pre .1 .1)))
+      (omega (arith, l, n, s .pre .0), record { tabled = s .pre .1 .tabled; fits = omega (arith, l, n, s .pre .1 .fits) })
 
-  returns-5 : Of t lts.Need-returns-5
+  returns-5 : Cited t lts.Need-returns-5
   returns-5 c =
       let k = c .before .before in
       first-differ _ _ _ (one-word (begun k)) (k .before .before .before .if4 .left) (k .compare-words .ensures) _ (c .enum-told .given .1)
 
-  returns-6 : Of t lts.Need-returns-6
+  returns-6 : Cited t lts.Need-returns-6
   returns-6 c =
       let f = c .before .before in
       let k = first f in
       lists _ _ _ (one-word (begun k)) (k .before .before .before .if4 .left) (k .compare-words .ensures) _ (f .first .given .1) (c .if5 .taken)
 
-  compare-words-requires-2 : Of t lts.Need-compare-words-requires-2
+  compare-words-requires-2 : Cited t lts.Need-compare-words-requires-2
   compare-words-requires-2 c κs =
       let f = c .before .before .before .before in
       let s = start (begun (first f)) in
       let l = part-length (s .args .x .now) (f .first .given .0 .0 - s .args .at) in
-      (omega (arith, l, past f, s .pre .0), (s .pre .1 .0, omega (arith, l, past f, s .pre .1 .1)))
+      (omega (arith, l, past f, s .pre .0), record { tabled = s .pre .1 .tabled; fits = omega (arith, l, past f, s .pre .1 .fits) })
 
-  returns-7 : Of t lts.Need-returns-7
+  returns-7 : Cited t lts.Need-returns-7
   returns-7 c =
       let at-else5 = c .before .before .before in
       let f = at-else5 .before .before in
