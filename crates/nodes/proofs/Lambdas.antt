@@ -17,7 +17,7 @@ use Rattle.calculus.specs.Scope.{sameLang, lambdaAt, isFree, inside, partCount}
 use Rattle.nodes.specs.declared.kinds.Row as code
 use Rattle.nodes.specs.Table.{rowOf, rows, listed}
 use Rattle.nodes.specs.Walks.{sortsOf}
-use Rattle.nodes.specs.Languages.{langOf, held, WordIn, Entered}
+use Rattle.nodes.specs.Languages.{langOf, lambdasIn, WordIn, Entered}
 use Rattle.nodes.proofs.Table.{not-in, past, by-table}
 
 -- What hangs on two kinds, ML's and Scheme's, hangs on the shape that they share and the sort.
@@ -51,7 +51,7 @@ part-count w =
     (λ k h. rw (past k h, not-in (table type) tt k h, not-in (table (term ml)) tt k h, not-in (table (term sc)) tt k h)) (w % 256)
 
 -- The lambda with n others between, in the buffer.
-lambda-there : (d : ℕ) (b : List ℕ) (n : ℕ) (l : Lang) → n < d → lambdaAt (held d b) n l ≡ sameLang (langOf (getD b (d - 1 - n) 0)) l
+lambda-there : (d : ℕ) (b : List ℕ) (n : ℕ) (l : Lang) → n < d → lambdaAt (lambdasIn d b) n l ≡ sameLang (langOf (getD b (d - 1 - n) 0)) l
 lambda-there zero b n l h = absurd (omega (arith, h))
 lambda-there (suc d) b zero l h =
     let e : d ≡ suc d - 1 - 0 = omega arith in
@@ -60,7 +60,7 @@ lambda-there (suc d) b (suc n) l h =
     let e : d - 1 - n ≡ suc d - 1 - suc n = omega arith in
     lambda-there d b n l (omega arith) ∙ ap (λ (i : ℕ). sameLang (langOf (getD b i 0)) l) e
 
-no-lambda-there : (d : ℕ) (b : List ℕ) (n : ℕ) (l : Lang) → d ≤ n → lambdaAt (held d b) n l ≡ false
+no-lambda-there : (d : ℕ) (b : List ℕ) (n : ℕ) (l : Lang) → d ≤ n → lambdaAt (lambdasIn d b) n l ≡ false
 no-lambda-there zero b n l h = refl
 no-lambda-there (suc d) b zero l h = absurd (omega (arith, h))
 no-lambda-there (suc d) b (suc n) l h = no-lambda-there d b n l (omega arith)
@@ -81,16 +81,16 @@ not-sc x = by (eqb x 2)
 
 -- The ways out of the test of a variable.
 module _ {row : code.Row} {w : ℕ} {b : List ℕ} {d : ℕ} (W : WordIn row w b d) where
-  free-by : isFree (held d b) w
+  free-by : isFree (lambdasIn d b) w
       ≡ cond (eqb (row .shape) 1)
-      (cond (eqb (row .sort) 2) (not (lambdaAt (held d b) (w / 256) ml)) (not (lambdaAt (held d b) (w / 256) sc))) false
+      (cond (eqb (row .sort) 2) (not (lambdaAt (lambdasIn d b) (w / 256) ml)) (not (lambdaAt (lambdasIn d b) (w / 256) sc))) false
   free-by = by-variable _ _ false (w % 256) ∙ rw (W .known)
 
-  pub no-variable : (row .shape ≡ 1 → ⊥) → false ≡ isFree (held d b) w
+  pub no-variable : (row .shape ≡ 1 → ⊥) → false ≡ isFree (lambdasIn d b) w
   no-variable h = sym (free-by ∙ rw (ne-eqb (row .shape) 1 h))
 
   module _ (h : row .shape ≡ 1) where
-    pub too-far : d ≤ w / 256 → true ≡ isFree (held d b) w
+    pub too-far : d ≤ w / 256 → true ≡ isFree (lambdasIn d b) w
     too-far g =
         let none = no-lambda-there d b (w / 256) in
         sym (free-by ∙ rw (eq-eqb (row .shape) 1 h, none ml g, none sc g) (both (eqb (row .sort) 2)))
@@ -99,46 +99,47 @@ module _ {row : code.Row} {w : ℕ} {b : List ℕ} {d : ℕ} (W : WordIn row w b
         both true = refl
         both false = refl
 
-    pub ml-variable : w / 256 < d → row .sort ≡ 2 → not (eqb (getD b (d - 1 - w / 256) 0) 2) ≡ isFree (held d b) w
+    pub ml-variable : w / 256 < d → row .sort ≡ 2 → not (eqb (getD b (d - 1 - w / 256) 0) 2) ≡ isFree (lambdasIn d b) w
     ml-variable g s =
         let there = lambda-there d b (w / 256) ml g ∙ same-ml (getD b (d - 1 - w / 256) 0) in
         sym (free-by ∙ rw (eq-eqb (row .shape) 1 h, eq-eqb (row .sort) 2 s, there))
 
-    pub scheme-variable : w / 256 < d → (row .sort ≡ 2 → ⊥) → eqb (getD b (d - 1 - w / 256) 0) 2 ≡ isFree (held d b) w
+    pub scheme-variable : w / 256 < d → (row .sort ≡ 2 → ⊥) → eqb (getD b (d - 1 - w / 256) 0) 2 ≡ isFree (lambdasIn d b) w
     scheme-variable g s =
         let there = lambda-there d b (w / 256) sc g in
         sym (free-by ∙ rw (eq-eqb (row .shape) 1 h, ne-eqb (row .sort) 2 s, there) (not-sc (getD b (d - 1 - w / 256) 0)))
 
 -- A store from the depth on changes no lambda around.
-held-set : (d e : ℕ) (b : List ℕ) (v : ℕ) → d ≤ e → held d (set b e v) ≡ held d b
-held-set zero e b v h = refl
-held-set (suc d) e b v h = rw (getD-set-other b e d v 0 (λ p. omega (arith, p)), held-set d e b v (omega arith))
+lambdas-set : (d e : ℕ) (b : List ℕ) (v : ℕ) → d ≤ e → lambdasIn d (set b e v) ≡ lambdasIn d b
+lambdas-set zero e b v h = refl
+lambdas-set (suc d) e b v h = rw (getD-set-other b e d v 0 (λ p. omega (arith, p)), lambdas-set d e b v (omega arith))
 
 -- What stays around a word's parts stays around the word.
-pub kept-outside : {b b′ : List ℕ} {d w r : ℕ} → Entered b b′ d w r → (c : List ℕ) → held r c ≡ held r b′ → held d c ≡ held d b
+pub kept-outside : {b b′ : List ℕ} {d w r : ℕ} → Entered b b′ d w r → (c : List ℕ) → lambdasIn r c ≡ lambdasIn r b′ → lambdasIn d c ≡ lambdasIn d b
 kept-outside {b} {b′} {d} {w} {r} h c e = by (eqb r d) refl ∙ h .kept
   where
-    by : (t : Bool) → eqb r d ≡ t → held d c ≡ held d b′
+    by : (t : Bool) → eqb r d ≡ t → lambdasIn d c ≡ lambdasIn d b′
     by true g = rw (eqb-true r d g) at e
     by false g =
         let n = eqb-false r d g in
         let z : r ≡ suc d = omega (arith, h .least, h .most, n) in
-        let k : held (suc d) c ≡ held (suc d) b′ = rw z at e in
+        let k : lambdasIn (suc d) c ≡ lambdasIn (suc d) b′ = rw z at e in
         cc
 
 -- The ways out of noting a lambda.
 module _ {row : code.Row} {w : ℕ} {b : List ℕ} {d : ℕ} (W : WordIn row w b d) where
-  inside-by : inside (held d b) w ≡ cond (eqb (row .shape) 3) (cond (eqb (row .sort) 2) (ml ∷ held d b) (sc ∷ held d b)) (held d b)
-  inside-by = by-lambda _ _ (held d b) (w % 256) ∙ rw (W .known)
+  inside-by : inside (lambdasIn d b) w
+      ≡ cond (eqb (row .shape) 3) (cond (eqb (row .sort) 2) (ml ∷ lambdasIn d b) (sc ∷ lambdasIn d b)) (lambdasIn d b)
+  inside-by = by-lambda _ _ (lambdasIn d b) (w % 256) ∙ rw (W .known)
 
   pub no-lambda : (row .shape ≡ 3 → ⊥) → Entered b b d w d
   no-lambda h = record { parts = sym (inside-by ∙ rw (ne-eqb (row .shape) 3 h)); kept = refl; least = omega arith; most = omega arith }
 
-  noted : (v : ℕ) → inside (held d b) w ≡ langOf v ∷ held d b → Entered b (set b d v) d w (d + 1)
+  noted : (v : ℕ) → inside (lambdasIn d b) w ≡ langOf v ∷ lambdasIn d b → Entered b (set b d v) d w (d + 1)
   noted v e =
       record {
-        parts = rw (add-one d, getD-set-same b d v 0 (W .room), held-set d d b v (omega arith)) (sym e);
-        kept = held-set d d b v (omega arith);
+        parts = rw (add-one d, getD-set-same b d v 0 (W .room), lambdas-set d d b v (omega arith)) (sym e);
+        kept = lambdas-set d d b v (omega arith);
         least = omega arith;
         most = omega arith;
       }

@@ -16,9 +16,9 @@ abbrev pub langOf : ℕ → Lang
 langOf n = cond (eqb n 2) ml sc
 
 -- The first d languages of the buffer, the last of them the innermost.
-abbrev pub held : ℕ → List ℕ → List Lang
-held zero b = []
-held (suc d) b = langOf (getD b d 0) ∷ held d b
+abbrev pub lambdasIn : ℕ → List ℕ → List Lang
+lambdasIn zero b = []
+lambdasIn (suc d) b = langOf (getD b d 0) ∷ lambdasIn d b
 
 -- The lambdas around each node that is due.
 abbrev pub each : List Lang → ℕ → List (List Lang)
@@ -36,7 +36,7 @@ pub record WalkIn (table ws : List ℕ) (at due : ℕ) (b : List ℕ) (depth : �
 
 -- The buffer after a word: the lambdas around its parts are the first r, and those around itself are as they were.
 pub record Entered (b b′ : List ℕ) (depth w r : ℕ) : Type 0 where
-  pub parts : held r b′ ≡ inside (held depth b) w
-  pub kept : held depth b′ ≡ held depth b
+  pub parts : lambdasIn r b′ ≡ inside (lambdasIn depth b) w
+  pub kept : lambdasIn depth b′ ≡ lambdasIn depth b
   pub least : depth ≤ r
   pub most : r ≤ depth + 1

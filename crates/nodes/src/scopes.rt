@@ -12,12 +12,12 @@ ghost use lib.ListN.{length};
 ghost use Rattle.calculus.specs.Reading.{later, walk};
 ghost use Rattle.calculus.specs.Scope.{isFree, scopeDue};
 ghost use Rattle.nodes.specs.Walks.{walked};
-ghost use Rattle.nodes.specs.Languages.{held, each, WordIn, WalkIn, Entered};
+ghost use Rattle.nodes.specs.Languages.{lambdasIn, each, WordIn, WalkIn, Entered};
 
 // A word is a variable without a lambda of its language there. The first `depth` bytes of `scope` are the languages of the lambdas around it.
 fn is_free(row: Row, w: u32, scope: &[u8], depth: usize) -> bool
     requires { ⌜ WordIn row w (now scope) depth ⌝ }
-    ensures { λ r. ⌜ r ≡ isFree (held depth (now (scope .entry))) w ⌝ }
+    ensures { λ r. ⌜ r ≡ isFree (lambdasIn depth (now (scope .entry))) w ⌝ }
 {
     if row.shape != crate::kinds::VARIABLE {
         return false;
@@ -59,8 +59,8 @@ fn variables(
     depth: usize,
 ) -> Walked
     requires { ⌜ WalkIn (now table) (now words) at due (now scope) depth ⌝ }
-    ensures { λ r. ⌜ walked r ≡ later at (walk scopeDue (now (words .entry)) (each (held depth (now (scope .entry))) due)) ⌝ }
-    ensures { λ _. ⌜ held depth (now (scope .exit)) ≡ held depth (now (scope .entry)) ⌝ }
+    ensures { λ r. ⌜ walked r ≡ later at (walk scopeDue (now (words .entry)) (each (lambdasIn depth (now (scope .entry))) due)) ⌝ }
+    ensures { λ _. ⌜ lambdasIn depth (now (scope .exit)) ≡ lambdasIn depth (now (scope .entry)) ⌝ }
 {
     if due % crate::kinds::BASE == 0 {
         return Walked::Took(at);

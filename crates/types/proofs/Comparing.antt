@@ -12,7 +12,7 @@ use Rattle.calculus.specs.Kinds.{type}
 use Rattle.calculus.specs.Inference.{sameType}
 use Rattle.calculus.proofs.Sizes.{past-word, past-tree}
 use Rattle.nodes.specs.Table.{shapeNumber}
-use Rattle.types.specs.References.{formerAt, Written, Means, codomainOf, arrows}
+use Rattle.types.specs.References.{formerAt, Written, Means, codomain, arrows}
 use Rattle.types.specs.Comparisons.{firstDifference, Matched, Says, Compares, Compared, Equality}
 use Rattle.types.specs.declared.Match.{Match}
 use Rattle.types.specs.declared.Match.the-variants.{Same, Differ}
@@ -26,8 +26,8 @@ use Rattle.types.proofs.Frames.{means-codomain, means-arrows}
 
 -- The result type of a function type that is written.
 codomain-written : (w ls : List ℕ) (p end : ℕ) (t u : Ty) → 0 < p → end ≡ p + 1 + sizeTy t → Written w p (t to u)
-    → (codomainOf w ls p end ≡ end) × Written w end u
-unfolding codomainOf putTy
+    → (codomain w ls p end ≡ end) × Written w end u
+unfolding codomain putTy
 codomain-written w ls p end t u h e x = (
   rw (shape-of type w p (t to u) (x .0) h (x .1)),
   (x .0, rw e (past-tree type t (p + 1) w (putTy u (x .0)) (past-word p 4 w _ (x .1)))),
@@ -133,7 +133,7 @@ module _ (w ls : List ℕ) (p q room : ℕ) where
           (λ e. absurd (omega arith))
 
       -- The result types are compared next.
-      pub functions : (f ≡ 12 → ⊥) → (p′ q′ : ℕ) (r : Comparison) → p′ ≡ codomainOf w ls p end → q′ ≡ codomainOf w ls q (q + (end - p))
+      pub functions : (f ≡ 12 → ⊥) → (p′ q′ : ℕ) (r : Comparison) → p′ ≡ codomain w ls p end → q′ ≡ codomain w ls q (q + (end - p))
           → Compares w ls p′ q′ (room - 1) r → Compares w ls p q room r
       unfolding arrows
       functions other p′ q′ r ep eq rest =

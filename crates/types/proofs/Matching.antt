@@ -17,7 +17,7 @@ use Rattle.calculus.proofs.Views.{view, sized}
 use Rattle.nodes.specs.declared.kinds.Row as code
 use Rattle.nodes.specs.Table.{rowOf, shapeNumber}
 use Rattle.nodes.proofs.Shapes.{shape-first}
-use Rattle.types.specs.Comparisons.{firstDifference, Within, Matched, Ends}
+use Rattle.types.specs.Comparisons.{firstDifference, InBoth, Matched, TypeEnd}
 use Rattle.types.specs.declared.Match.{Match}
 use Rattle.types.specs.declared.Match.the-variants.{Same, Differ}
 use Rattle.types.proofs.Pairs.{same-refl, same-lists, same-functions, one-shape}
@@ -42,11 +42,11 @@ if-same t u at n d r h e = by (sameType ml t u) refl
     by false q = let y : r ≡ Differ (at + d) = e ∙ rw q in let z : _≡_ {A = ℕ} 0 1 = cc in absurd (omega arith)
 
 -- The place past a type that is the same.
-pub same-in : (at a b n : ℕ) (r : Match) → Within at a b r → r ≡ Same n → (at < n) × (n ≤ at + a) × (n ≤ at + b)
-same-in at a b n r h e = subst (Within at a b) e h
+pub same-in : (at a b n : ℕ) (r : Match) → InBoth at a b r → r ≡ Same n → (at < n) × (n ≤ at + a) × (n ≤ at + b)
+same-in at a b n r h e = subst (InBoth at a b) e h
 
-differ-in : (at a b i : ℕ) (r : Match) → r ≡ Differ i → Within at a b r
-differ-in at a b i r e = subst (Within at a b) (sym e) tt
+differ-in : (at a b i : ℕ) (r : Match) → r ≡ Differ i → InBoth at a b r
+differ-in at a b i r e = subst (InBoth at a b) (sym e) tt
 
 type-length : (x : List ℕ) (t : Ty) (k : List ℕ) → x ≡ putTy t k → 0 < length x
 type-length x t k e = omega (arith, ap length e, tree-length type t k, sized (view type t))
@@ -188,7 +188,7 @@ module _ (x y : List ℕ) (at : ℕ) where
             rest : Matched (drop (n - at) x) (drop (n - at) y) n r2
             rest = subst₂ (λ (a b : List ℕ). Matched a b n r2) (part-to-end x (n - at)) (part-to-end y (n - at)) m2
 
-            further : (z : Match) → Within n (length (drop (n - at) x)) (length (drop (n - at) y)) z → Within at (length x) (length y) z
+            further : (z : Match) → InBoth n (length (drop (n - at) x)) (length (drop (n - at) y)) z → InBoth at (length x) (length y) z
             further (Same j) b =
                 (omega (arith, b .0, ends), omega (arith, b .1, length-drop (n - at) x, ends), omega (arith, b .2, length-drop (n - at) y, ends))
             further (Differ j) b = tt
@@ -199,7 +199,7 @@ module _ (w : List ℕ) (at : ℕ) (h : at ≤ length w) (r : Match)
   itself : Matched (drop at w) (drop at w) at r
   itself = subst₂ (λ (a b : List ℕ). Matched a b at r) (part-to-end w at) (part-to-end w at) m
 
-  pub type-ends : (n : ℕ) → r ≡ Same n → Ends w at n
+  pub type-ends : (n : ℕ) → r ≡ Same n → TypeEnd w at n
   type-ends n g =
       let b = same-in _ _ _ n r (itself .within) g in
       record {
@@ -208,7 +208,7 @@ module _ (w : List ℕ) (at : ℕ) (h : at ≤ length w) (r : Match)
         is = λ t x. if-same t t _ n _ r g (itself .is t t (x .0) (x .0) (x .1) (x .1)) .1;
       }
 
-  pub no-type : (d : ℕ) → r ≡ Differ d → Ends w at at
+  pub no-type : (d : ℕ) → r ≡ Differ d → TypeEnd w at at
   no-type d g =
       record {
         least = omega arith;

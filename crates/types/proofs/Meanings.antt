@@ -19,7 +19,7 @@ use Rattle.calculus.proofs.Views.{view, sized}
 use Rattle.nodes.specs.declared.kinds.Row as code
 use Rattle.nodes.specs.Table.{rowOf, shapeNumber}
 use Rattle.nodes.proofs.Shapes.{shape-first}
-use Rattle.types.specs.References.{shapeAt, former, formerAt, Written, Means, codomainOf}
+use Rattle.types.specs.References.{shapeAt, former, formerAt, Written, Means, codomain}
 
 module _ (w : List ℕ) (p : ℕ) where
   -- The shape at a place: none at 0 and past the words.
@@ -56,12 +56,12 @@ module _ (w ls : List ℕ) (p end h : ℕ) (e : h ≡ shapeAt w p) where
   pub link-in : h ≡ 3 → length ls ≡ length w → p < length ls
   link-in l k = omega (arith, shape-in w p (λ z. omega (arith, z)))
 
-  pub by-link : (u : ℕ) → h ≡ 3 → u ≡ getD ls p 0 → u ≡ codomainOf w ls p end
-  unfolding codomainOf
+  pub by-link : (u : ℕ) → h ≡ 3 → u ≡ getD ls p 0 → u ≡ codomain w ls p end
+  unfolding codomain
   by-link u l d = rw (← e, l) d
 
-  pub by-end : (h ≡ 3 → ⊥) → end ≡ codomainOf w ls p end
-  unfolding codomainOf
+  pub by-end : (h ≡ 3 → ⊥) → end ≡ codomain w ls p end
+  unfolding codomain
   by-end n = rw (← e, ne-eqb h 3 n)
 
 -- The ways out of the lookup of a type's shape.
@@ -95,8 +95,8 @@ pub behind : (w : List ℕ) (p f : ℕ) → f ≡ formerAt w p → 12 ≤ f → 
 behind w p f e h = let i = former-in w p (λ z. omega (arith, z)) in (i .0, omega (arith, i .1))
 
 -- A function's result type: what the lambda's link refers to, or written.
-abbrev pub Result : List ℕ → List ℕ → ℕ → ℕ → ℕ → ℕ → Ty → Type 0
-Result w ls lo hi p n u =
+abbrev pub Codomain : List ℕ → List ℕ → ℕ → ℕ → ℕ → ℕ → Ty → Type 0
+Codomain w ls lo hi p n u =
     ((shapeAt w p ≡ 3) × (lo ≤ p) × (p < hi) × Means w ls (p + 1) hi (getD ls p 0) u) ⊎ ((shapeAt w p ≡ 13) × Written w (p + 1 + n) u)
 
 pub means-former : (w ls : List ℕ) (lo hi p : ℕ) (t : Ty) → Means w ls lo hi p t → formerAt w p ≡ shapeNumber type t
@@ -106,7 +106,7 @@ means-former w ls lo hi p L m = m
 means-former w ls lo hi p (list t) m = m .0
 means-former w ls lo hi p (t to u) m = by (m .1)
   where
-    by : Result w ls lo hi p (sizeTy t) u → former (shapeAt w p) ≡ 13
+    by : Codomain w ls lo hi p (sizeTy t) u → former (shapeAt w p) ≡ 13
     by (inl x) = ap former (x .0)
     by (inr x) = ap former (x .0)
 

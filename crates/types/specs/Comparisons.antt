@@ -21,19 +21,19 @@ firstDifference (x ∷ xs) [] = 0
 firstDifference (x ∷ xs) (y ∷ ys) = cond (eqb x y) (suc (firstDifference xs ys)) 0
 
 -- The place past a type lies within both.
-abbrev pub Within : ℕ → ℕ → ℕ → Match → Type 0
-Within at a b (Same n) = (at < n) × (n ≤ at + a) × (n ≤ at + b)
-Within at a b (Differ d) = Unit {0}
+abbrev pub InBoth : ℕ → ℕ → ℕ → Match → Type 0
+InBoth at a b (Same n) = (at < n) × (n ≤ at + a) × (n ≤ at + b)
+InBoth at a b (Differ d) = Unit {0}
 
 -- The words x, which stand at a place, and y begin with two types: they are equal, and the answer is the place past the first; or the first
 -- difference of the words.
 pub record Matched (x y : List ℕ) (at : ℕ) (r : Match) : Type 0 where
-  pub within : Within at (length x) (length y) r
+  pub within : InBoth at (length x) (length y) r
   pub is : (t u : Ty) (k l : List ℕ) → x ≡ putTy t k → y ≡ putTy u l
       → r ≡ cond (sameType ml t u) (Same (at + sizeTy t)) (Differ (at + firstDifference x y))
 
 -- A type is written at the place, and the answer is the place past it.
-pub record Ends (w : List ℕ) (at r : ℕ) : Type 0 where
+pub record TypeEnd (w : List ℕ) (at r : ℕ) : Type 0 where
   pub least : at ≤ r
   pub most : r ≤ length w
   pub is : (t : Ty) → Written w at t → r ≡ at + sizeTy t

@@ -37,8 +37,8 @@ Means w ls lo hi p (t to u) =
     ⊎ ((shapeAt w p ≡ 13) × Written w (p + 1 + sizeTy t) u))
 
 -- The reference to the result type of the function type at p, whose argument type ends before `end`.
-unfoldable pub codomainOf : List ℕ → List ℕ → ℕ → ℕ → ℕ
-codomainOf w ls p end = cond (eqb (shapeAt w p) 3) (getD ls p 0) end
+unfoldable pub codomain : List ℕ → List ℕ → ℕ → ℕ → ℕ
+codomain w ls p end = cond (eqb (shapeAt w p) 3) (getD ls p 0) end
 
 -- How many arrows follow one another in a type.
 unfoldable pub arrows : Ty → ℕ

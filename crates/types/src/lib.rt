@@ -11,8 +11,8 @@ ghost use lib.ListN.{length};
 ghost use Rattle.nodes.specs.Table.{kinds};
 ghost use Rattle.nodes.specs.Walks.{WordsAt};
 ghost use Rattle.types.specs.Links.{Linked};
-ghost use Rattle.types.specs.References.{shapeAt, formerAt, codomainOf};
-ghost use Rattle.types.specs.Comparisons.{Matched, Ends, Compares, Compared, Equality};
+ghost use Rattle.types.specs.References.{shapeAt, formerAt, codomain};
+ghost use Rattle.types.specs.Comparisons.{Matched, TypeEnd, Compares, Compared, Equality};
 
 // How two written types compare: equal, with the place past the first; or the first of its words that differs from the second's.
 pub enum Match {
@@ -59,7 +59,7 @@ fn compare_words(table: &Kinds, x: &[u32], y: &[u32], at: usize) -> Match
 // The place past the type that is written at a place.
 pub fn type_end(table: &Kinds, all: &[u32], at: usize) -> usize
     requires { ⌜ (now table ≡ kinds) × (at ≤ length (now all)) ⌝ }
-    ensures { λ r. ⌜ Ends (now (all .entry)) at r ⌝ }
+    ensures { λ r. ⌜ TypeEnd (now (all .entry)) at r ⌝ }
 {
     match compare_words(table, &all[at..], &all[at..], at) {
         Match::Same(end) => end,
@@ -112,7 +112,7 @@ fn place(x: u16) -> usize
 // The result type of the function type at p, whose argument type ends before `end`.
 pub fn codomain(table: &Kinds, all: &[u32], link: &[u16], p: usize, end: usize) -> usize
     requires { ⌜ Linked (now table) (now all) (now link) ⌝ }
-    ensures { λ r. ⌜ r ≡ codomainOf (now (all .entry)) (now (link .entry)) p end ⌝ }
+    ensures { λ r. ⌜ r ≡ codomain (now (all .entry)) (now (link .entry)) p end ⌝ }
 {
     if shape_at(table, all, p) == nodes::kinds::LAMBDA {
         return place(link[p]);

@@ -18,36 +18,36 @@ use Rattle.nodes.proofs.Terms.{Shaped}
 use Rattle.types.specs.References.{shapeAt, Means}
 use Rattle.types.proofs.Meanings.{shape-of, means-in}
 use Rattle.types.proofs.Frames.{means-widen, means-frame}
-use Rattle.typing.specs.Answers.{Reference, Answer, whole, bad, Refers, Passes, Advances, Answers, conclusion}
+use Rattle.typing.specs.Answers.{Reference, Answer, whole, bad, Refers, EndsAt, Advances, Answers, conclusion}
 use Rattle.typing.specs.Operators.{Finds, Result1, Result2, Result3}
-use Rattle.typing.proofs.Results.{answered, passed}
+use Rattle.typing.proofs.RuleResults.{answered, passed}
 use Rattle.typing.specs.Parts.{Function}
 use Rattle.typing.specs.Infers.{Infers}
 use Rattle.typing.proofs.Lasting.{binds-static, refers-later, good-part, passes-on}
 use Rattle.typing.proofs.Telling.{Branches, branch-lambda, branch-one, branch-more, Several, Of, word-told, shape-told, told}
-use Rattle.typing.proofs.Walking.{Reached, Goal, further, whole-node, part, reached, sees, body, One, reached-1, first-good}
-use Rattle.typing.proofs.Walking.{Two, reached-2, three-bad}
+use Rattle.typing.proofs.OverParts.{ComeTo, Goal, further, whole-node, part, reached, sees, body, One, reached-1, first-good}
+use Rattle.typing.proofs.OverParts.{Two, reached-2, three-bad}
 
 -- The answer r for an operator of one part, and of two, and for if0, by what the parts' references mean.
 pub record Concluded1 (l : Lang) (w ls : List ℕ) (at : ℕ) (t : Reference l) (next : ℕ) (r : Answer l) : Type 0 where
-  pub passes : Passes next r
+  pub passes : EndsAt next r
   pub is : (o : Op1 l) (a : Static l) → getD w at 0 ≡ word1 o → shapeAt w at ≡ 4 → Refers l w ls at next t a
       → Answers l w ls at next at next (result1 o a) r
 
 pub record Concluded2 (l : Lang) (w ls : List ℕ) (at : ℕ) (t u : Reference l) (next : ℕ) (r : Answer l) : Type 0 where
-  pub passes : Passes next r
+  pub passes : EndsAt next r
   pub is : (o : Op2) (a b : Static l) → getD w at 0 ≡ word2 l o → Refers l w ls at next t a → Refers l w ls at next u b
       → Answers l w ls at next at next (result2 l o a b) r
 
 pub record Concluded3 (l : Lang) (w ls : List ℕ) (at : ℕ) (t u v : Reference l) (next : ℕ) (r : Answer l) : Type 0 where
-  pub passes : Passes next r
+  pub passes : EndsAt next r
   pub is : (a b c : Static l) → Refers l w ls at next t a → Refers l w ls at next u b → Refers l w ls at next v c
       → Answers l w ls at next at next (result3 l a b c) r
 
 -- ML's rules answer so.
 module _ (w ls : List ℕ) (at next p : ℕ) (r : Answer ml) (e : r ≡ conclusion at p next) where
-  to-next : Passes next r
-  to-next = subst (Passes next) (sym e) (passed at p next)
+  to-next : EndsAt next r
+  to-next = subst (EndsAt next) (sym e) (passed at p next)
 
   found-to : (o : Option Ty) → Finds w ls at next o p → Answers ml w ls at next at next o r
   found-to o f = subst (Answers ml w ls at next at next o) (sym e) (answered w ls at next at p next o f)
@@ -153,7 +153,7 @@ module _ {l : Lang} {row : code.Row} {start : ℕ} {ls3 : List ℕ} {t u : Refer
   an-if0 {ls4} K {v} {next} z {r} f seen =
       whole-node (reached-2 A) K (passes-on at (length w) next r (reached-3 .past) (reached-3 .within) (f .passes)) (λ e k d. by e (seen e k d))
     where
-      reached-3 : Reached w ls at next ls4
+      reached-3 : ComeTo w ls at next ls4
       reached-3 = further (reached-2 A) K z
 
       by : (e : Term l) → Shaped l 6 e → Goal l w ls at scope ls4 r e

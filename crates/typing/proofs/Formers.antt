@@ -10,7 +10,7 @@ use native.Mathlib.Omega.{arith}
 use Rattle.calculus.specs.Trees.{Ty, N, L, list, _to_, ml}
 use Rattle.calculus.specs.Inference.{sameType, element as elementType}
 use Rattle.types.specs.References.{formerAt, Means}
-use Rattle.types.specs.Comparisons.{Ends}
+use Rattle.types.specs.Comparisons.{TypeEnd}
 use Rattle.types.proofs.Meanings.{behind, means-former, argument-written}
 use Rattle.typing.specs.Operators.{argumentEnd, ArgumentEnd, elementOf}
 
@@ -32,7 +32,7 @@ module _ (w : List ℕ) (t f : ℕ) (e : f ≡ formerAt w t) where
         is = λ s ls lo hi m. by-former w t f e ls lo hi (λ s. 0 ≡ argumentEnd t s) (λ h. refl) (λ h. refl) (λ h x. refl) (λ h x y. absurd (n h)) s m;
       }
 
-  pub function-end : f ≡ 13 → (r : ℕ) → Ends w (t + 1) r → ArgumentEnd w t r
+  pub function-end : f ≡ 13 → (r : ℕ) → TypeEnd w (t + 1) r → ArgumentEnd w t r
   function-end h r g =
       record {
         there = λ z. omega (arith, behind w t f e (omega arith));

@@ -12,7 +12,7 @@ use Rattle.calculus.specs.Inference.{infer}
 use Rattle.calculus.specs.Faults.{fault}
 use Rattle.types.proofs.Frames.{means-widen, means-frame}
 use Rattle.types.specs.Links.{KeptBefore, LinkTo}
-use Rattle.typing.specs.Answers.{Reference, Answer, whole, bad, Refers, WrittenStatic, Passes, Advances, Answers}
+use Rattle.typing.specs.Answers.{Reference, Answer, whole, bad, Refers, WrittenStatic, EndsAt, Advances, Answers}
 use Rattle.typing.specs.Variables.{Binds, Scope}
 use Rattle.typing.specs.Infers.{Told}
 use Rattle.typing.proofs.Leading.{lead-written}
@@ -63,7 +63,7 @@ answers-wider l w ls lo hi lo′ hi′ fault next next′ (some t) r a b q x =
     (x .0, x .1 ∙ ap (whole (x .0)) q, refers-later l w ls ls lo hi lo′ hi′ (x .0) t a b (λ i j. refl) (x .2))
 
 -- What the answer for a part tells: it has no static type, and this is its fault; or it has one, and ends before n.
-pub record Good (l : Lang) (w ls : List ℕ) (p : ℕ) (Γ : Lambdas) (a : Term l) (t : Reference l) (n : ℕ) : Type 0 where
+pub record GoodPart (l : Lang) (w ls : List ℕ) (p : ℕ) (Γ : Lambdas) (a : Term l) (t : Reference l) (n : ℕ) : Type 0 where
   pub static : Static l
   pub typed : infer Γ a ≡ some static
   pub ends : n ≡ p + size a
@@ -78,11 +78,11 @@ module _ {l : Lang} {w ls : List ℕ} {p : ℕ} {Γ : Lambdas} {a : Term l} {r :
       by none x = (refl, x)
       by (some t) x = let c = x .1 in let y : _≡_ {A = ℕ} 0 1 = cc in absurd (omega arith)
 
-  pub good-part : {t : Reference l} {n : ℕ} → r ≡ whole t n → Good l w ls p Γ a t n
+  pub good-part : {t : Reference l} {n : ℕ} → r ≡ whole t n → GoodPart l w ls p Γ a t n
   unfolding Answers
   good-part {t} {n} z = by (infer Γ a) refl (h .answer)
     where
-      by : (o : Option (Static l)) → infer Γ a ≡ o → Answers l w ls p (p + size a) (fault p Γ a) (p + size a) o r → Good l w ls p Γ a t n
+      by : (o : Option (Static l)) → infer Γ a ≡ o → Answers l w ls p (p + size a) (fault p Γ a) (p + size a) o r → GoodPart l w ls p Γ a t n
       by none q x = let y : _≡_ {A = ℕ} 0 1 = cc in absurd (omega arith)
       by (some s) q x =
           let c = x .1 in
@@ -96,7 +96,7 @@ module _ {l : Lang} {w ls : List ℕ} {p : ℕ} {Γ : Lambdas} {a : Term l} {r :
           }
 
 -- Where an answer passes to the place past the term.
-pub passes-on : {l : Lang} (at end next : ℕ) (r : Answer l) → at < next → next ≤ end → Passes next r → Advances at end r
+pub passes-on : {l : Lang} (at end next : ℕ) (r : Answer l) → at < next → next ≤ end → EndsAt next r → Advances at end r
 passes-on at end next (whole p n) a b q = (omega arith, omega arith)
 passes-on at end next (bad f) a b q = tt
 

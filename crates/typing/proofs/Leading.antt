@@ -16,7 +16,7 @@ use Rattle.calculus.proofs.Sizes.{past-word}
 use Rattle.nodes.specs.declared.kinds.Row as code
 use Rattle.nodes.specs.Table.{sortNumber, shapeNumber}
 use Rattle.types.specs.References.{Written}
-use Rattle.types.specs.Comparisons.{Ends}
+use Rattle.types.specs.Comparisons.{TypeEnd}
 use Rattle.typing.specs.Parts.{lead, Read, PartsStart}
 use Rattle.typing.proofs.Telling.{leads, lead-row}
 
@@ -69,7 +69,7 @@ module _ {w : List ℕ} {at : ℕ} {row : code.Row} (R : Read w at row) where
   leads-told b q l e k d = lead-told l e ∙ sym (lead-row R e k d) ∙ q
 
   -- The ways out: past the type, or right behind the word.
-  pub past-lead : {r : ℕ} → row .parts % 5 ≡ 1 → Ends w (at + 1) r → PartsStart w at r
+  pub past-lead : {r : ℕ} → row .parts % 5 ≡ 1 → TypeEnd w (at + 1) r → PartsStart w at r
   past-lead {r} q n =
       record {
         least = omega (arith, n .least);

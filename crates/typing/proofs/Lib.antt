@@ -1,11 +1,11 @@
 pub mod Formers
 pub mod Operations
-pub mod Results
+pub mod RuleResults
 pub mod Variables
 pub mod Telling
 pub mod Leading
 pub mod Linking
 pub mod Lasting
 pub mod Leaves
-pub mod Walking
+pub mod OverParts
 pub mod Concluding

@@ -8,11 +8,11 @@ use native.Mathlib.Omega.{arith}
 use Rattle.calculus.specs.Trees.{Ty, N, L, list, _to_, ml, FIX, APP, CONS}
 use Rattle.calculus.specs.Inference.{sameType, element as elementType, result2}
 use Rattle.calculus.proofs.Inference.{same-iff}
-use Rattle.types.specs.References.{Means, codomainOf}
+use Rattle.types.specs.References.{Means, codomain}
 use Rattle.types.proofs.Pairs.{same-lists}
 use Rattle.types.proofs.Meanings.{written-means, argument-written, element-written}
 use Rattle.types.proofs.Frames.{means-codomain}
-use Rattle.typing.specs.Operators.{Finds, ArgumentEnd, elementOf, IfSame, Rule1, Rule2}
+use Rattle.typing.specs.Operators.{Finds, ArgumentEnd, elementOf, IfSame, Finds1, Finds2}
 use Rattle.typing.proofs.Formers.{is-list, no-list}
 
 -- The argument type and the element type, as references.
@@ -31,25 +31,25 @@ finds-if w ls lo hi p r s false q f = q
 
 -- fix and application: the argument type of the function type at t ends before `end`.
 module _ (w ls : List ℕ) (t end : ℕ) (a : ArgumentEnd w t end) where
-  pub fix-other : end ≡ 0 → Rule1 FIX w ls t 0
+  pub fix-other : end ≡ 0 → Finds1 FIX w ls t 0
   unfolding Finds
   fix-other z N lo hi few m = refl
   fix-other z L lo hi few m = refl
   fix-other z (list s) lo hi few m = refl
   fix-other z (s to v) lo hi few m = absurd (omega (arith, a .is (s to v) ls lo hi m))
 
-  pub apply-other : (u : ℕ) → end ≡ 0 → Rule2 APP w ls t u 0
+  pub apply-other : (u : ℕ) → end ≡ 0 → Finds2 APP w ls t u 0
   unfolding Finds
   apply-other u z N v lo hi few m mu = refl
   apply-other u z L v lo hi few m mu = refl
   apply-other u z (list s) v lo hi few m mu = refl
   apply-other u z (s to x) v lo hi few m mu = absurd (omega (arith, a .is (s to x) ls lo hi m))
 
-  module _ (arrow : end ≡ 0 → ⊥) (c : ℕ) (ec : c ≡ codomainOf w ls t end) (r : ℕ) where
+  module _ (arrow : end ≡ 0 → ⊥) (c : ℕ) (ec : c ≡ codomain w ls t end) (r : ℕ) where
     result-means : (s v : Ty) (lo hi : ℕ) → Means w ls lo hi t (s to v) → Means w ls lo hi c v
     result-means s v lo hi m = rw ec (means-codomain w ls lo hi t end s v m (a .is (s to v) ls lo hi m))
 
-    pub fix-rule : IfSame w ls (t + 1) c (t + 1) r → Rule1 FIX w ls t r
+    pub fix-rule : IfSame w ls (t + 1) c (t + 1) r → Finds1 FIX w ls t r
     fix-rule same N lo hi few m = absurd (arrow (a .is N ls lo hi m))
     fix-rule same L lo hi few m = absurd (arrow (a .is L ls lo hi m))
     fix-rule same (list s) lo hi few m = absurd (arrow (a .is (list s) ls lo hi m))
@@ -57,7 +57,7 @@ module _ (w ls : List ℕ) (t end : ℕ) (a : ArgumentEnd w t end) where
         let x = argument-means w ls lo hi t s v m in
         finds-if w ls lo hi (t + 1) r s (sameType ml s v) (same s v lo hi lo hi few x (result-means s v lo hi m)) (λ y. x)
 
-    pub apply-rule : (u : ℕ) → IfSame w ls (t + 1) u c r → Rule2 APP w ls t u r
+    pub apply-rule : (u : ℕ) → IfSame w ls (t + 1) u c r → Finds2 APP w ls t u r
     apply-rule u same N v lo hi few m mu = absurd (arrow (a .is N ls lo hi m))
     apply-rule u same L v lo hi few m mu = absurd (arrow (a .is L ls lo hi m))
     apply-rule u same (list s) v lo hi few m mu = absurd (arrow (a .is (list s) ls lo hi m))
@@ -67,7 +67,7 @@ module _ (w ls : List ℕ) (t end : ℕ) (a : ArgumentEnd w t end) where
 
 -- cons: u is the second type, and e the place of its element type.
 module _ (w ls : List ℕ) (t u e : ℕ) (he : e ≡ elementOf w u) where
-  pub cons-other : e ≡ 0 → Rule2 CONS w ls t u 0
+  pub cons-other : e ≡ 0 → Finds2 CONS w ls t u 0
   unfolding Finds
   cons-other z s v lo hi few m mu = not-list s v (no-list w u e he z ls lo hi v mu)
     where
@@ -77,7 +77,7 @@ module _ (w ls : List ℕ) (t u e : ℕ) (he : e ≡ elementOf w u) where
       not-list s (list v) q = absurd (Option·none-ne-some v (sym q))
       not-list s (u to v) q = refl
 
-  pub cons-rule : (e ≡ 0 → ⊥) → (r : ℕ) → IfSame w ls e t u r → Rule2 CONS w ls t u r
+  pub cons-rule : (e ≡ 0 → ⊥) → (r : ℕ) → IfSame w ls e t u r → Finds2 CONS w ls t u r
   cons-rule n r same s v lo hi few m mu =
       let i = is-list w u e he n ls lo hi v mu in
       let x = i .0 in

@@ -43,9 +43,9 @@ WrittenStatic ml w p t = Written w p t
 WrittenStatic sc w p t = Unit {0}
 
 -- The place past the term is `next`; it lies past `at`, and within the file.
-abbrev pub Passes : {l : Lang} → ℕ → Answer l → Type 0
-Passes next (whole p n) = n ≡ next
-Passes next (bad f) = Unit {0}
+abbrev pub EndsAt : {l : Lang} → ℕ → Answer l → Type 0
+EndsAt next (whole p n) = n ≡ next
+EndsAt next (bad f) = Unit {0}
 
 abbrev pub Advances : {l : Lang} → ℕ → ℕ → Answer l → Type 0
 Advances at end (whole p next) = (at < next) × (next ≤ end)

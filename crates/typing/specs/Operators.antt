@@ -37,19 +37,19 @@ IfSame w ls p q r out =
     (t u : Ty) (lo hi lo′ hi′ : ℕ) → hi ≤ length w → Means w ls lo hi p t → Means w ls lo′ hi′ q u → out ≡ cond (sameType ml t u) r 0
 
 -- The rule of an operator of one part, and of two, on references.
-abbrev pub Rule1 : Op1 ml → List ℕ → List ℕ → ℕ → ℕ → Type 0
-Rule1 o w ls t r = (s : Ty) (lo hi : ℕ) → hi ≤ length w → Means w ls lo hi t s → Finds w ls lo hi (result1 o s) r
+abbrev pub Finds1 : Op1 ml → List ℕ → List ℕ → ℕ → ℕ → Type 0
+Finds1 o w ls t r = (s : Ty) (lo hi : ℕ) → hi ≤ length w → Means w ls lo hi t s → Finds w ls lo hi (result1 o s) r
 
-abbrev pub Rule2 : Op2 → List ℕ → List ℕ → ℕ → ℕ → ℕ → Type 0
-Rule2 o w ls t u r =
+abbrev pub Finds2 : Op2 → List ℕ → List ℕ → ℕ → ℕ → ℕ → Type 0
+Finds2 o w ls t u r =
     (s v : Ty) (lo hi : ℕ) → hi ≤ length w → Means w ls lo hi t s → Means w ls lo hi u v → Finds w ls lo hi (result2 ml o s v) r
 
 -- The word x is that of an operator.
 abbrev pub Result1 : List ℕ → List ℕ → ℕ → ℕ → ℕ → ℕ → Type 0
-Result1 w ls x at t r = (o : Op1 ml) → x ≡ word1 o → shapeAt w at ≡ 4 → Rule1 o w ls t r
+Result1 w ls x at t r = (o : Op1 ml) → x ≡ word1 o → shapeAt w at ≡ 4 → Finds1 o w ls t r
 
 abbrev pub Result2 : List ℕ → List ℕ → ℕ → ℕ → ℕ → ℕ → Type 0
-Result2 w ls x t u r = (o : Op2) → x ≡ word2 ml o → Rule2 o w ls t u r
+Result2 w ls x t u r = (o : Op2) → x ≡ word2 ml o → Finds2 o w ls t u r
 
 abbrev pub Result3 : List ℕ → List ℕ → ℕ → ℕ → ℕ → ℕ → Type 0
 Result3 w ls t u v r =

@@ -9,7 +9,7 @@ use Rattle.calculus.specs.Kinds.{term}
 use Rattle.calculus.specs.Typing.{Entry, of, Lambdas}
 use Rattle.calculus.specs.Inference.{typeAt}
 use Rattle.nodes.specs.Table.{sortNumber, rowOf}
-use Rattle.typing.specs.Answers.{Answer, WrittenStatic, Passes, Answers}
+use Rattle.typing.specs.Answers.{Answer, WrittenStatic, EndsAt, Answers}
 
 -- The lambda at p is of the language, with the type written behind it.
 abbrev pub Binds : List ℕ → ℕ → Entry → Type 0
@@ -31,5 +31,5 @@ pub record LambdaOf (w ls : List ℕ) (sort scope between r : ℕ) : Type 0 wher
 
 -- "a variable the type written at its lambda".
 pub record Variable (l : Lang) (w ls : List ℕ) (scope x at : ℕ) (r : Answer l) : Type 0 where
-  pub passes : Passes (at + 1) r
+  pub passes : EndsAt (at + 1) r
   pub is : (Γ : Lambdas) (lo hi : ℕ) → Scope w ls at scope Γ → Answers l w ls lo hi at (at + 1) (typeAt l Γ (x / 256)) r

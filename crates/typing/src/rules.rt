@@ -13,7 +13,7 @@ ghost use Rattle.nodes.specs.Table.{kinds};
 ghost use Rattle.calculus.specs.Trees.{ml, sc, FIX, APP, CONS};
 ghost use Rattle.types.specs.Links.{Linked, LinkedAt};
 ghost use Rattle.typing.specs.Answers.{inferred, formed, conclusion, Crossed};
-ghost use Rattle.typing.specs.Operators.{ArgumentEnd, elementOf, IfSame, Rule1, Rule2, Result1, Result2, Result3};
+ghost use Rattle.typing.specs.Operators.{ArgumentEnd, elementOf, IfSame, Finds1, Finds2, Result1, Result2, Result3};
 ghost use Rattle.typing.specs.Variables.{LambdaOf, Variable};
 
 // The type of an ML term, as a reference, and the place past the term; or the place of its fault.
@@ -141,7 +141,7 @@ fn if_same(table: &Kinds, all: &[u32], link: &[u16], p: usize, q: usize, r: usiz
 // fix of a t.
 fn fix_type(table: &Kinds, all: &[u32], link: &[u16], t: usize) -> usize
     requires { ⌜ Linked (now table) (now all) (now link) ⌝ }
-    ensures { λ r. ⌜ Rule1 FIX (now (all .entry)) (now (link .entry)) t r ⌝ }
+    ensures { λ r. ⌜ Finds1 FIX (now (all .entry)) (now (link .entry)) t r ⌝ }
 {
     let end = argument_end(table, all, t);
     if end == 0 {
@@ -155,7 +155,7 @@ fn fix_type(table: &Kinds, all: &[u32], link: &[u16], t: usize) -> usize
 // A t applied to a u.
 fn application_type(table: &Kinds, all: &[u32], link: &[u16], t: usize, u: usize) -> usize
     requires { ⌜ Linked (now table) (now all) (now link) ⌝ }
-    ensures { λ r. ⌜ Rule2 APP (now (all .entry)) (now (link .entry)) t u r ⌝ }
+    ensures { λ r. ⌜ Finds2 APP (now (all .entry)) (now (link .entry)) t u r ⌝ }
 {
     let end = argument_end(table, all, t);
     if end == 0 {
@@ -169,7 +169,7 @@ fn application_type(table: &Kinds, all: &[u32], link: &[u16], t: usize, u: usize
 // cons of a t and a u.
 fn cons_type(table: &Kinds, all: &[u32], link: &[u16], t: usize, u: usize) -> usize
     requires { ⌜ Linked (now table) (now all) (now link) ⌝ }
-    ensures { λ r. ⌜ Rule2 CONS (now (all .entry)) (now (link .entry)) t u r ⌝ }
+    ensures { λ r. ⌜ Finds2 CONS (now (all .entry)) (now (link .entry)) t u r ⌝ }
 {
     let e = element(table, all, u);
     if e == 0 {

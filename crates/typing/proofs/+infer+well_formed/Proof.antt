@@ -1,4 +1,4 @@
--- `typing::infer` and `typing::well_formed` meet their contracts: each way out is one law of Leaves, Walking or Concluding. The measure of
+-- `typing::infer` and `typing::well_formed` meet their contracts: each way out is one law of Leaves, OverParts or Concluding. The measure of
 -- both is the number of the term's words. Assumes nothing.
 use Prim.Native.Nat.{ℕ, _%_, _<_}
 use mathlib.Core.List.{List}
@@ -17,8 +17,8 @@ use Rattle.typing.specs.Answers.{inferred, formed}
 use Rattle.typing.specs.Parts.{Begins, Read, PartsStart, Leaf}
 use Rattle.typing.proofs.Telling.{Several, Of, first-word, told, several, choice, scheme-one, scheme-several, scheme-two, scheme-three}
 use Rattle.typing.proofs.Leaves.{no-words}
-use Rattle.typing.proofs.Walking.{AtNode, Reached, further, links-at, hands-on, begun, a-boundary, Entering, reached, one-bad, One, one-of}
-use Rattle.typing.proofs.Walking.{reached-1, two-bad, Two, two-of, reached-2, three-bad}
+use Rattle.typing.proofs.OverParts.{AtNode, ComeTo, further, links-at, hands-on, begun, a-boundary, Entering, reached, one-bad, One, one-of}
+use Rattle.typing.proofs.OverParts.{reached-1, two-bad, Two, two-of, reached-2, three-bad}
 use Rattle.typing.proofs.Concluding.{by-result1, by-result2, by-result3, an-operator-1, an-operator-2, an-if0, an-ml-lambda}
 use Rattle.typing.proofs.Concluding.{scheme2, a-scheme-part, scheme-if0}
 use Rattle.typing.proofs.infer.Reads as infer
@@ -313,7 +313,7 @@ module _ {t : ℕ} where
 
   ml-reached-3 : (c : Ml t i.After-result-3-arg)
       → ml-Of (ml-found-2 (ml-whole-2 (ml-third c)))
-      (λ w at ls scope. Reached w ls at (c .before .before .three .given .0 .1 .0) (ml-third c .infer3 .last .1 .1 .1 .1 .0))
+      (λ w at ls scope. ComeTo w ls at (c .before .before .three .given .0 .1 .0) (ml-third c .infer3 .last .1 .1 .1 .1 .0))
   ml-reached-3 c =
       further (reached-2 (ml-two (ml-whole-2 (ml-third c)))) (ml-third c .infer3 .ensures) (ap inferred (c .before .before .three .given .1))
 

@@ -11,7 +11,7 @@ use borrow.Fn.Kinds.{In, Out}
 use borrow.Fn.PlainCycle.{Measures, is, falls, and}
 use Rattle.calculus.specs.Trees.{Lang}
 use Rattle.calculus.specs.Scope.{scopeDue}
-use Rattle.nodes.specs.Languages.{held, each}
+use Rattle.nodes.specs.Languages.{lambdasIn, each}
 use Rattle.nodes.proofs.Dues.{parts-digits, other-digits}
 use Rattle.nodes.proofs.Lambdas.{kept-outside}
 use Rattle.nodes.proofs.Ways.{Inner, part-length}
@@ -57,9 +57,10 @@ module _ {t : ℕ} where
 
   -- The lambdas around the word; past the parts they are as they were.
   abbrev Γ : Cited t lts.After-row-at → List Lang
-  Γ c = held (start c .args .depth) (start c .args .scope .now)
+  Γ c = lambdasIn (start c .args .depth) (start c .args .scope .now)
 
-  kept : (c : Cited t lts.After-variables) → held (start (read (entered c)) .args .depth) (c .variables .last .1 .1 .1 .1 .0) ≡ Γ (read (entered c))
+  kept : (c : Cited t lts.After-variables)
+      → lambdasIn (start (read (entered c)) .args .depth) (c .variables .last .1 .1 .1 .1 .0) ≡ Γ (read (entered c))
   kept c = kept-outside (entered c .enter .ensures) _ (c .variables .ensures .1)
 
   parts : (c : Cited t lts.After-variables) → let r = read (entered c) in let a = start r .args in
@@ -70,7 +71,7 @@ module _ {t : ℕ} where
       let s = start r in
       inner (s .args .words .now) (s .args .at) (s .args .due) (Γ r) (s .pre .1 .walk .digits) (r .before .before .before .if1 .left)
       (r .before .before .if2 .left) (r .row-at .ensures) (sym (e .before .before .before .is-free .ensures) ∙ e .before .before .if3 .left)
-      (held (e .enter .result) (e .enter .last .1 .1 .0)) (e .enter .ensures .parts) _ (c .variables .ensures .0)
+      (lambdasIn (e .enter .result) (e .enter .last .1 .1 .0)) (e .enter .ensures .parts) _ (c .variables .ensures .0)
 
   past : (c : Cited t lts.After-inner) → let a = start (read (entered (walked-over c))) .args in
       let n = c .inner .given .0 .0 in (a .at + 1 ≤ n) × (n ≤ a .at + length (a .words .now))
@@ -79,12 +80,12 @@ module _ {t : ℕ} where
   returns : Cited t lts.Need-returns
   returns c =
       let a = c .before .before .before .args in
-      (nothing-due (a .words .now) (a .at) (a .due) (held (a .depth) (a .scope .now)) (c .if1 .taken), refl)
+      (nothing-due (a .words .now) (a .at) (a .due) (lambdasIn (a .depth) (a .scope .now)) (c .if1 .taken), refl)
 
   returns-2 : Cited t lts.Need-returns-2
   returns-2 c =
       let s = c .before .before .before .before in
-      let Γ = held (s .args .depth) (s .args .scope .now) in
+      let Γ = lambdasIn (s .args .depth) (s .args .scope .now) in
       (run-out (s .args .words .now) (s .args .at) (s .args .due) Γ (s .pre .1 .walk .digits) (c .before .if1 .left) (c .if2 .taken), refl)
 
   returns-3 : Cited t lts.Need-returns-3

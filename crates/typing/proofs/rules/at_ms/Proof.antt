@@ -1,7 +1,7 @@
 -- `typing::rules::at_ms` meets its contract: the answer by cases. Assumes nothing.
 use borrow.Author.Needs.{needs}
 use Rattle.calculus.specs.Trees.{ml}
-use Rattle.typing.proofs.Results.{crossed-bad, ms-whole}
+use Rattle.typing.proofs.RuleResults.{crossed-bad, ms-whole}
 use Rattle.typing.proofs.rules.at_ms.Statement.{statement}
 use Rattle.typing.proofs.rules.at_ms.Tie as tie
 

@@ -1,7 +1,7 @@
--- `typing::rules::at_sm` meets its contract: each way out is one law of Results. Assumes nothing.
+-- `typing::rules::at_sm` meets its contract: each way out is one law of RuleResults. Assumes nothing.
 use borrow.Author.Needs.{needs}
 use Rattle.calculus.specs.Trees.{sc}
-use Rattle.typing.proofs.Results.{crossed-bad, sm-same, sm-differ}
+use Rattle.typing.proofs.RuleResults.{crossed-bad, sm-same, sm-differ}
 use Rattle.typing.proofs.rules.at_sm.Statement.{statement}
 use Rattle.typing.proofs.rules.at_sm.Tie as tie
 

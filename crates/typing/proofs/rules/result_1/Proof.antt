@@ -1,6 +1,6 @@
--- `typing::rules::result_1` meets its contract: each way out is one law of Results. Assumes nothing.
+-- `typing::rules::result_1` meets its contract: each way out is one law of RuleResults. Assumes nothing.
 use borrow.Author.Needs.{needs}
-use Rattle.typing.proofs.Results.{one-fix, one-other, one-hd, one-tl, one-null}
+use Rattle.typing.proofs.RuleResults.{one-fix, one-other, one-hd, one-tl, one-null}
 use Rattle.typing.proofs.rules.result_1.Statement.{statement}
 use Rattle.typing.proofs.rules.result_1.Tie as tie
 

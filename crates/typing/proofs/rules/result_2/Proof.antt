@@ -1,6 +1,6 @@
--- `typing::rules::result_2` meets its contract: each way out is one law of Results. Assumes nothing.
+-- `typing::rules::result_2` meets its contract: each way out is one law of RuleResults. Assumes nothing.
 use borrow.Author.Needs.{needs}
-use Rattle.typing.proofs.Results.{two-apply, two-cons, two-first, two-second, two-numbers}
+use Rattle.typing.proofs.RuleResults.{two-apply, two-cons, two-first, two-second, two-numbers}
 use Rattle.typing.proofs.rules.result_2.Statement.{statement}
 use Rattle.typing.proofs.rules.result_2.Tie as tie
 

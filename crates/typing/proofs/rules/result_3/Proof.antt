@@ -1,6 +1,6 @@
--- `typing::rules::result_3` meets its contract: each way out is one law of Results. Assumes nothing.
+-- `typing::rules::result_3` meets its contract: each way out is one law of RuleResults. Assumes nothing.
 use borrow.Author.Needs.{needs}
-use Rattle.typing.proofs.Results.{three-test, three-rule}
+use Rattle.typing.proofs.RuleResults.{three-test, three-rule}
 use Rattle.typing.proofs.rules.result_3.Statement.{statement}
 use Rattle.typing.proofs.rules.result_3.Tie as tie
 

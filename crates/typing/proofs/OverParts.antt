@@ -24,7 +24,8 @@ use Rattle.typing.specs.Parts.{leadSize, Begins, Read, PartsStart, Scope
 use Rattle.typing.specs.Infers.{Told, Infers}
 use Rattle.typing.proofs.Leading.{lead-written}
 use Rattle.typing.proofs.Leaves.{lead-lam}
-use Rattle.typing.proofs.Lasting.{scope-later, scope-inside, binds-static, answers-wider, no-part, Good, good-part, advances-later, advanced}
+use Rattle.typing.proofs.Lasting.{scope-later, scope-inside, binds-static, answers-wider, no-part}
+use Rattle.typing.proofs.Lasting.{GoodPart, good-part, advances-later, advanced}
 use Rattle.typing.proofs.Telling.{Branches, branch-lambda, branch-one, branch-more, Several, several-two, several-three}
 use Rattle.typing.proofs.Telling.{Of, sort-told, shape-told, told, branches}
 
@@ -36,7 +37,7 @@ pub record AtNode (w : List ℕ) (at : ℕ) (row : code.Row) (start : ℕ) : Typ
   pub few : length w ≤ 4096
 
 -- The walk over its parts has come to the place p.
-pub record Reached (w ls : List ℕ) (at p : ℕ) (now : List ℕ) : Type 0 where
+pub record ComeTo (w ls : List ℕ) (at p : ℕ) (now : List ℕ) : Type 0 where
   pub past : at < p
   pub within : p ≤ length w
   pub same : length now ≡ length ls
@@ -44,10 +45,10 @@ pub record Reached (w ls : List ℕ) (at p : ℕ) (now : List ℕ) : Type 0 wher
 
 -- There: the links serve as they did, and what is handed on for the part there, fewer words, from its own on.
 module _ {table w term : List ℕ} {at : ℕ} {ls : List ℕ} {p : ℕ} {now : List ℕ} where
-  pub links-at : Begins table w term at ls → Reached w ls at p now → Linked table w now
+  pub links-at : Begins table w term at ls → ComeTo w ls at p now → Linked table w now
   links-at B G = record { tabled = B .tabled; linked = G .same ∙ B .linked }
 
-  pub hands-on : {t : ℕ} → (length term ≡ t) × Begins table w term at ls → Reached w ls at p now
+  pub hands-on : {t : ℕ} → (length term ≡ t) × Begins table w term at ls → ComeTo w ls at p now
       → let part = take (length w - p) (drop p w) in (length part < t) × Begins table w part p now
   hands-on (q, B) G = (
     omega (arith, part-length w p, ap length (B .here), length-drop at w, G .past, G .within, B .within),
@@ -68,9 +69,9 @@ Goal l w ls at scope after r e =
     → Answers l w after at (at + size e) (fault at Γ e) (at + size e) (infer Γ e) r
 
 -- The part at p is inferred.
-module _ {l : Lang} {w ls : List ℕ} {at p : ℕ} {before : List ℕ} (G : Reached w ls at p before) {inner : ℕ} {after : List ℕ} {r : Answer l}
+module _ {l : Lang} {w ls : List ℕ} {at p : ℕ} {before : List ℕ} (G : ComeTo w ls at p before) {inner : ℕ} {after : List ℕ} {r : Answer l}
     (I : Infers l w p inner before after r) where
-  pub further : {t : Reference l} {n : ℕ} → r ≡ whole t n → Reached w ls at n after
+  pub further : {t : Reference l} {n : ℕ} → r ≡ whole t n → ComeTo w ls at n after
   further {t} {n} z =
       let b = advanced p (length w) n z (I .advances) in
       record {
@@ -91,7 +92,7 @@ module _ {l : Lang} {w ls : List ℕ} {at p : ℕ} {before : List ℕ} (G : Reac
         is = λ e Γ k d s. record { answer = f e k d Γ k d s };
       }
 
-module _ {l : Lang} {w ls : List ℕ} {at p : ℕ} {before : List ℕ} (G : Reached w ls at p before) {scope : ℕ} {after : List ℕ} {r : Answer l}
+module _ {l : Lang} {w ls : List ℕ} {at p : ℕ} {before : List ℕ} (G : ComeTo w ls at p before) {scope : ℕ} {after : List ℕ} {r : Answer l}
     (I : Infers l w p scope before after r) where
   pub part : {p′ : ℕ} → p ≡ p′ → (a : Term l) (Γ : Lambdas) (k : List ℕ) → drop p′ w ≡ put a k → Scope w ls at scope Γ → Told l w after p′ Γ a r
   part q a Γ k d s =
@@ -104,7 +105,7 @@ module _ {l : Lang} {w ls : List ℕ} {at p : ℕ} {before : List ℕ} (G : Reac
   bad-node z f = whole-node G I (subst (Advances at (length w)) (sym z) tt) f
 
 module _ {w : List ℕ} {at : ℕ} {row : code.Row} {start : ℕ} (N : AtNode w at row start) where
-  pub begun : (ls : List ℕ) → Reached w ls at start ls
+  pub begun : (ls : List ℕ) → ComeTo w ls at start ls
   begun ls = record { past = N .starts .least; within = N .starts .most; same = refl; kept = λ i h. refl }
 
   -- A boundary.
@@ -142,7 +143,7 @@ module _ {row : code.Row} {start : ℕ} {now : List ℕ} {inner : ℕ} {w : List
   abbrev N : AtNode w at row start
   N = O .node
 
-  pub reached : Reached w ls at start now
+  pub reached : ComeTo w ls at start now
   reached = record { past = N .starts .least; within = N .starts .most; same = O .enters .same; kept = O .enters .kept }
 
   pub sees : (l : Lang) → Of l w at (Branches l)
@@ -198,11 +199,11 @@ one-of {row} {start} {now} {inner} {w} O {l} {ls2} I T =
 
 module _ {l : Lang} {row : code.Row} {start : ℕ} {ls2 : List ℕ} {t : Reference l} {second : ℕ} {w : List ℕ} {at : ℕ} {ls : List ℕ} {scope : ℕ}
     (A : One l row start ls2 t second w at ls scope) where
-  pub reached-1 : Reached w ls at second ls2
+  pub reached-1 : ComeTo w ls at second ls2
   reached-1 = further (reached (A .entering)) (A .infers) refl
 
   pub first-good : (e : Term l) (k : List ℕ) → drop at w ≡ put e k → leadSize e ≡ 0 → (shapeNumber (term l) e ≡ 3 → ⊥) → (a : Term l)
-      (Γ : Lambdas) (j : List ℕ) → drop (at + 1) w ≡ put a j → Scope w ls at scope Γ → Good l w ls2 (at + 1) Γ a t second
+      (Γ : Lambdas) (j : List ℕ) → drop (at + 1) w ≡ put a j → Scope w ls at scope Γ → GoodPart l w ls2 (at + 1) Γ a t second
   first-good e k d z n a Γ j d′ s = good-part (first (A .entering) (A .infers) e k d z n a Γ j d′ s) refl
 
   pub two-bad : {ls3 : List ℕ} {r2 : Answer l} → Infers l w second scope ls2 ls3 r2 → {b : ℕ} → r2 ≡ bad b → Of l w at (Several l)
@@ -238,7 +239,7 @@ two-of {l} {row} {start} {ls2} {t} {second} {w} {at} {ls} {scope} A {ls3} J U =
 
 module _ {l : Lang} {row : code.Row} {start : ℕ} {ls3 : List ℕ} {t u : Reference l} {third : ℕ} {w : List ℕ} {at : ℕ} {ls : List ℕ} {scope : ℕ}
     (A : Two l row start ls3 t u third w at ls scope) where
-  pub reached-2 : Reached w ls at third ls3
+  pub reached-2 : ComeTo w ls at third ls3
   reached-2 = further (reached-1 (A .one)) (A .infers) refl
 
   pub three-bad : {ls4 : List ℕ} {r3 : Answer l} → Infers l w third scope ls3 ls4 r3 → {b : ℕ} → r3 ≡ bad b → Of l w at (Shaped l 6)

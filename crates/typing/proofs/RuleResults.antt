@@ -14,14 +14,14 @@ use Rattle.types.specs.References.{former, formerAt, Written, Means}
 use Rattle.types.specs.Comparisons.{Equality}
 use Rattle.types.proofs.Pairs.{same-sym}
 use Rattle.types.proofs.Meanings.{written-means, means-in}
-use Rattle.typing.specs.Answers.{Answer, whole, bad, Answers, Passes, Advances, conclusion, other, boundaryType, Crossed}
-use Rattle.typing.specs.Operators.{Finds, elementOf, IfSame, Rule1, Rule2, Result1, Result2, Result3}
+use Rattle.typing.specs.Answers.{Answer, whole, bad, Answers, EndsAt, Advances, conclusion, other, boundaryType, Crossed}
+use Rattle.typing.specs.Operators.{Finds, elementOf, IfSame, Finds1, Finds2, Result1, Result2, Result3}
 use Rattle.typing.proofs.Formers.{is-list, no-list, is-number, no-number}
 use Rattle.typing.proofs.Operations.{element-means, finds-if}
 
 -- The operators of one part.
 module _ (w ls : List ℕ) (x at t : ℕ) where
-  pub one-fix : x ≡ 20 → (r : ℕ) → Rule1 FIX w ls t r → Result1 w ls x at t r
+  pub one-fix : x ≡ 20 → (r : ℕ) → Finds1 FIX w ls t r → Result1 w ls x at t r
   one-fix e r f FIX q h = f
   one-fix e r f NULL? q h = absurd (omega arith)
   one-fix e r f HD q h = absurd (omega arith)
@@ -39,7 +39,7 @@ module _ (w ls : List ℕ) (x at t : ℕ) where
       -- By the element type y.
       by-element : (o : Op1 ml) (r : ℕ)
           → ((y : Ty) (lo hi : ℕ) → Means w ls lo hi t (list y) → e ≡ t + 1 → Finds w ls lo hi (result1 o (list y)) r)
-          → Rule1 o w ls t r
+          → Finds1 o w ls t r
       by-element o r f s lo hi few m =
           let i = is-list w t e he list-type ls lo hi s m in
           rw (i .1) (f (i .0) lo hi (rw (i .1) at m) (i .2))
@@ -67,13 +67,13 @@ module _ (w ls : List ℕ) (x at t : ℕ) where
 
 -- The operators of two parts.
 module _ (w ls : List ℕ) (x t u : ℕ) where
-  pub two-apply : x ≡ 19 → (r : ℕ) → Rule2 APP w ls t u r → Result2 w ls x t u r
+  pub two-apply : x ≡ 19 → (r : ℕ) → Finds2 APP w ls t u r → Result2 w ls x t u r
   two-apply e r f APP q = f
   two-apply e r f ADD q = absurd (omega arith)
   two-apply e r f SUB q = absurd (omega arith)
   two-apply e r f CONS q = absurd (omega arith)
 
-  pub two-cons : x ≡ 25 → (r : ℕ) → Rule2 CONS w ls t u r → Result2 w ls x t u r
+  pub two-cons : x ≡ 25 → (r : ℕ) → Finds2 CONS w ls t u r → Result2 w ls x t u r
   two-cons e r f APP q = absurd (omega arith)
   two-cons e r f ADD q = absurd (omega arith)
   two-cons e r f SUB q = absurd (omega arith)
@@ -171,9 +171,9 @@ unfolding Finds Answers
 answered w ls lo hi at t next none f = rw (eq-eqb t 0 f)
 answered w ls lo hi at t next (some s) f = rw (ne-eqb t 0 (λ z. omega (arith, means-in w ls lo hi t s f .0))) (t, refl, f)
 
-pub passed : (at t next : ℕ) → Passes next (conclusion at t next)
+pub passed : (at t next : ℕ) → EndsAt next (conclusion at t next)
 passed at t next = by (eqb t 0)
   where
-    by : (b : Bool) → Passes {l = ml} next (cond b (bad at) (whole t next))
+    by : (b : Bool) → EndsAt {l = ml} next (cond b (bad at) (whole t next))
     by true = tt
     by false = refl
