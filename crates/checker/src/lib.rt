@@ -15,7 +15,7 @@ ghost use Prim.Native.Nat.{_+_};
 ghost use lib.ListN.{length};
 ghost use Rattle.calculus.specs.File.{padded};
 ghost use Rattle.calculus.specs.File as calculus;
-ghost use Rattle.typing.specs.Links.{Linked};
+ghost use Rattle.types.specs.Links.{Linked};
 ghost use Rattle.file.specs.Opening.{opened, kept};
 ghost use Rattle.checker.specs.Checks.{TermAt, checked, accepting, judging, admitting, Decides};
 
