@@ -4,9 +4,10 @@ use mathlib.Core.Logic.{_↔_}
 use mathlib.Core.List.{[]}
 use mathlib.Core.Path.{_≡_, refl, sym, ap, subst, _∙_}
 use native.Mathlib.Omega.{arith}
-use Rattle.calculus.specs.Trees.{Lang, Static, Term, wrong}
+use Rattle.calculus.specs.Trees.{Lang, Term, wrong}
 use Rattle.calculus.specs.Scope.{Scoped}
-use Rattle.calculus.specs.Reduction.{Became, becomes, raises, nothing, contract, Context, fill, Turn, done, at, turn, Outcome, value, raised, next, stuck, outcome, stepped, step}
+use Rattle.calculus.specs.Reduction.{Became, becomes, raises, nothing, contract, Context, fill, Turn, done, at, turn, Outcome, value, raised}
+use Rattle.calculus.specs.Reduction.{next, stuck, outcome, stepped, step}
 use Rattle.calculus.specs.Rules.{Value, _⟶_, by-rule, Raises, by-wrong, Stuck}
 use Rattle.calculus.specs.Evaluation.{Evaluated}
 use Rattle.calculus.proofs.Values.{value-turn}

@@ -1,18 +1,24 @@
 -- How many words a next term may have: no more than the square of the term's; and so a run's words left and words wanted. Assumes nothing.
-use Prim.Native.Nat.{ℕ, zero, suc, _+_, _*_, _-_, _≤_, _<_}
+use Prim.Native.Nat.{ℕ, suc, _+_, _*_, _-_, _≤_}
 use mathlib.Core.Bool.{Bool, true, false, cond}
 use mathlib.Core.List.{List, []}
 use mathlib.Core.Logic.{_⊎_, inl, inr, ⊎-elim}
-use mathlib.Core.Path.{_≡_, refl, sym, ap, _∙_}
+use mathlib.Core.Path.{_≡_, refl, ap, _∙_}
 use lib.Dec.{eqb, leb}
 use lib.ListN.{length}
 use native.Mathlib.Nat.{add-mul, mul-le-mul, mul-le-mul-left, mul-le-mul-right}
 use native.Mathlib.Omega.{arith}
-use Rattle.calculus.specs.Trees.{Ty, N, L, list, _to_, Lang, ml, sc, Static, lists, numbers, Term, var, num, lam, op1, op2, if0, nil, wrong, ms, sm, app, fix}
+use Rattle.calculus.specs.Trees.{Ty, N, L, list, _to_, Lang, ml, sc, Static, lists, numbers, Term, var, num, lam, op1, op2, if0, nil, wrong, ms}
+use Rattle.calculus.specs.Trees.{sm, app, fix}
 use Rattle.calculus.specs.Words.{sizeTy, sizeStatic, size}
 use Rattle.calculus.specs.Typing.{Typed}
 use Rattle.calculus.specs.Substitution.{shift, forOwn, ordinary}
-use Rattle.calculus.specs.Rules.{_⊢_⇒_, app-lambda, app-no-lambda, fix-lambda, add-numbers, add-over, add-no-number, sub-numbers, sub-no-number, if0-zero, if0-other, if0-no-number, hd-cons, hd-nil, hd-no-list, tl-cons, tl-nil, tl-no-list, null-nil, null-cons, fun?-lambda, fun?-other, list?-nil, list?-cons, list?-other, null?-nil, null?-other, num?-number, num?-other, ms-number, ms-no-number, ms-nil, ms-cons, ms-no-list, ms-lambda, ms-no-lambda, sm-number, sm-lump, sm-nil, sm-cons, sm-lambda, Around, hole, in-unary, in-first, in-second, in-test, in-ms, in-sm, around, _⟶_, by-rule}
+use Rattle.calculus.specs.Rules.{_⊢_⇒_, app-lambda, app-no-lambda, fix-lambda, add-numbers, add-over, add-no-number, sub-numbers, sub-no-number}
+use Rattle.calculus.specs.Rules.{if0-zero, if0-other, if0-no-number, hd-cons, hd-nil, hd-no-list, tl-cons, tl-nil, tl-no-list, null-nil}
+use Rattle.calculus.specs.Rules.{null-cons, fun?-lambda, fun?-other, list?-nil, list?-cons, list?-other, null?-nil, null?-other, num?-number}
+use Rattle.calculus.specs.Rules.{num?-other, ms-number, ms-no-number, ms-nil, ms-cons, ms-no-list, ms-lambda, ms-no-lambda, sm-number, sm-lump}
+use Rattle.calculus.specs.Rules.{sm-nil, sm-cons, sm-lambda, Around, hole, in-unary, in-first, in-second, in-test, in-ms, in-sm, around, _⟶_}
+use Rattle.calculus.specs.Rules.{by-rule}
 use Rattle.calculus.specs.Kinds.{term}
 use Rattle.calculus.specs.Verdicts.{passed}
 use Rattle.calculus.specs.Run.{Counts, uncounted, Result, capacity}

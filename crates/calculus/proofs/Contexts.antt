@@ -3,7 +3,8 @@ use Prim.Native.Nat.{ℕ}
 use mathlib.Core.Path.{_≡_, refl, ap, subst}
 use Rattle.calculus.specs.Trees.{Lang, Static, Term, op1, op2, if0, wrong, ms, sm}
 use Rattle.calculus.specs.Reduction.{under, first, second, tested, intoML, intoScheme, Context, here, within, fill}
-use Rattle.calculus.specs.Rules.{Around, hole, in-unary, in-first, in-second, in-test, in-ms, in-sm, around, _⊢_⇒_, _⟶_, by-rule, Raises, by-wrong}
+use Rattle.calculus.specs.Rules.{Around, hole, in-unary, in-first, in-second, in-test, in-ms, in-sm, around, _⊢_⇒_, _⟶_, by-rule, Raises}
+use Rattle.calculus.specs.Rules.{by-wrong}
 use Rattle.calculus.specs.Evaluation.{Evaluated}
 
 abbrev pub placed : {m l : Lang} → Around m l → Context m l

@@ -14,7 +14,8 @@ use Rattle.calculus.specs.Run.{End, valued, spent, error, full, Counts, 
 use Rattle.calculus.proofs.Typing.{typed-scoped}
 use Rattle.calculus.proofs.Soundness.{sound}
 use Rattle.calculus.proofs.Agreement.{next-iff}
-use Rattle.calculus.proofs.Runs.{lastTerm, Ran, at-value, at-limit, at-error, at-full, at-stuck, by-step, run-ran, run-value, run-next, run-full}
+use Rattle.calculus.proofs.Runs.{lastTerm, Ran, at-value, at-limit, at-error, at-full, at-stuck, by-step, run-ran, run-value, run-next}
+use Rattle.calculus.proofs.Runs.{run-full}
 
 -- The words left, by the end: those of the last term, but none after an error.
 abbrev pub leftAt : End → Term ml → List ℕ

@@ -7,12 +7,20 @@ use mathlib.Core.Path.{_≡_, refl, sym, ap, subst}
 use lib.Dec.{eqb, leb}
 use native.Mathlib.Omega.{arith}
 use borrow.Author.Tests.{leb-true, leb-false, le-leb, lt-leb, eqb-true, eqb-false, ne-eqb}
-use Rattle.calculus.specs.Trees.{Ty, N, L, list, _to_, Lang, ml, sc, Static, numbers, Test, isFun, isList, isNull, isNum, HD, TL, FIX, NULL?, TEST, APP, ADD, SUB, CONS, Term, var, num, lam, op1, op2, if0, nil, wrong, ms, sm, app, add, sub, cons, hd, tl, fix, null?, test}
+use Rattle.calculus.specs.Trees.{Ty, N, L, list, _to_, Lang, ml, sc, Static, numbers, Test, isFun, isList, isNull, isNum, HD, TL, FIX, NULL?}
+use Rattle.calculus.specs.Trees.{TEST, APP, ADD, SUB, CONS, Term, var, num, lam, op1, op2, if0, nil, wrong, ms, sm, app, add, sub, cons, hd, tl}
+use Rattle.calculus.specs.Trees.{fix, null?, test}
 use Rattle.calculus.specs.Words.{largest}
 use Rattle.calculus.specs.Scope.{Scoped}
-use Rattle.calculus.specs.Reduction.{substitute, isLump, isCons, Form, number, lambda, nilForm, consForm, sealed, other, form, Became, becomes, raises, nothing, onNumber, onLambda, onList, onLump, amiss, third, answer, contract1, onNumbers, contract2, toML, toScheme, contract}
+use Rattle.calculus.specs.Reduction.{substitute, Form, number, lambda, nilForm, consForm, sealed, other, form, Became, becomes, raises, nothing}
+use Rattle.calculus.specs.Reduction.{onNumber, onLambda, onList, onLump, amiss, third, answer, contract1, onNumbers, contract2, toML, toScheme}
+use Rattle.calculus.specs.Reduction.{contract}
 use Rattle.calculus.specs.Evaluation.{Ready}
-use Rattle.calculus.specs.Rules.{Value, lamV, numV, nilV, consV, lumpV, Lambda, Number, Nil, Cons, _⊢_⇒_, app-lambda, app-no-lambda, fix-lambda, add-numbers, add-over, add-no-number, sub-numbers, sub-no-number, if0-zero, if0-other, if0-no-number, hd-cons, hd-nil, hd-no-list, tl-cons, tl-nil, tl-no-list, null-nil, null-cons, fun?-lambda, fun?-other, list?-nil, list?-cons, list?-other, null?-nil, null?-other, num?-number, num?-other, ms-number, ms-no-number, ms-nil, ms-cons, ms-no-list, ms-lambda, ms-no-lambda, sm-number, sm-lump, sm-nil, sm-cons, sm-lambda}
+use Rattle.calculus.specs.Rules.{Value, lamV, numV, nilV, consV, lumpV, Lambda, Number, Nil, Cons, _⊢_⇒_, app-lambda, app-no-lambda, fix-lambda}
+use Rattle.calculus.specs.Rules.{add-numbers, add-over, add-no-number, sub-numbers, sub-no-number, if0-zero, if0-other, if0-no-number, hd-cons}
+use Rattle.calculus.specs.Rules.{hd-nil, hd-no-list, tl-cons, tl-nil, tl-no-list, null-nil, null-cons, fun?-lambda, fun?-other, list?-nil}
+use Rattle.calculus.specs.Rules.{list?-cons, list?-other, null?-nil, null?-other, num?-number, num?-other, ms-number, ms-no-number, ms-nil}
+use Rattle.calculus.specs.Rules.{ms-cons, ms-no-list, ms-lambda, ms-no-lambda, sm-number, sm-lump, sm-nil, sm-cons, sm-lambda}
 use Rattle.calculus.proofs.Substitution.{closed-shift, substitute-ordinary}
 
 abbrev tag : {l : Lang} → Form l → ℕ

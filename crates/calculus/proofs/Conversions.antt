@@ -10,14 +10,19 @@ use Rattle.calculus.specs.Words.{size, sizeTy}
 use Rattle.calculus.specs.Typing.{Typed}
 use Rattle.calculus.specs.Reduction.{form, becomes, onList, contract1}
 use Rattle.calculus.specs.Substitution.{shift, ordinary}
-use Rattle.calculus.specs.Rules.{Value, lamV, numV, nilV, consV, lumpV, Lambda, Number, Nil, Cons, app-lambda, ms-number, ms-no-number, ms-nil, ms-cons, ms-no-list, ms-lambda, ms-no-lambda, sm-number, sm-lump, sm-nil, sm-cons, sm-lambda, Steps, stay, then, Raises}
+use Rattle.calculus.specs.Rules.{Value, lamV, numV, nilV, consV, lumpV, Lambda, Number, Nil, Cons, app-lambda, ms-number, ms-no-number, ms-nil}
+use Rattle.calculus.specs.Rules.{ms-cons, ms-no-list, ms-lambda, ms-no-lambda, sm-number, sm-lump, sm-nil, sm-cons, sm-lambda, Steps, stay}
+use Rattle.calculus.specs.Rules.{then, Raises}
 use Rattle.calculus.specs.Endings.{by-value}
-use Rattle.calculus.specs.Conversions.{Data, Fits, number, anything, fits-nil, fits-cons, function, first, misfit, crossing, boundaries, Reaches, Survives, Crosses, Leaves, Seals, wrapper, Wraps, Functions, Conversions}
+use Rattle.calculus.specs.Conversions.{Data, Fits, number, anything, fits-nil, fits-cons, function, first, misfit, crossing, boundaries}
+use Rattle.calculus.specs.Conversions.{Reaches, Survives, Crosses, Leaves, Seals, wrapper, Wraps, Functions, Conversions}
 use Rattle.calculus.proofs.Contraction.{mark}
 use Rattle.calculus.proofs.Bounds.{size-shift}
 use Rattle.calculus.proofs.Typing.{typed-scoped}
 use Rattle.calculus.proofs.Agreement.{value-no-step}
-use Rattle.calculus.proofs.Reaching.{Within, still, on, within-steps, within-made, once, join, wider, inside, in-head, in-tail, into-ml, into-scheme, rule, onward, reached, after-rule, raises, raises-head, raises-tail, one-end, value-end, value-or-error, error-once, fails-run}
+use Rattle.calculus.proofs.Reaching.{Within, still, on, within-steps, within-made, once, join, wider, inside, in-head, in-tail, into-ml}
+use Rattle.calculus.proofs.Reaching.{into-scheme, rule, onward, reached, after-rule, raises, raises-head, raises-tail, one-end, value-end}
+use Rattle.calculus.proofs.Reaching.{value-or-error, error-once, fails-run}
 
 -- An ML value and a Scheme value are the same datum of a type; the steps of its way into ML, and out of it.
 data Same : ℕ → ℕ → Ty → Term ml → Term sc → Type 0 where

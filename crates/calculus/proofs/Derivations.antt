@@ -4,7 +4,9 @@ use native.Mathlib.Omega.{arith}
 use Rattle.calculus.specs.Trees.{N, L, list, _to_, Lang, ml, APP, ADD, CONS, Term, var, num, lam, if0, nil, wrong, ms, sm, app, add, cons, fix}
 use Rattle.calculus.specs.Substitution.{shift, ordinary}
 use Rattle.calculus.specs.Reduction.{form}
-use Rattle.calculus.specs.Rules.{Around, hole, in-first, in-second, in-ms, around, lamV, numV, nilV, _⊢_⇒_, app-lambda, fix-lambda, if0-no-number, ms-number, ms-cons, ms-no-list, ms-lambda, sm-number, sm-lump, _⟶_, by-rule, Steps, stay, then, Raises, by-wrong}
+use Rattle.calculus.specs.Rules.{hole, in-first, in-second, in-ms, around, lamV, numV, nilV, _⊢_⇒_, app-lambda, fix-lambda, if0-no-number}
+use Rattle.calculus.specs.Rules.{ms-number, ms-cons, ms-no-list, ms-lambda, sm-number, sm-lump, _⟶_, by-rule, Steps, stay, then, Raises}
+use Rattle.calculus.specs.Rules.{by-wrong}
 use Rattle.calculus.proofs.Contraction.{mark}
 
 at-root : {l : Lang} {e r : Term l} → l ⊢ e ⇒ r → e ⟶ r

@@ -2,7 +2,8 @@
 use mathlib.Core.Bool.{Bool, true, false}
 use mathlib.Core.Path.{_≡_, refl, ap, _∙_}
 use Rattle.calculus.specs.Trees.{Lang, Term, var, num, lam, op1, op2, if0, nil, wrong, ms, sm}
-use Rattle.calculus.specs.Reduction.{isLump, isCons, contract, Frame, under, first, second, tested, intoML, intoScheme, plug, Context, fill, Turn, done, at, into, own, turn, Outcome, value, outcome, stepped, step}
+use Rattle.calculus.specs.Reduction.{isLump, isCons, contract, Frame, under, first, second, tested, intoML, intoScheme, plug, Context, fill}
+use Rattle.calculus.specs.Reduction.{Turn, done, at, into, own, turn, Outcome, value, outcome, stepped, step}
 
 abbrev Stands : {l : Lang} → Term l → Turn l → Type 0
 Stands e done = Unit {0}

@@ -5,10 +5,14 @@ use mathlib.Core.Path.{_≡_, refl}
 use lib.Dec.{eqb, leb}
 use borrow.Author.Tests.{leb-true}
 use native.Mathlib.Omega.{arith}
-use Rattle.calculus.specs.Trees.{Ty, N, L, list, _to_, Lang, ml, sc, Static, numbers, Test, isFun, isList, isNull, isNum, Op1, HD, TL, FIX, NULL?, TEST, Op2, APP, ADD, SUB, CONS, Term, var, num, lam, op1, op2, if0, nil, wrong, ms, sm, fix}
+use Rattle.calculus.specs.Trees.{Ty, N, L, list, _to_, Lang, ml, sc, Static, numbers, Test, isFun, isList, isNull, isNum, Op1, HD, TL, FIX}
+use Rattle.calculus.specs.Trees.{NULL?, TEST, Op2, APP, ADD, SUB, CONS, Term, var, num, lam, op1, op2, if0, nil, wrong, ms, sm, fix}
 use Rattle.calculus.specs.Words.{largest, lastCode}
 use Rattle.calculus.specs.Limits.{InRange}
-use Rattle.calculus.specs.Reduction.{replaced, substitute, Form, number, lambda, nilForm, consForm, sealed, other, form, Became, becomes, raises, nothing, onNumber, onLambda, onList, amiss, third, answer, contract1, onNumbers, contract2, toML, toScheme, contract, Frame, under, first, second, tested, intoML, intoScheme, plug, Context, here, within, fill, Outcome, value, raised, next, stuck, outcome, step}
+use Rattle.calculus.specs.Reduction.{replaced, substitute, Form, number, lambda, nilForm, consForm, sealed, other, form, Became, becomes}
+use Rattle.calculus.specs.Reduction.{raises, nothing, onNumber, onLambda, onList, amiss, third, answer, contract1, onNumbers, contract2, toML}
+use Rattle.calculus.specs.Reduction.{toScheme, contract, Frame, under, first, second, tested, intoML, intoScheme, plug, Context, here, within}
+use Rattle.calculus.specs.Reduction.{fill, Outcome, value, raised, next, stuck, outcome, step}
 use Rattle.calculus.proofs.Forms.{of-scheme, on-number, on-lambda, on-list, on-lump}
 use Rattle.calculus.proofs.Places.{step-by}
 

@@ -6,7 +6,8 @@ use native.Mathlib.Omega.{arith}
 use Rattle.calculus.specs.Trees.{Ty, Lang, ml, sc, Static, Op2, Term, op2, wrong, ms, sm}
 use Rattle.calculus.specs.Words.{size}
 use Rattle.calculus.specs.Typing.{Typed}
-use Rattle.calculus.specs.Rules.{Value, _⊢_⇒_, hole, in-first, in-second, in-ms, in-sm, around, _⟶_, by-rule, Steps, stay, then, Raises, by-wrong}
+use Rattle.calculus.specs.Rules.{Value, _⊢_⇒_, hole, in-first, in-second, in-ms, in-sm, around, _⟶_, by-rule, Steps, stay, then, Raises}
+use Rattle.calculus.specs.Rules.{by-wrong}
 use Rattle.calculus.specs.Run.{error, ended}
 use Rattle.calculus.specs.Endings.{Made, none, more, after, Ends, by-error}
 use Rattle.calculus.specs.Demands.{Reducible}

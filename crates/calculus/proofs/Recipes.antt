@@ -4,7 +4,8 @@ use Rattle.calculus.specs.Words.{put, putTy, size, sizeTy}
 use Rattle.calculus.specs.Kinds.{rowFor}
 use Rattle.calculus.specs.Reading.{walk, inOrder, read, readTree}
 use Rattle.calculus.specs.Inference.{infer}
-use Rattle.calculus.specs.Reduction.{substitute, form, onNumber, onLambda, onList, onLump, amiss, third, answer, contract1, contract2, onNumbers, toML, toScheme, contract, fill, turn, step}
+use Rattle.calculus.specs.Reduction.{substitute, form, onNumber, onLambda, onList, onLump, amiss, third, answer, contract1, contract2}
+use Rattle.calculus.specs.Reduction.{onNumbers, toML, toScheme, contract, fill, turn, step}
 use Rattle.calculus.specs.Run.{run}
 use Rattle.calculus.specs.File.{wordsOf, typed, checkWords, check, runIn, operate}
 use Rattle.calculus.specs.Recipes.{Starred, Refused}

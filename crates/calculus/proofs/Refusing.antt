@@ -15,7 +15,8 @@ use Rattle.calculus.specs.Verdicts.{found, Verdict, refused, passed, and
 use Rattle.calculus.specs.Reading.{Act, opens, refuses, later, acted, walk, noneLeft, nestedDue, levels, levelled, inOrder, readTree}
 use Rattle.calculus.specs.Scope.{isFree, inside, partCount, scopeDue}
 use Rattle.calculus.specs.Inference.{sameType, infer}
-use Rattle.calculus.specs.File.{wordsOf, isSize, isHeader, typeCount, typeWords, termWords, ordered, scoped, Recipe, withTree, typed, checkWords, check, runIn, operate}
+use Rattle.calculus.specs.File.{wordsOf, isSize, isHeader, typeCount, typeWords, termWords, ordered, scoped, Recipe, withTree, typed}
+use Rattle.calculus.specs.File.{checkWords, check, runIn, operate}
 use Rattle.calculus.specs.Words.{size}
 use Rattle.calculus.specs.Run.{Result, uncounted, run, capacity}
 use Rattle.calculus.proofs.Verdicts.{not-both}

@@ -8,14 +8,16 @@ use lib.Dec.{T, eqb}
 use lib.ListN.{length, replicate}
 use native.Mathlib.Omega.{arith}
 use Rattle.calculus.specs.Verdicts.{found, passed}
-use Rattle.calculus.specs.Trees.{Ty, N, L, list, _to_, Lang, ml, sc, isFun, isList, isNull, isNum, HD, TL, FIX, NULL?, TEST, APP, ADD, SUB, CONS, Term, var, num, lam, op1, op2, if0, nil, wrong, ms, sm}
+use Rattle.calculus.specs.Trees.{Ty, N, L, list, _to_, Lang, ml, sc, isFun, isList, isNull, isNum, HD, TL, FIX, NULL?, TEST, APP, ADD, SUB}
+use Rattle.calculus.specs.Trees.{CONS, Term, var, num, lam, op1, op2, if0, nil, wrong, ms, sm}
 use Rattle.calculus.specs.Words.{word, put, size}
 use Rattle.calculus.specs.Kinds.{Sort, type, term, Tree, Trees, putTree, putTrees, table, rowIn, sizeTree, sizeTrees}
 use Rattle.calculus.specs.Reading.{opens, refuses, later, acted, walk}
 use Rattle.calculus.specs.Scope.{lambdaAt, Scoped, isFree, inside, partCount, scopeDue}
 use Rattle.calculus.proofs.Verdicts.{not-both}
 use Rattle.calculus.proofs.Walks.{later-zero, later-later, later-passed}
-use Rattle.calculus.proofs.Views.{View, seen, view-type, view-ml, view-sc, view, kind-of, operand-of, sort-of, sized, Holds, OfParts, induction}
+use Rattle.calculus.proofs.Views.{View, seen, view-type, view-ml, view-sc, view, kind-of, operand-of, sort-of, sized, Holds, OfParts}
+use Rattle.calculus.proofs.Views.{induction}
 
 -- Scope, of a tree of any sort and of trees in a row.
 abbrev pub TreeScoped : List Lang → (s : Sort) → Tree s → Type 0

@@ -4,10 +4,14 @@ use mathlib.Core.Bool.{Bool, true, false, cond}
 use mathlib.Core.List.{[], _∷_}
 use mathlib.Core.Path.{_≡_, refl, _∙_}
 use lib.Dec.{eqb, leb}
-use Rattle.calculus.specs.Trees.{Ty, N, L, list, _to_, Lang, ml, sc, Static, numbers, lists, functions, Op1, HD, TL, FIX, NULL?, TEST, Op2, APP, ADD, SUB, CONS, Term, var, num, lam, op1, op2, if0, nil, wrong, ms, sm, cons, fix}
+use Rattle.calculus.specs.Trees.{Ty, N, L, list, _to_, Lang, ml, sc, Static, numbers, lists, functions, Op1, HD, TL, FIX, NULL?, TEST, Op2, APP}
+use Rattle.calculus.specs.Trees.{ADD, SUB, CONS, Term, var, num, lam, op1, op2, if0, nil, wrong, ms, sm, cons, fix}
 use Rattle.calculus.specs.Words.{largest}
 use Rattle.calculus.specs.Typing.{of, Rule1, Rule2, Typed}
-use Rattle.calculus.specs.Reduction.{isLump, isCons, Form, number, lambda, nilForm, consForm, sealed, other, form, Became, becomes, raises, nothing, onNumber, onLambda, onList, onLump, amiss, third, contract1, onNumbers, contract2, toML, toScheme, contract, Frame, under, first, second, tested, intoML, intoScheme, plug, Context, fill, Turn, done, at, into, own, turn, Outcome, value, raised, next, stuck, outcome, stepped, step}
+use Rattle.calculus.specs.Reduction.{isLump, isCons, Form, number, lambda, nilForm, consForm, sealed, other, form, Became, becomes, raises}
+use Rattle.calculus.specs.Reduction.{nothing, onNumber, onLambda, onList, onLump, amiss, third, contract1, onNumbers, contract2, toML, toScheme}
+use Rattle.calculus.specs.Reduction.{contract, Frame, under, first, second, tested, intoML, intoScheme, plug, Context, fill, Turn, done, at}
+use Rattle.calculus.specs.Reduction.{into, own, turn, Outcome, value, raised, next, stuck, outcome, stepped, step}
 use Rattle.calculus.proofs.Forms.{class, on-number, on-lambda, on-list, on-lump}
 use Rattle.calculus.proofs.Typing.{weaken, substitute-typed}
 

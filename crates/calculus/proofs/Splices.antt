@@ -1,10 +1,11 @@
 -- A step in words: the words before and after the place of the turn stay, and those of the node there become others. Assumes nothing.
 use Prim.Native.Nat.{ℕ}
-use mathlib.Core.List.{List, [], _∷_, _++_, append-assoc, append-nil}
+use mathlib.Core.List.{List, [], _++_, append-assoc, append-nil}
 use mathlib.Core.Path.{_≡_, refl, sym, ap, _∙_, subst}
 use Rattle.calculus.specs.Trees.{Lang, Term}
 use Rattle.calculus.specs.Words.{put, words}
-use Rattle.calculus.specs.Reduction.{Became, becomes, raises, nothing, contract, Frame, under, first, second, tested, intoML, intoScheme, plug, Context, here, within, fill, at, turn, Outcome, value, raised, next, stuck, outcome, step}
+use Rattle.calculus.specs.Reduction.{Became, becomes, raises, nothing, contract, Frame, under, first, second, tested, intoML, intoScheme, plug}
+use Rattle.calculus.specs.Reduction.{Context, here, within, fill, at, turn, Outcome, value, raised, next, stuck, outcome, step}
 use Rattle.calculus.specs.Splices.{before, after, wordsBefore, wordsAfter, Splice}
 use Rattle.calculus.proofs.Sizes.{putTy-append, put-append}
 use Rattle.calculus.proofs.Places.{step-by}

@@ -11,7 +11,8 @@ use native.Mathlib.Omega.{arith}
 use Rattle.calculus.specs.Trees.{Lang, ml, sc, Term, var, num, lam, op1, op2, if0, nil, wrong, ms, sm}
 use Rattle.calculus.specs.Words.{word, by, put}
 use Rattle.calculus.specs.Scope.{lambdaAt, Scoped}
-use Rattle.calculus.specs.Reduction.{replaced, substitute, Frame, under, first, second, tested, intoML, intoScheme, plug, Context, here, within, fill}
+use Rattle.calculus.specs.Reduction.{replaced, substitute, Frame, under, first, second, tested, intoML, intoScheme, plug, Context, here, within}
+use Rattle.calculus.specs.Reduction.{fill}
 use Rattle.calculus.specs.Substitution.{shift, forOwn, ordinary}
 
 -- A variable that has its lambda among Γ counts fewer than Γ has.

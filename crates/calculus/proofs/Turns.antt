@@ -5,7 +5,8 @@ use mathlib.Core.Logic.{_↔_}
 use mathlib.Core.Path.{_≡_, refl, ap, subst}
 use lib.Dec.{T}
 use Rattle.calculus.specs.Trees.{Lang, Term, var, num, lam, op1, op2, if0, nil, wrong, ms, sm}
-use Rattle.calculus.specs.Reduction.{isLump, isCons, isValue, Frame, under, first, second, tested, intoML, intoScheme, plug, Context, here, within, fill, Turn, done, at, into, own, turn}
+use Rattle.calculus.specs.Reduction.{isLump, isCons, isValue, Frame, under, first, second, tested, intoML, intoScheme, plug, Context, here}
+use Rattle.calculus.specs.Reduction.{within, fill, Turn, done, at, into, own, turn}
 use Rattle.calculus.specs.Rules.{Value, lamV, numV, nilV}
 use Rattle.calculus.specs.Evaluation.{Taken, Evaluated, Ready}
 use Rattle.calculus.proofs.Values.{cons-value, lump-value, value-iff, value-turn}

@@ -4,7 +4,8 @@ use mathlib.Core.Logic.{_↔_}
 use mathlib.Core.Path.{_≡_, refl}
 use lib.Dec.{T}
 use mir.Facts.{and-yes}
-use Rattle.calculus.specs.Trees.{Ty, N, L, list, _to_, Lang, ml, sc, Op2, APP, ADD, SUB, CONS, Term, var, num, lam, op1, op2, if0, nil, wrong, ms, sm}
+use Rattle.calculus.specs.Trees.{Ty, N, L, list, _to_, Lang, ml, sc, Op2, APP, ADD, SUB, CONS, Term, var, num, lam, op1, op2, if0, nil, wrong}
+use Rattle.calculus.specs.Trees.{ms, sm}
 use Rattle.calculus.specs.Reduction.{isLump, isCons, isValue, done, turn}
 use Rattle.calculus.specs.Rules.{Value, lamV, numV, nilV, consV, lumpV}
 

@@ -7,7 +7,8 @@ use mathlib.Core.Path.{_≡_, refl, sym, ap, _∙_}
 use lib.Dec.{T, ltb, ltb→lt}
 use lib.ListN.{length}
 use native.Mathlib.Omega.{arith}
-use Rattle.calculus.specs.Trees.{Ty, N, L, list, _to_, ml, sc, isFun, isList, isNull, isNum, HD, TL, FIX, NULL?, TEST, APP, ADD, SUB, CONS, Term, var, num, lam, op1, op2, if0, nil, wrong, ms, sm}
+use Rattle.calculus.specs.Trees.{Ty, N, L, list, _to_, ml, sc, isFun, isList, isNull, isNum, HD, TL, FIX, NULL?, TEST, APP, ADD, SUB, CONS}
+use Rattle.calculus.specs.Trees.{Term, var, num, lam, op1, op2, if0, nil, wrong, ms, sm}
 use Rattle.calculus.specs.Words.{word, put, putTy}
 use Rattle.calculus.specs.Limits.{InRange}
 use Rattle.calculus.specs.Kinds.{Sort, type, term, Tree, Trees, putTree, putTrees, Row, table, rowIn, sortOfKind, sortOf, sizeTree, sizeTrees}

@@ -4,7 +4,8 @@ use mathlib.Core.Bool.{cond, _&&_}
 use mathlib.Core.List.{List, [], _∷_}
 use mathlib.Core.Option.{Option, none, some}
 use lib.Dec.{eqb, leb}
-use Rattle.calculus.specs.Trees.{Ty, N, L, list, _to_, Lang, ml, sc, Test, isFun, isList, isNull, isNum, Term, var, num, lam, if0, nil, wrong, ms, sm, app, add, sub, cons, hd, tl, fix, null?, test}
+use Rattle.calculus.specs.Trees.{Ty, N, L, list, _to_, Lang, ml, sc, Test, isFun, isList, isNull, isNum, Term, var, num, lam, if0, nil, wrong}
+use Rattle.calculus.specs.Trees.{ms, sm, app, add, sub, cons, hd, tl, fix, null?, test}
 use Rattle.calculus.specs.Words.{largest, lastCode, put, putTy, size, sizeTy}
 use Rattle.calculus.specs.Verdicts.{found}
 

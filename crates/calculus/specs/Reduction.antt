@@ -2,7 +2,9 @@
 use Prim.Native.Nat.{ℕ, suc, _+_, _-_}
 use mathlib.Core.Bool.{Bool, true, false, cond, _&&_}
 use lib.Dec.{eqb, leb}
-use Rattle.calculus.specs.Trees.{Ty, N, L, list, _to_, Lang, ml, sc, Static, numbers, lists, Test, isFun, isList, isNull, isNum, Op1, HD, TL, FIX, NULL?, TEST, Op2, APP, ADD, SUB, CONS, Term, var, num, lam, op1, op2, if0, nil, wrong, ms, sm, app, cons, fix}
+use Rattle.calculus.specs.Trees.{Ty, N, L, list, _to_, Lang, ml, sc, Static, numbers, lists, Test, isFun, isList, isNull, isNum, Op1, HD, TL}
+use Rattle.calculus.specs.Trees.{FIX, NULL?, TEST, Op2, APP, ADD, SUB, CONS, Term, var, num, lam, op1, op2, if0, nil, wrong, ms, sm, app, cons}
+use Rattle.calculus.specs.Trees.{fix}
 use Rattle.calculus.specs.Words.{largest}
 
 -- "the body with that value for the variable": k lambdas have been passed on the way in. What is put there is closed, so that no other

@@ -8,7 +8,8 @@
 use Prim.Native.Nat.{ℕ, suc, _+_, _-_, _≤_, _<_}
 use mathlib.Core.Path.{_≡_}
 use mathlib.Core.Logic.{_⊎_}
-use Rattle.calculus.specs.Trees.{Ty, N, L, list, _to_, Lang, ml, sc, Static, numbers, lists, isFun, isList, isNull, isNum, Op1, Op2, Term, var, num, lam, op1, op2, if0, nil, wrong, ms, sm, app, add, sub, cons, hd, tl, fix, null?, test}
+use Rattle.calculus.specs.Trees.{Ty, N, L, list, _to_, Lang, ml, sc, Static, numbers, lists, isFun, isList, isNull, isNum, Op1, Op2, Term, var}
+use Rattle.calculus.specs.Trees.{num, lam, op1, op2, if0, nil, wrong, ms, sm, app, add, sub, cons, hd, tl, fix, null?, test}
 use Rattle.calculus.specs.Words.{largest}
 use Rattle.calculus.specs.Substitution.{shift, ordinary}
 

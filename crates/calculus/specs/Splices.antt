@@ -4,7 +4,8 @@ use mathlib.Core.List.{List, [], _∷_, _++_}
 use mathlib.Core.Path.{_≡_}
 use Rattle.calculus.specs.Trees.{Lang, Term}
 use Rattle.calculus.specs.Words.{by, word1, word2, put, wordsTy, words}
-use Rattle.calculus.specs.Reduction.{becomes, contract, Frame, under, first, second, tested, intoML, intoScheme, Context, here, within, at, turn}
+use Rattle.calculus.specs.Reduction.{becomes, contract, Frame, under, first, second, tested, intoML, intoScheme, Context, here, within, at}
+use Rattle.calculus.specs.Reduction.{turn}
 
 -- The words of a node before and after its open part, and those of a term before and after a place.
 abbrev pub before : {m l : Lang} → Frame m l → List ℕ

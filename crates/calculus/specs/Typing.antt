@@ -2,7 +2,8 @@
 use Prim.Native.Nat.{ℕ, zero, suc}
 use mathlib.Core.List.{List, [], _∷_}
 use mathlib.Core.Path.{_≡_}
-use Rattle.calculus.specs.Trees.{Ty, N, list, _to_, Lang, Static, numbers, lists, functions, Op1, HD, TL, FIX, NULL?, TEST, Op2, APP, ADD, SUB, CONS, Term, var, num, lam, op1, op2, if0, nil, wrong, ms, sm}
+use Rattle.calculus.specs.Trees.{Ty, N, list, _to_, Lang, Static, numbers, lists, functions, Op1, HD, TL, FIX, NULL?, TEST, Op2, APP, ADD, SUB}
+use Rattle.calculus.specs.Trees.{CONS, Term, var, num, lam, op1, op2, if0, nil, wrong, ms, sm}
 
 -- The lambdas around a place, innermost first: of which language, and the type written at it.
 pub data Entry : Type 0 where

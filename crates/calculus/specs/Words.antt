@@ -1,7 +1,8 @@
 -- Document 01, "Words and file": the words of a tree, in prefix order.
 use Prim.Native.Nat.{ℕ, suc, _+_, _*_}
 use mathlib.Core.List.{List, [], _∷_}
-use Rattle.calculus.specs.Trees.{Ty, N, L, list, _to_, Lang, ml, sc, Static, Test, isFun, isList, isNull, isNum, Op1, HD, TL, FIX, NULL?, TEST, Op2, APP, ADD, SUB, CONS, Term, var, num, lam, op1, op2, if0, nil, wrong, ms, sm}
+use Rattle.calculus.specs.Trees.{Ty, N, L, list, _to_, Lang, ml, sc, Static, Test, isFun, isList, isNull, isNum, Op1, HD, TL, FIX, NULL?, TEST}
+use Rattle.calculus.specs.Trees.{Op2, APP, ADD, SUB, CONS, Term, var, num, lam, op1, op2, if0, nil, wrong, ms, sm}
 
 -- "A word is 32 bits: kind + 256 × operand".
 abbrev pub word : ℕ → ℕ → ℕ
