@@ -13,22 +13,22 @@ use Rattle.calculus.specs.Evaluation.{Evaluated}
 use Rattle.calculus.proofs.Values.{value-turn}
 use Rattle.calculus.proofs.Contraction.{Ruled, contract-ruled, rule-iff}
 use Rattle.calculus.proofs.Substitution.{fill-closed}
-use Rattle.calculus.proofs.Contexts.{placed, placed-evaluated, placed-fill, rule-at, wrong-at}
+use Rattle.calculus.proofs.Contexts.{placed, rule-at, wrong-at}
 use Rattle.calculus.proofs.Turns.{Found, turn-found, turn-filled}
 
 -- Published, so computed.
 rule-step : {l : Lang} {e r : Term l} → Scoped [] e → e ⟶ r → step e ≡ next r
 unfolding step
 rule-step s (by-rule {e = e} {r = r} E h) =
-    let F = placed E in
-    let made = rule-iff e r (fill-closed F e (subst (Scoped []) (sym (placed-fill E e)) s)) .1 h in
-    ap step (sym (placed-fill E e)) ∙ ap stepped (turn-filled F e (placed-evaluated E) (made .0)) ∙ ap (outcome F) (made .1)
-    ∙ ap next (placed-fill E r)
+    let p = placed E in
+    let F = p .place in
+    let made = rule-iff e r (fill-closed F e (rw (p .fills e) s)) .1 h in
+    ap step (sym (p .fills e)) ∙ ap stepped (turn-filled F e (p .evaluated) (made .0)) ∙ ap (outcome F) (made .1) ∙ ap next (p .fills r)
 
 wrong-step : {l : Lang} {c : ℕ} {e : Term l} → Raises c e → step e ≡ raised c
 unfolding step contract
 wrong-step (by-wrong {c = c} E t) =
-    ap step (sym (placed-fill E (wrong c t))) ∙ ap stepped (turn-filled (placed E) (wrong c t) (placed-evaluated E) tt)
+    let p = placed E in ap step (sym (p .fills (wrong c t))) ∙ ap stepped (turn-filled (p .place) (wrong c t) (p .evaluated) tt)
 
 value-step : {l : Lang} {e : Term l} → Value l e → step e ≡ value
 unfolding step

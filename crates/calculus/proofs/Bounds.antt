@@ -8,7 +8,7 @@ use lib.Dec.{eqb, leb}
 use lib.ListN.{length}
 use native.Mathlib.Nat.{add-mul, mul-le-mul, mul-le-mul-left, mul-le-mul-right}
 use native.Mathlib.Omega.{arith}
-use Rattle.calculus.specs.Trees.{Ty, N, L, list, _to_, Lang, ml, sc, Static, lists, numbers, Term, var, num, lam, op1, op2, if0, nil, wrong, ms}
+use Rattle.calculus.specs.Trees.{Ty, Lang, ml, sc, Static, lists, numbers, Term, var, num, lam, op1, op2, if0, nil, wrong, ms}
 use Rattle.calculus.specs.Trees.{sm, app, fix}
 use Rattle.calculus.specs.Words.{sizeTy, sizeStatic, size}
 use Rattle.calculus.specs.Typing.{Typed}
@@ -19,11 +19,12 @@ use Rattle.calculus.specs.Rules.{null-cons, fun?-lambda, fun?-other, lis
 use Rattle.calculus.specs.Rules.{num?-other, ms-number, ms-no-number, ms-nil, ms-cons, ms-no-list, ms-lambda, ms-no-lambda, sm-number, sm-lump}
 use Rattle.calculus.specs.Rules.{sm-nil, sm-cons, sm-lambda, Around, hole, in-unary, in-first, in-second, in-test, in-ms, in-sm, around, _⟶_}
 use Rattle.calculus.specs.Rules.{by-rule}
-use Rattle.calculus.specs.Kinds.{term}
+use Rattle.calculus.specs.Kinds.{type, term}
 use Rattle.calculus.specs.Verdicts.{passed}
 use Rattle.calculus.specs.Run.{Counts, uncounted, Result, capacity}
 use Rattle.calculus.specs.File.{operate}
 use Rattle.calculus.proofs.Sizes.{tree-length}
+use Rattle.calculus.proofs.Views.{view, sized}
 use Rattle.calculus.proofs.Typing.{typed-scoped}
 use Rattle.calculus.proofs.Soundness.{sound}
 use Rattle.calculus.proofs.Agreement.{next-iff}
@@ -31,29 +32,12 @@ use Rattle.calculus.proofs.Runs.{Ran, at-value, at-limit, at-error, at-
 use Rattle.calculus.proofs.Checks.{operate-iff}
 
 sizeTy-some : (t : Ty) → 1 ≤ sizeTy t
-unfolding sizeTy
-sizeTy-some N = omega arith
-sizeTy-some L = omega arith
-sizeTy-some (list t) = omega arith
-sizeTy-some (t to u) = omega arith
+sizeTy-some t = omega (arith, sized (view type t))
 
-size-some : {l : Lang} (e : Term l) → 1 ≤ size e
-unfolding size
-size-some (var i) = omega arith
-size-some (num n) = omega arith
-size-some (lam t b) = omega arith
-size-some (op1 o a) = omega arith
-size-some (op2 o a b) = omega arith
-size-some (if0 a b c) = omega arith
-size-some (nil t) = omega arith
-size-some (wrong c t) = omega arith
-size-some (ms t a) = omega arith
-size-some (sm t a) = omega arith
+pub size-some : {l : Lang} (e : Term l) → 1 ≤ size e
+size-some {l} e = omega (arith, sized (view (term l) e))
 
 -- A word and parts, each s times.
-spread-0 : (s : ℕ) → 1 * s ≡ s
-spread-0 s = omega arith
-
 spread-1 : (a s : ℕ) → suc a * s ≡ s + a * s
 spread-1 a s = let i : suc a ≡ 1 + a = omega arith in ap (λ (x : ℕ). x * s) i ∙ add-mul 1 a s ∙ omega arith
 
@@ -134,77 +118,62 @@ rule-growth (app-lambda {l} {t} {b} {u} v) =
     let i : size b ≤ size (app (lam t b) u) = omega arith in
     let j : size u ≤ size (app (lam t b) u) = omega arith in
     inl (omega (arith, size-ordinary u 0 b, mul-le-mul i j))
-rule-growth (app-no-lambda {f} {u} v w n) = inr (omega (arith, size-some f, size-some u), omega (arith, size-some f, size-some u))
+rule-growth (app-no-lambda {f} {u} v w n) = inr (omega (arith, size-some f, size-some u))
 rule-growth (fix-lambda {t} {b}) =
     let i : size b ≤ size (fix (lam t b)) = omega arith in
     let j : size (fix (lam t b)) ≤ size (fix (lam t b)) = omega arith in
     inl (omega (arith, size-ordinary (fix (lam t b)) 0 b, mul-le-mul i j))
-rule-growth (add-numbers h) = inr (omega arith, omega arith)
-rule-growth (add-over {l} h) = inr (omega (arith, numbers-size l), omega (arith, numbers-size l))
-rule-growth (add-no-number {v} {w} a b n) = inr (omega (arith, size-some v, size-some w), omega (arith, size-some v, size-some w))
-rule-growth sub-numbers = inr (omega arith, omega arith)
-rule-growth (sub-no-number {v} {w} a b n) = inr (omega (arith, size-some v, size-some w), omega (arith, size-some v, size-some w))
-rule-growth (if0-zero {a = a} {b}) = inr (omega (arith, size-some a, size-some b), omega (arith, size-some a, size-some b))
-rule-growth (if0-other {a = a} {b} n) = inr (omega (arith, size-some a, size-some b), omega (arith, size-some a, size-some b))
-rule-growth (if0-no-number {v} {a} {b} x n) =
-    inr (omega (arith, size-some v, size-some a, size-some b), omega (arith, size-some v, size-some a, size-some b))
-rule-growth (hd-cons {v = v} {w} a b) = inr (omega (arith, size-some v, size-some w), omega (arith, size-some v, size-some w))
-rule-growth hd-nil = inr (omega arith, omega arith)
-rule-growth (hd-no-list {v} a n m) = inr (omega (arith, size-some v), omega (arith, size-some v))
-rule-growth (tl-cons {v = v} {w} a b) = inr (omega (arith, size-some v, size-some w), omega (arith, size-some v, size-some w))
-rule-growth (tl-nil {l} {t}) = inr (omega (arith, lists-size l t), omega (arith, lists-size l t))
-rule-growth (tl-no-list {v} a n m) = inr (omega (arith, size-some v), omega (arith, size-some v))
-rule-growth null-nil = inr (omega arith, omega arith)
-rule-growth (null-cons {v} {w} a b) = inr (omega (arith, size-some v, size-some w), omega (arith, size-some v, size-some w))
-rule-growth (fun?-lambda {b}) = inr (omega (arith, size-some b), omega (arith, size-some b))
-rule-growth (fun?-other {v} a n) = inr (omega (arith, size-some v), omega (arith, size-some v))
-rule-growth list?-nil = inr (omega arith, omega arith)
-rule-growth (list?-cons {v} {w} a b) = inr (omega (arith, size-some v, size-some w), omega (arith, size-some v, size-some w))
-rule-growth (list?-other {v} a n m) = inr (omega (arith, size-some v), omega (arith, size-some v))
-rule-growth null?-nil = inr (omega arith, omega arith)
-rule-growth (null?-other {v} a n) = inr (omega (arith, size-some v), omega (arith, size-some v))
-rule-growth num?-number = inr (omega arith, omega arith)
-rule-growth (num?-other {v} a n) = inr (omega (arith, size-some v), omega (arith, size-some v))
-rule-growth ms-number = inr (omega arith, omega arith)
-rule-growth (ms-no-number {v} a n) = inr (omega (arith, size-some v), omega (arith, size-some v))
-rule-growth (ms-nil {t}) = inr (omega (arith, sizeTy-some t), omega (arith, sizeTy-some t))
-rule-growth (ms-cons {t} {v} {w} a b) = inr (omega (arith, size-some v, size-some w), omega (arith, size-some v, size-some w))
-rule-growth (ms-no-list {t} {v} a n m) = inr (omega (arith, size-some v), omega (arith, size-some v))
-rule-growth (ms-lambda {t} {u} {b}) =
-    let i = size-shift 1 0 (lam {l = sc} tt b) in
-    inr (omega (arith, size-some b, sizeTy-some t, sizeTy-some u), omega (arith, i, size-some b, sizeTy-some t, sizeTy-some u))
-rule-growth (ms-no-lambda {t} {u} {v} a n) = inr (omega (arith, size-some v), omega (arith, size-some v))
-rule-growth sm-number = inr (omega arith, omega arith)
-rule-growth (sm-lump {v} a) = inr (omega (arith, size-some v), omega (arith, size-some v))
-rule-growth sm-nil = inr (omega arith, omega arith)
-rule-growth (sm-cons {t} {v} {w} a b) = inr (omega (arith, size-some v, size-some w), omega (arith, size-some v, size-some w))
-rule-growth (sm-lambda {t} {u} {r} {b}) =
-    let i = size-shift 1 0 (lam r b) in
-    inr (omega (arith, size-some b, sizeTy-some t, sizeTy-some u), omega (arith, i, size-some b, sizeTy-some t, sizeTy-some u))
+rule-growth (add-numbers h) = inr (omega arith)
+rule-growth (add-over {l} h) = inr (omega (arith, numbers-size l))
+rule-growth (add-no-number {v} {w} a b n) = inr (omega (arith, size-some v, size-some w))
+rule-growth sub-numbers = inr (omega arith)
+rule-growth (sub-no-number {v} {w} a b n) = inr (omega (arith, size-some v, size-some w))
+rule-growth (if0-zero {a = a} {b}) = inr (omega (arith, size-some a, size-some b))
+rule-growth (if0-other {a = a} {b} n) = inr (omega (arith, size-some a, size-some b))
+rule-growth (if0-no-number {v} {a} {b} x n) = inr (omega (arith, size-some v, size-some a, size-some b))
+rule-growth (hd-cons {v = v} {w} a b) = inr (omega (arith, size-some v, size-some w))
+rule-growth hd-nil = inr (omega arith)
+rule-growth (hd-no-list {v} a n m) = inr (omega (arith, size-some v))
+rule-growth (tl-cons {v = v} {w} a b) = inr (omega (arith, size-some v, size-some w))
+rule-growth (tl-nil {l} {t}) = inr (omega (arith, lists-size l t))
+rule-growth (tl-no-list {v} a n m) = inr (omega (arith, size-some v))
+rule-growth null-nil = inr (omega arith)
+rule-growth (null-cons {v} {w} a b) = inr (omega (arith, size-some v, size-some w))
+rule-growth (fun?-lambda {b}) = inr (omega (arith, size-some b))
+rule-growth (fun?-other {v} a n) = inr (omega (arith, size-some v))
+rule-growth list?-nil = inr (omega arith)
+rule-growth (list?-cons {v} {w} a b) = inr (omega (arith, size-some v, size-some w))
+rule-growth (list?-other {v} a n m) = inr (omega (arith, size-some v))
+rule-growth null?-nil = inr (omega arith)
+rule-growth (null?-other {v} a n) = inr (omega (arith, size-some v))
+rule-growth num?-number = inr (omega arith)
+rule-growth (num?-other {v} a n) = inr (omega (arith, size-some v))
+rule-growth ms-number = inr (omega arith)
+rule-growth (ms-no-number {v} a n) = inr (omega (arith, size-some v))
+rule-growth (ms-nil {t}) = inr (omega (arith, sizeTy-some t))
+rule-growth (ms-cons {t} {v} {w} a b) = inr (omega (arith, size-some v, size-some w))
+rule-growth (ms-no-list {t} {v} a n m) = inr (omega (arith, size-some v))
+rule-growth (ms-lambda {t} {u} {b}) = inr (omega (arith, size-shift 1 0 (lam {l = sc} tt b), size-some b, sizeTy-some t, sizeTy-some u))
+rule-growth (ms-no-lambda {t} {u} {v} a n) = inr (omega (arith, size-some v))
+rule-growth sm-number = inr (omega arith)
+rule-growth (sm-lump {v} a) = inr (omega (arith, size-some v))
+rule-growth sm-nil = inr (omega arith)
+rule-growth (sm-cons {t} {v} {w} a b) = inr (omega (arith, size-some v, size-some w))
+rule-growth (sm-lambda {t} {u} {r} {b}) = inr (omega (arith, size-shift 1 0 (lam r b), size-some b, sizeTy-some t, sizeTy-some u))
 
 rule-size : {l : Lang} {e r : Term l} → l ⊢ e ⇒ r → size r ≤ size e * size e
 rule-size {e = e} {r = r} h = ⊎-elim (λ i. i) (λ i. twice (size e) (size r) (i .0) (i .1)) (rule-growth h)
 
--- Around a node stands what stood there.
-around-size : {m l : Lang} (E : Around m l) (a b : Term m) → size (around E b) + size a ≡ size (around E a) + size b
+-- Around a node stand as many words whatever the node is.
+around-size : {m l : Lang} (E : Around m l) → (k : ℕ) × ((e : Term m) → size (around E e) ≡ k + size e)
 unfolding around size
-around-size hole a b = omega arith
-around-size (in-unary o E) a b = omega (arith, around-size E a b)
-around-size (in-first o E c) a b = omega (arith, around-size E a b)
-around-size (in-second o v h E) a b = omega (arith, around-size E a b)
-around-size (in-test E c d) a b = omega (arith, around-size E a b)
-around-size (in-ms t E) a b = omega (arith, around-size E a b)
-around-size (in-sm t E) a b = omega (arith, around-size E a b)
-
-around-least : {m l : Lang} (E : Around m l) (a : Term m) → size a ≤ size (around E a)
-unfolding around size
-around-least hole a = omega arith
-around-least (in-unary o E) a = omega (arith, around-least E a)
-around-least (in-first o E c) a = omega (arith, around-least E a)
-around-least (in-second o v h E) a = omega (arith, around-least E a)
-around-least (in-test E c d) a = omega (arith, around-least E a)
-around-least (in-ms t E) a = omega (arith, around-least E a)
-around-least (in-sm t E) a = omega (arith, around-least E a)
+around-size hole = (0, λ e. omega arith)
+around-size (in-unary o E) = let x = around-size E in (suc (x .0), λ e. omega (arith, x .1 e))
+around-size (in-first o E b) = let x = around-size E in (suc (x .0 + size b), λ e. omega (arith, x .1 e))
+around-size (in-second o v h E) = let x = around-size E in (suc (size v + x .0), λ e. omega (arith, x .1 e))
+around-size (in-test E b c) = let x = around-size E in (suc (x .0 + size b + size c), λ e. omega (arith, x .1 e))
+around-size (in-ms t E) = let x = around-size E in (suc (sizeTy t + x .0), λ e. omega (arith, x .1 e))
+around-size (in-sm t E) = let x = around-size E in (suc (sizeTy t + x .0), λ e. omega (arith, x .1 e))
 
 squares : (c m : ℕ) → 1 ≤ m → c + m * m ≤ (c + m) * (c + m)
 squares c m h =
@@ -215,9 +184,8 @@ squares c m h =
 -- The next term has at most as many words as the term's words squared.
 pub next-size : {l : Lang} {e r : Term l} → e ⟶ r → size r ≤ size e * size e
 next-size (by-rule {e = e} {r = r} E h) =
-    let c = size (around E e) - size e in
-    let q : c + size e ≡ size (around E e) = omega (arith, around-least E e) in
-    rw (← q) (omega (arith, around-size E e r, rule-size h, squares c (size e) (size-some e), around-least E e))
+    let x = around-size E in
+    rw (x .1 e) (omega (arith, x .1 r, rule-size h, squares (x .0) (size e) (size-some e)))
 
 -- Of a term that fits the largest capacity: 2^28 words at most.
 pub next-bounded : {l : Lang} {e r : Term l} → e ⟶ r → size e ≤ 16384 → size r ≤ 268435456

@@ -19,7 +19,6 @@ pub mod Forms
 pub mod Substitution
 pub mod Contraction
 pub mod Turns
-pub mod Places
 pub mod Contexts
 pub mod Agreement
 pub mod Derivations

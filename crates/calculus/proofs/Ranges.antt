@@ -14,7 +14,7 @@ use Rattle.calculus.specs.Reduction.{raises, nothing, onNumber, onLambda
 use Rattle.calculus.specs.Reduction.{toScheme, contract, Frame, under, first, second, tested, intoML, intoScheme, plug, Context, here, within}
 use Rattle.calculus.specs.Reduction.{fill, Outcome, value, raised, next, stuck, outcome, step}
 use Rattle.calculus.proofs.Forms.{of-scheme, on-number, on-lambda, on-list, on-lump}
-use Rattle.calculus.proofs.Places.{step-by}
+use Rattle.calculus.proofs.Turns.{step-by}
 
 cond-in-range : {l : Lang} (b : Bool) (x y : Term l) → (b ≡ true → InRange x) → InRange y → InRange (cond b x y)
 cond-in-range true x y h k = h refl

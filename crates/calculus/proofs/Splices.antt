@@ -8,7 +8,7 @@ use Rattle.calculus.specs.Reduction.{Became, becomes, raises, nothing, c
 use Rattle.calculus.specs.Reduction.{Context, here, within, fill, at, turn, Outcome, value, raised, next, stuck, outcome, step}
 use Rattle.calculus.specs.Splices.{before, after, wordsBefore, wordsAfter, Splice}
 use Rattle.calculus.proofs.Sizes.{putTy-append, put-append}
-use Rattle.calculus.proofs.Places.{step-by}
+use Rattle.calculus.proofs.Turns.{step-by}
 
 put-plug : {m l : Lang} (f : Frame m l) (x : Term m) (k : List ℕ) → put (plug f x) k ≡ before f ++ put x (after f ++ k)
 unfolding put

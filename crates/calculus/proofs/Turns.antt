@@ -1,12 +1,12 @@
 -- Whose turn it is: `turn` finds, in any term that is no value, the one node in an evaluation context that is ready for a rule.
--- Assumes nothing.
+-- So a step is a node replaced at its place. Assumes nothing.
 use mathlib.Core.Bool.{Bool, true, false}
 use mathlib.Core.Logic.{_↔_}
 use mathlib.Core.Path.{_≡_, refl, ap, subst}
 use lib.Dec.{T}
 use Rattle.calculus.specs.Trees.{Lang, Term, var, num, lam, op1, op2, if0, nil, wrong, ms, sm}
 use Rattle.calculus.specs.Reduction.{isLump, isCons, isValue, Frame, under, first, second, tested, intoML, intoScheme, plug, Context, here}
-use Rattle.calculus.specs.Reduction.{within, fill, Turn, done, at, into, own, turn}
+use Rattle.calculus.specs.Reduction.{within, fill, contract, Turn, done, at, into, own, turn, Outcome, value, outcome, stepped, step}
 use Rattle.calculus.specs.Rules.{Value, lamV, numV, nilV}
 use Rattle.calculus.specs.Evaluation.{Taken, Evaluated, Ready}
 use Rattle.calculus.proofs.Values.{cons-value, lump-value, value-iff, value-turn}
@@ -48,6 +48,17 @@ turn-found (ms t a) =
     into-found (intoML t) a (turn a) (own (isLump t) (ms t a)) tt (turn-found a) λ v.
     own-found (ms t a) (isLump t) (λ h. lump-value t h v) (λ q. (q, v))
 turn-found (sm t a) = into-found (intoScheme t) a (turn a) (own false (sm t a)) tt (turn-found a) (ready-found (sm t a))
+
+module _ {l : Lang} (P : Outcome l → Type 0) (e : Term l) (v : P value)
+    (p : (m : Lang) (F : Context m l) (n : Term m) → turn e ≡ at m F n → fill F n ≡ e → P (outcome F (contract n))) where
+  by-turn : (o : Turn l) → turn e ≡ o → Found e o → P (stepped o)
+  by-turn done q h = v
+  by-turn (at m F n) q h = p m F n q (h .0)
+
+  -- A step by its turn: none, or that of the node n, which stands at the place F.
+  pub step-by : P (step e)
+  unfolding step
+  step-by = by-turn (turn e) refl (turn-found e)
 
 -- It is no node's turn in values alone.
 pub turn-done : {l : Lang} (e : Term l) → (turn e ≡ done) ↔ T (isValue e)
