@@ -1,6 +1,6 @@
 -- Document 01, "A refusal carries its number and a place": the place is in the file, or one past its last word, and the check's number is one of
 -- 1 to 7. Assumes nothing.
-use Prim.Native.Nat.{ℕ, _+_, _-_, _≤_}
+use Prim.Native.Nat.{ℕ, suc, _+_, _-_, _≤_}
 use mathlib.Core.Bool.{Bool, true, false, cond}
 use mathlib.Core.List.{List, [], _∷_, _++_}
 use mathlib.Core.Option.{Option, none, some}
@@ -15,8 +15,8 @@ use Rattle.calculus.specs.Verdicts.{found, Verdict, refused, passed, and
 use Rattle.calculus.specs.Reading.{Act, opens, refuses, later, acted, walk, noneLeft, nestedDue, levels, levelled, inOrder, readTree}
 use Rattle.calculus.specs.Scope.{isFree, inside, partCount, scopeDue}
 use Rattle.calculus.specs.Inference.{sameType, infer}
-use Rattle.calculus.specs.File.{wordsOf, isSize, isHeader, typeCount, typeWords, termWords, ordered, scoped, Recipe, withTree, typed}
-use Rattle.calculus.specs.File.{checkWords, check, runIn, operate}
+use Rattle.calculus.specs.File.{wordsOf, isSize, isHeader, typeCount, typeWords, termWords, Recipe, typed}
+use Rattle.calculus.specs.File.{judged, checkWords, check, runIn, operate}
 use Rattle.calculus.specs.Words.{size}
 use Rattle.calculus.specs.Run.{Result, uncounted, run, capacity}
 use Rattle.calculus.proofs.Verdicts.{not-both}
@@ -28,170 +28,126 @@ abbrev pub Within : {A : Type 0} → ℕ → Verdict A → Type 0
 Within b (refused n p) = p ≤ b
 Within b (passed a) = Unit {0}
 
-within-then : {A B : Type 0} (b : ℕ) (v : Verdict A) (k : A → Verdict B) → Within b v → ((a : A) → Within b (k a)) → Within b (andThen v k)
-within-then b (refused n p) k h f = h
-within-then b (passed a) k h f = f a
-
-within-unless : {A : Type 0} (b : ℕ) (t : Bool) (n p : ℕ) (v : Verdict A) → p ≤ b → (t ≡ true → Within b v) → Within b (unless t n p v)
-within-unless b true n p v h f = f refl
-within-unless b false n p v h f = h
-
-within-or : {A : Type 0} (b : ℕ) (o : Option A) (n p : ℕ) → p ≤ b → Within b (orRefuse o n p)
-within-or b none n p h = h
-within-or b (some a) n p h = tt
-
-within-later : (b a : ℕ) (v : Verdict ℕ) → a + reach v ≤ b → Within b (later a v)
-within-later b a (refused n p) h = h
-within-later b a (passed m) h = tt
-
-reach-order : (s : Sort) (ws : List ℕ) → reach (inOrder s ws) ≤ length ws
-unfolding inOrder
-reach-order s ws = by (walk nestedDue ws ((s, levels) ∷ [])) (walk-reach nestedDue ws ((s, levels) ∷ []))
-  where
-    chosen : (t : Bool) (m : ℕ) → m ≤ length ws → reach (cond t (passed m) (refused 3 m)) ≤ length ws
-    chosen true m h = h
-    chosen false m h = h
-
-    by : (v : Verdict ℕ) → reach v ≤ length ws → reach (noneLeft (length ws) v) ≤ length ws
-    by (refused r p) h = h
-    by (passed m) h = chosen (eqb m (length ws)) m h
-
-judged-within : (b : ℕ) (τ : Ty) (e : Term ml) → Within b (typed τ e)
-unfolding typed
-judged-within b τ e =
-    within-then b (orRefuse (infer [] e) 6 0) _ (within-or b (infer [] e) 6 0 (omega arith))
-    (λ t. within-unless b (sameType ml t τ) 7 0 (passed (τ, e)) (omega arith) (λ q. tt))
-
--- The declared type ends where the term starts, and the term where the file ends.
-module _ (ws : List ℕ) (b : 4 + typeCount ws ≤ length ws) where
-  abbrev start : ℕ
-  start = 4 + typeCount ws
-
-  abbrev trees : Verdict Recipe
-  trees = withTree type (typeWords ws) 4 (λ τ. withTree (term ml) (termWords ws) start (λ e. typed τ e))
-
-  trees-within : Within (length ws) trees
-  trees-within =
-      within-then (length ws) (orRefuse (readTree type (typeWords ws)) 3 4) _ (within-or (length ws) (readTree type (typeWords ws)) 3 4 (omega (arith, b)))
-      (λ τ. within-then (length ws) (orRefuse (readTree (term ml) (termWords ws)) 3 start) _ (within-or (length ws) (readTree (term ml) (termWords ws)) 3 start b) (λ e. judged-within (length ws) τ e))
-
-  terms-end : start + length (termWords ws) ≡ length ws
-  terms-end = omega (arith, length-drop start ws, b)
-
-  types-end : 4 + length (typeWords ws) ≤ length ws
-  types-end = omega (arith, b, length-drop 4 ws, length-take-le (typeCount ws) (drop 4 ws) (omega (arith, b, length-drop 4 ws)))
-
-  behind-header : Within (length ws)
-      (ordered type (typeWords ws) 4 (ordered (term ml) (termWords ws) start (scoped (termWords ws) start trees)))
-  behind-header =
-      within-then (length ws) (later 4 (inOrder type (typeWords ws))) _ (within-later (length ws) 4 (inOrder type (typeWords ws)) (omega (arith, reach-order type (typeWords ws), types-end)))
-      (λ i. within-then (length ws) (later start (inOrder (term ml) (termWords ws))) _
-      (within-later (length ws) start (inOrder (term ml) (termWords ws)) (omega (arith, reach-order (term ml) (termWords ws), terms-end)))
-      (λ j. within-then (length ws) (later start (walk scopeDue (termWords ws) ([] ∷ []))) _
-      (within-later (length ws) start (walk scopeDue (termWords ws) ([] ∷ [])) (omega (arith, walk-reach scopeDue (termWords ws) ([] ∷ []), terms-end))) (λ k. trees-within)))
-
-pub words-within : (ws : List ℕ) → Within (length ws) (checkWords ws)
-unfolding checkWords
-words-within ws =
-    within-unless (length ws) (isHeader ws) 2 0 _ (omega arith)
-    (λ h. let i = header-iff ws .0 h in behind-header ws (omega (arith, i .0 .1, i .1)))
-
--- Of every file that is refused.
-pub place-in-file : (bytes : List ℕ) → Within (length (wordsOf bytes)) (check bytes)
-unfolding check
-place-in-file bytes = within-unless (length (wordsOf bytes)) (isSize (length bytes)) 1 0 _ (omega arith) (λ h. words-within (wordsOf bytes))
-
 -- "The check alone never gives 8": a refusal's number is one of 1 to 7.
 abbrev pub Numbered : {A : Type 0} → Verdict A → Type 0
 Numbered (refused n p) = (1 ≤ n) × (n ≤ 7)
 Numbered (passed a) = Unit {0}
 
-numbered-then : {A B : Type 0} (v : Verdict A) (k : A → Verdict B) → Numbered v → ((a : A) → Numbered (k a)) → Numbered (andThen v k)
-numbered-then (refused n p) k h f = h
-numbered-then (passed a) k h f = f a
+-- Both of them.
+data Proper {A : Type 0} (b : ℕ) : Verdict A → Type 0 where
+  refusing : (n p : ℕ) → (1 ≤ n) × (n ≤ 7) × (p ≤ b) → Proper b (refused n p)
+  passing : {a : A} → Proper b (passed a)
 
-numbered-unless : {A : Type 0} (t : Bool) (n p : ℕ) (v : Verdict A) → (1 ≤ n) × (n ≤ 7) → Numbered v → Numbered (unless t n p v)
-numbered-unless true n p v h f = f
-numbered-unless false n p v h f = h
+proper-within : {A : Type 0} {b : ℕ} {v : Verdict A} → Proper b v → Within b v
+proper-within (refusing n p h) = h .2
+proper-within passing = tt
 
-numbered-or : {A : Type 0} (o : Option A) (n p : ℕ) → (1 ≤ n) × (n ≤ 7) → Numbered (orRefuse o n p)
-numbered-or none n p h = h
-numbered-or (some a) n p h = tt
+proper-number : {A : Type 0} {b : ℕ} {v : Verdict A} → Proper b v → Numbered v
+proper-number (refusing n p h) = (h .0, h .1)
+proper-number passing = tt
 
-numbered-later : (a : ℕ) (v : Verdict ℕ) → Numbered v → Numbered (later a v)
-numbered-later a (refused n p) h = h
-numbered-later a (passed m) h = tt
+proper-then : {A B : Type 0} {b : ℕ} {v : Verdict A} {k : A → Verdict B} → Proper b v → ((a : A) → Proper b (k a)) → Proper b (andThen v k)
+proper-then (refusing n p h) f = refusing n p h
+proper-then (passing {a}) f = f a
+
+module _ {A : Type 0} (b n p : ℕ) (h : (1 ≤ n) × (n ≤ 7) × (p ≤ b)) where
+  proper-unless : (t : Bool) {v : Verdict A} → (t ≡ true → Proper b v) → Proper b (unless t n p v)
+  proper-unless true f = f refl
+  proper-unless false f = refusing n p h
+
+  proper-or : (o : Option A) → Proper b (orRefuse o n p)
+  proper-or none = refusing n p h
+  proper-or (some a) = passing
+
+-- An answer that is n words further on.
+proper-later : {b c : ℕ} {v : Verdict ℕ} (n : ℕ) → n + c ≤ b → Proper c v → Proper b (later n v)
+proper-later n r (refusing m p h) = refusing m (n + p) (omega arith)
+proper-later n r passing = passing
 
 -- What a word means where something is due.
 abbrev Due : {D : Type 0} → Act D → Type 0
 Due (opens ps) = Unit {0}
 Due (refuses r) = (1 ≤ r) × (r ≤ 7)
 
-numbered-acted : {D : Type 0} (a : Act D) (rest : List D → Verdict ℕ) → Due a → ((ps : List D) → Numbered (rest ps)) → Numbered (acted a rest)
-numbered-acted (opens ps) rest h f = numbered-later 1 (rest ps) (f ps)
-numbered-acted (refuses r) rest h f = h
+proper-acted : {D : Type 0} (n : ℕ) (a : Act D) {rest : List D → Verdict ℕ} → Due a → ((ps : List D) → Proper n (rest ps))
+    → Proper (suc n) (acted a rest)
+proper-acted n (opens ps) h f = proper-later 1 (omega arith) (f ps)
+proper-acted n (refuses r) h f = refusing r 0 (omega arith)
 
-numbered-walk : {D : Type 0} (f : D → ℕ → Act D) → ((d : D) (w : ℕ) → Due (f d w)) → (ws : List ℕ) (ds : List D) → Numbered (walk f ws ds)
+proper-walk : {D : Type 0} (f : D → ℕ → Act D) → ((d : D) (w : ℕ) → Due (f d w)) → (ws : List ℕ) (ds : List D) → Proper (length ws) (walk f ws ds)
 unfolding walk
-numbered-walk f h [] [] = tt
-numbered-walk f h [] (d ∷ ds) = (omega arith, omega arith)
-numbered-walk f h (w ∷ ws) [] = tt
-numbered-walk f h (w ∷ ws) (d ∷ ds) = numbered-acted (f d w) _ (h d w) (λ ps. numbered-walk f h ws (ps ++ ds))
+proper-walk f h [] [] = passing
+proper-walk f h [] (d ∷ ds) = refusing 3 0 (omega arith)
+proper-walk f h (w ∷ ws) [] = passing
+proper-walk f h (w ∷ ws) (d ∷ ds) = proper-acted (length ws) (f d w) (h d w) (λ ps. proper-walk f h ws (ps ++ ds))
 
 due-nested : (d : Sort × ℕ) (w : ℕ) → Due (nestedDue d w)
 due-nested d w = by (rowFor (d .0) w)
   where
     level : (t : Bool) (r : Row (d .0)) → Due (cond t (refuses 4) (opens (levelled (d .1 - 1) (r .parts))))
-    level true r = (omega arith, omega arith)
+    level true r = omega arith
     level false r = tt
 
     by : (o : Option (Row (d .0))) → Due (found o (refuses 3) (λ r. cond (eqb (d .1) 0) (refuses 4) (opens (levelled (d .1 - 1) (r .parts)))))
-    by none = (omega arith, omega arith)
+    by none = omega arith
     by (some r) = level (eqb (d .1) 0) r
 
 due-scope : (Γ : List Lang) (w : ℕ) → Due (scopeDue Γ w)
 due-scope Γ w = by (isFree Γ w)
   where
     by : (t : Bool) → Due (cond t (refuses 5) (opens (replicate (partCount w) (inside Γ w))))
-    by true = (omega arith, omega arith)
+    by true = omega arith
     by false = tt
 
-numbered-order : (s : Sort) (ws : List ℕ) → Numbered (inOrder s ws)
+proper-order : (s : Sort) (ws : List ℕ) → Proper (length ws) (inOrder s ws)
 unfolding inOrder
-numbered-order s ws = by (walk nestedDue ws ((s, levels) ∷ [])) (numbered-walk nestedDue due-nested ws ((s, levels) ∷ []))
+proper-order s ws = by (walk-reach nestedDue ws ((s, levels) ∷ [])) (proper-walk nestedDue due-nested ws ((s, levels) ∷ []))
   where
-    chosen : (t : Bool) (m : ℕ) → Numbered (cond t (passed m) (refused 3 m))
-    chosen true m = tt
-    chosen false m = (omega arith, omega arith)
+    chosen : (t : Bool) (m : ℕ) → m ≤ length ws → Proper (length ws) (cond t (passed m) (refused 3 m))
+    chosen true m h = passing
+    chosen false m h = refusing 3 m (omega arith)
 
-    by : (v : Verdict ℕ) → Numbered v → Numbered (noneLeft (length ws) v)
-    by (refused r p) h = h
-    by (passed m) h = chosen (eqb m (length ws)) m
+    by : {v : Verdict ℕ} → reach v ≤ length ws → Proper (length ws) v → Proper (length ws) (noneLeft (length ws) v)
+    by h (refusing n p i) = refusing n p i
+    by h (passing {a = m}) = chosen (eqb m (length ws)) m h
 
-numbered-typed : (τ : Ty) (e : Term ml) → Numbered (typed τ e)
+proper-typed : (b : ℕ) (τ : Ty) (e : Term ml) → Proper b (typed τ e)
 unfolding typed
-numbered-typed τ e =
-    numbered-then (orRefuse (infer [] e) 6 0) _ (numbered-or (infer [] e) 6 0 (omega arith, omega arith))
-    (λ t. numbered-unless (sameType ml t τ) 7 0 (passed (τ, e)) (omega arith, omega arith) tt)
+proper-typed b τ e =
+    proper-then (proper-or b 6 0 (omega arith) (infer [] e)) (λ t. proper-unless b 7 0 (omega arith) (sameType ml t τ) (λ q. passing))
 
-numbered-words : (ws : List ℕ) → Numbered (checkWords ws)
+-- The declared type ends where the term starts, and the term where the file ends.
+proper-words : (ws : List ℕ) → Proper (length ws) (checkWords ws)
 unfolding checkWords
-numbered-words ws =
-    let start = 4 + typeCount ws in
-    numbered-unless (isHeader ws) 2 0 _ (omega arith, omega arith)
-    (numbered-then (later 4 (inOrder type (typeWords ws))) _ (numbered-later 4 (inOrder type (typeWords ws)) (numbered-order type (typeWords ws)))
-    (λ i. numbered-then (later start (inOrder (term ml) (termWords ws))) _
-    (numbered-later start (inOrder (term ml) (termWords ws)) (numbered-order (term ml) (termWords ws)))
-    (λ j. numbered-then (later start (walk scopeDue (termWords ws) ([] ∷ []))) _
-    (numbered-later start (walk scopeDue (termWords ws) ([] ∷ [])) (numbered-walk scopeDue due-scope (termWords ws) ([] ∷ [])))
-    (λ k. numbered-then (orRefuse (readTree type (typeWords ws)) 3 4) _ (numbered-or (readTree type (typeWords ws)) 3 4 (omega arith, omega arith))
-    (λ τ. numbered-then (orRefuse (readTree (term ml) (termWords ws)) 3 start) _
-    (numbered-or (readTree (term ml) (termWords ws)) 3 start (omega arith, omega arith)) (λ e. numbered-typed τ e))))))
+proper-words ws = proper-unless (length ws) 2 0 (omega arith) (isHeader ws) (λ h. let i = header-iff ws .0 h in behind (omega (arith, i .0 .1, i .1)))
+  where
+    behind : 4 + typeCount ws ≤ length ws → Proper (length ws) (judged (typeWords ws) (termWords ws) (4 + typeCount ws))
+    behind b =
+        let types = typeWords ws in
+        let terms = termWords ws in
+        let start = 4 + typeCount ws in
+        let l : length (drop 4 ws) ≡ length ws - 4 = length-drop 4 ws in
+        let n : 4 + length types ≤ length ws = omega (arith, length-take-le (typeCount ws) (drop 4 ws) (omega arith)) in
+        let m : start + length terms ≤ length ws = omega (arith, length-drop start ws) in
+        proper-then (proper-later 4 n (proper-order type types)) (λ i.
+        proper-then (proper-later start m (proper-order (term ml) terms)) (λ j.
+        proper-then (proper-later start m (proper-walk scopeDue due-scope terms ([] ∷ []))) (λ k.
+        proper-then (proper-or (length ws) 3 4 (omega arith) (readTree type types)) (λ τ.
+        proper-then (proper-or (length ws) 3 start (omega arith) (readTree (term ml) terms)) (λ e. proper-typed (length ws) τ e)))))
+
+pub words-within : (ws : List ℕ) → Within (length ws) (checkWords ws)
+words-within ws = proper-within (proper-words ws)
+
+proper-check : (bytes : List ℕ) → Proper (length (wordsOf bytes)) (check bytes)
+unfolding check
+proper-check bytes = proper-unless (length (wordsOf bytes)) 1 0 (omega arith) (isSize (length bytes)) (λ h. proper-words (wordsOf bytes))
 
 -- Of every file that is refused.
+pub place-in-file : (bytes : List ℕ) → Within (length (wordsOf bytes)) (check bytes)
+place-in-file bytes = proper-within (proper-check bytes)
+
 pub number-in-table : (bytes : List ℕ) → Numbered (check bytes)
-unfolding check
-number-in-table bytes = numbered-unless (isSize (length bytes)) 1 0 _ (omega arith, omega arith) (numbered-words (wordsOf bytes))
+number-in-table bytes = proper-number (proper-check bytes)
 
 -- And of every run that is refused: one of 1 to 8.
 pub operate-number : (bytes : List ℕ) (limit first second n p : ℕ) → operate bytes limit first second ≡ refused n p → (1 ≤ n) × (n ≤ 8)
