@@ -90,7 +90,8 @@ module _ (types terms : List ℕ) (start : ℕ) (x : Recipe) where
 
 -- Refusals 2 to 7.
 abbrev pub InOrder : List ℕ → Recipe → Type 0
-InOrder ws x = Contains ws (x .0) (x .1) × (nestingTy (x .0) ≤ 256) × (nesting (x .1) ≤ 256) × InRange (x .1) × Scoped [] (x .1) × Typed [] (x .1) (x .0)
+InOrder ws x = let τ = x .0 in let e = x .1 in
+    Contains ws τ e × (nestingTy τ ≤ 256) × (nesting e ≤ 256) × InRange e × Scoped [] e × Typed [] e τ
 
 pub passes-in-order : (ws : List ℕ) (x : Recipe) → checkWords ws ≡ passed x → InOrder ws x
 unfolding checkWords

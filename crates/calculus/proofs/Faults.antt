@@ -180,7 +180,8 @@ first-lowest {z} r p q h itself f =
     (λ y. absurd (f .0 y))
 first-lowest {z} r p q h (inside {x} d) f =
     by-type x (λ n. n ≤ z .place) _ _
-    (λ ne. omega (arith, fault-first (x .place) (x .lambdas) (x .tree), first-lowest (x .place) _ _ (parts-laid (x .place) (x .lambdas) (x .tree)) d f))
+    (λ ne. let laid = parts-laid (x .place) (x .lambdas) (x .tree) in
+    omega (arith, fault-first (x .place) (x .lambdas) (x .tree), first-lowest (x .place) _ _ laid d f))
     (λ y. absurd (none-faulty (parts-typed (x .place) (x .lambdas) (x .tree) (y .0) (y .1)) d f))
 first-lowest {z} r p q h (further {x} d) f =
     by-type x (λ n. n ≤ z .place) _ _ (λ ne. omega (arith, held x, among-from _ q (h .1) d)) (λ y. first-lowest r _ q (h .1) d f)

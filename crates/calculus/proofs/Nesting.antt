@@ -12,7 +12,7 @@ use native.Mathlib.Omega.{arith}
 use Rattle.calculus.specs.Verdicts.{found, Verdict, refused, passed}
 use Rattle.calculus.specs.Words.{word}
 use Rattle.calculus.specs.Kinds.{Sort, Tree, Trees, putTree, putTrees, Row, rowFor, sizeTree, sizeTrees}
-use Rattle.calculus.specs.Reading.{opens, refuses, later, acted, walk, levels, levelled, nestedDue, noneLeft, inOrder}
+use Rattle.calculus.specs.Reading.{Act, opens, refuses, later, acted, walk, levels, levelled, nestedDue, noneLeft, inOrder}
 use Rattle.calculus.proofs.Verdicts.{not-both, passed-injective}
 use Rattle.calculus.proofs.Walks.{later-zero, later-later, later-passed, walk-done}
 use Rattle.calculus.proofs.Sizes.{tree-length}
@@ -20,7 +20,8 @@ use Rattle.calculus.proofs.Rows.{TreeInRange, TreesInRange, nestingTree
 use Rattle.calculus.proofs.Views.{View, view, Holds, OfParts, induction, sized}
 
 -- The first part of what nests within a number of levels, and the others.
-deepest-first : (s : Sort) (ss : List Sort) (ts : Trees (s ∷ ss)) (n : ℕ) → deepest (s ∷ ss) ts ≤ n → (nestingTree s (ts .0) ≤ n) × (deepest ss (ts .1) ≤ n)
+deepest-first : (s : Sort) (ss : List Sort) (ts : Trees (s ∷ ss)) (n : ℕ) → deepest (s ∷ ss) ts ≤ n
+    → (nestingTree s (ts .0) ≤ n) × (deepest ss (ts .1) ≤ n)
 deepest-first s [] ts n h = (h, omega arith)
 deepest-first s (t ∷ ss) ts n h = (omega arith, omega arith)
 
@@ -35,14 +36,18 @@ abbrev Takes : (s : Sort) → Tree s → Type 0
 Takes s t = TreeInRange s t → (n : ℕ) → nestingTree s t ≤ n → (k : List ℕ) (ds : List (Sort × ℕ))
     → walk nestedDue (putTree s t k) ((s, n) ∷ ds) ≡ later (sizeTree s t) (walk nestedDue k ds)
 
-parts-take : (ss : List Sort) (ts : Trees ss) → Holds Takes ss ts → TreesInRange ss ts → (n : ℕ) → deepest ss ts ≤ n → (k : List ℕ) (ds : List (Sort × ℕ))
-    → walk nestedDue (putTrees ss ts k) (levelled n ss ++ ds) ≡ later (sizeTrees ss ts) (walk nestedDue k ds)
+parts-take : (ss : List Sort) (ts : Trees ss) → Holds Takes ss ts → TreesInRange ss ts → (n : ℕ) → deepest ss ts ≤ n
+    → (k : List ℕ) (ds : List (Sort × ℕ)) → walk nestedDue (putTrees ss ts k) (levelled n ss ++ ds) ≡ later (sizeTrees ss ts) (walk nestedDue k ds)
 parts-take [] ts hs rs n h k ds = sym (later-zero (walk nestedDue k ds))
 parts-take (s ∷ ss) ts hs rs n h k ds =
     let d = deepest-first s ss ts n h in
     hs .0 (rs .0) n (d .0) (putTrees ss (ts .1) k) (levelled n ss ++ ds)
     ∙ ap (later (sizeTree s (ts .0))) (parts-take ss (ts .1) (hs .1) (rs .1) n (d .1) k ds)
     ∙ later-later (sizeTree s (ts .0)) (sizeTrees ss (ts .1)) (walk nestedDue k ds)
+
+-- What a word means by its row, where there is room for so many levels.
+abbrev pub nestedBy : {s : Sort} → ℕ → Option (Row s) → Act (Sort × ℕ)
+nestedBy room o = found o (refuses 3) (λ r. cond (eqb room 0) (refuses 4) (opens (levelled (room - 1) (r .parts))))
 
 -- A due word with a level to spare.
 walk-due : (s : Sort) (n w : ℕ) (ws : List ℕ) (ds : List (Sort × ℕ)) (r : Row s) → rowFor s w ≡ some r
@@ -142,9 +147,8 @@ walk-stands [] (d ∷ ds) n q = absurd (not-both 3 0 n q)
 walk-stands (w ∷ ws) [] n q = record { trees = tt; rest = w ∷ ws; spelt = refl; fit = tt }
 walk-stands (w ∷ ws) (d ∷ ds) n q = by-row (λ us m p. walk-stands ws us m p) (d .1) (rowFor (d .0) w) refl q
   where
-    by-row : ((us : List (Sort × ℕ)) (m : ℕ) → walk nestedDue ws us ≡ passed m → Stands ws us) → (room : ℕ) (o : Option (Row (d .0))) → rowFor (d .0) w ≡ o
-        → acted (found o (refuses 3) (λ r. cond (eqb room 0) (refuses 4) (opens (levelled (room - 1) (r .parts))))) (λ ps. walk nestedDue ws (ps ++ ds)) ≡ passed n
-        → Stands (w ∷ ws) ((d .0, room) ∷ ds)
+    by-row : ((us : List (Sort × ℕ)) (m : ℕ) → walk nestedDue ws us ≡ passed m → Stands ws us) → (room : ℕ) (o : Option (Row (d .0)))
+        → rowFor (d .0) w ≡ o → acted (nestedBy room o) (λ ps. walk nestedDue ws (ps ++ ds)) ≡ passed n → Stands (w ∷ ws) ((d .0, room) ∷ ds)
     by-row more room none e p = absurd (not-both 3 0 n p)
     by-row more zero (some r) e p = absurd (not-both 4 0 n p)
     by-row more (suc room) (some r) e p =
@@ -165,42 +169,41 @@ pub record Ordered (s : Sort) (ws : List ℕ) : Type 0 where
   pub ranged : TreeInRange s tree
   pub nests : nestingTree s tree ≤ levels
 
+abbrev walked : Sort → List ℕ → Verdict ℕ
+walked s ws = walk nestedDue ws ((s, levels) ∷ [])
+
 -- Refusals 3 and 4 are given to no other words.
 pub ordered-passes : (s : Sort) (ws : List ℕ) → Ordered s ws → inOrder s ws ≡ passed (length ws)
 unfolding inOrder walk
 ordered-passes s ws o =
     let n : sizeTree s (o .tree) + 0 ≡ length ws = omega (arith, tree-length s (o .tree) [], ap length (o .spelt)) in
-    ap (noneLeft (length ws)) (ap (λ (l : List ℕ). walk nestedDue l ((s, levels) ∷ [])) (o .spelt) ∙ tree-taken s (o .tree) (o .ranged) levels (o .nests) [] [] ∙ ap passed n)
-    ∙ rw (eq-eqb (length ws) (length ws) refl)
+    let w : walked s ws ≡ passed (length ws) = ap (walked s) (o .spelt) ∙ tree-taken s (o .tree) (o .ranged) levels (o .nests) [] [] ∙ ap passed n in
+    rw (w, eq-eqb (length ws) (length ws) refl)
+
+-- Words of which none are left are all taken.
+none-left : (k n : ℕ) (v : Verdict ℕ) → noneLeft k v ≡ passed n → (v ≡ passed n) × (n ≡ k)
+none-left k n (refused r p) q = absurd (not-both r p n q)
+none-left k n (passed m) q = equal (eqb m k) refl q
+  where
+    equal : (b : Bool) → eqb m k ≡ b → cond b (passed m) (refused 3 m) ≡ passed n → (_≡_ {A = Verdict ℕ} (passed m) (passed n)) × (n ≡ k)
+    equal true e p = (p, sym (passed-injective m n p) ∙ eqb-true m k e)
+    equal false e p = absurd (not-both 3 m n p)
 
 -- Words that pass are taken to the last.
 pub passes-all : (s : Sort) (ws : List ℕ) (n : ℕ) → inOrder s ws ≡ passed n → n ≡ length ws
 unfolding inOrder
-passes-all s ws n q = all (walk nestedDue ws ((s, levels) ∷ [])) q
-  where
-    equal : (m : ℕ) (b : Bool) → eqb m (length ws) ≡ b → cond b (passed m) (refused 3 m) ≡ passed n → n ≡ length ws
-    equal m true e p = sym (passed-injective m n p) ∙ eqb-true m (length ws) e
-    equal m false e p = absurd (not-both 3 m n p)
-
-    all : (v : Verdict ℕ) → noneLeft (length ws) v ≡ passed n → n ≡ length ws
-    all (refused r p) g = absurd (not-both r p n g)
-    all (passed m) g = equal m (eqb m (length ws)) refl g
+passes-all s ws n q = none-left (length ws) n (walked s ws) q .1
 
 -- Words that pass are such a node.
 pub passes-ordered : (s : Sort) (ws : List ℕ) (n : ℕ) → inOrder s ws ≡ passed n → Ordered s ws
-unfolding inOrder walk
-passes-ordered s ws n q = all (walk nestedDue ws ((s, levels) ∷ [])) refl q
-  where
-    none-left : (m : ℕ) (b : Bool) → eqb m (length ws) ≡ b → cond b (passed m) (refused 3 m) ≡ passed n → m ≡ length ws
-    none-left m true e p = eqb-true m (length ws) e
-    none-left m false e p = absurd (not-both 3 m n p)
-
-    all : (v : Verdict ℕ) → walk nestedDue ws ((s, levels) ∷ []) ≡ v → noneLeft (length ws) v ≡ passed n → Ordered s ws
-    all (refused r p) e g = absurd (not-both r p n g)
-    all (passed m) e g =
-        let t = walk-stands ws ((s, levels) ∷ []) m e in
-        let i : m ≡ length ws = none-left m (eqb m (length ws)) refl g in
-        let j : m ≡ sizeTree s (t .trees .0) + 0 = passed-injective _ _
-        (sym e ∙ ap (λ (l : List ℕ). walk nestedDue l ((s, levels) ∷ [])) (t .spelt) ∙ tree-taken s (t .trees .0) (t .fit .0) levels (t .fit .1) (t .rest) [] ∙ ap (later (sizeTree s (t .trees .0))) (walk-done nestedDue (t .rest))) in
-        let k : length (t .rest) ≡ 0 = omega (arith, ap length (t .spelt), tree-length s (t .trees .0) (t .rest)) in
-        record { tree = t .trees .0; spelt = t .spelt ∙ ap (putTree s (t .trees .0)) (no-words (t .rest) k); ranged = t .fit .0; nests = t .fit .1 }
+unfolding inOrder
+passes-ordered s ws n q =
+    let e = none-left (length ws) n (walked s ws) q in
+    let t = walk-stands ws ((s, levels) ∷ []) n (e .0) in
+    let tree = t .trees .0 in
+    let w : walked s ws ≡ passed (sizeTree s tree + 0) =
+    ap (walked s) (t .spelt) ∙ tree-taken s tree (t .fit .0) levels (t .fit .1) (t .rest) []
+    ∙ ap (later (sizeTree s tree)) (walk-done nestedDue (t .rest)) in
+    let i : n ≡ sizeTree s tree + 0 = passed-injective _ _ (sym (e .0) ∙ w) in
+    let k : length (t .rest) ≡ 0 = omega (arith, e .1, ap length (t .spelt), tree-length s tree (t .rest)) in
+    record { tree = tree; spelt = t .spelt ∙ ap (putTree s tree) (no-words (t .rest) k); ranged = t .fit .0; nests = t .fit .1 }

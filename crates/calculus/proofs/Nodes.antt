@@ -1,11 +1,9 @@
 -- The reader of nodes: its walk knows no nesting, and is the walk with as many levels as there are words. It gives the words of the tree
 -- that stands at a place, and nothing where none stands. Assumes nothing.
 use Prim.Native.Nat.{ℕ, suc, _+_, _-_, _≤_}
-use mathlib.Core.Bool.{cond}
 use mathlib.Core.List.{List, [], _∷_, _++_}
 use mathlib.Core.Option.{Option, none, some}
 use mathlib.Core.Path.{_≡_, refl, sym, ap, _∙_}
-use lib.Dec.{eqb}
 use lib.ListN.{length, getD, take, drop}
 use borrow.Author.Tests.{ne-eqb}
 use native.Mathlib.Omega.{arith}
@@ -16,7 +14,7 @@ use Rattle.calculus.proofs.Walks.{walk-done}
 use Rattle.calculus.proofs.Sizes.{take-tree}
 use Rattle.calculus.proofs.Rows.{TreeInRange, nestingTree}
 use Rattle.calculus.proofs.Views.{view, sort-of}
-use Rattle.calculus.proofs.Nesting.{tree-taken, walk-stands}
+use Rattle.calculus.proofs.Nesting.{nestedBy, tree-taken, walk-stands}
 
 -- What is due, without its levels; and that there are at least n levels for each.
 abbrev pub sorts : List (Sort × ℕ) → List Sort
@@ -48,15 +46,13 @@ no-nesting (w ∷ ws) [] h = refl
 no-nesting (w ∷ ws) (d ∷ ds) h = by-row (λ es g. no-nesting ws es g) (d .1) (h .0) (rowFor (d .0) w)
   where
     by-row : ((es : List (Sort × ℕ)) → Roomy (length ws) es → walk nestedDue ws es ≡ walk kindDue ws (sorts es)) → (room : ℕ) → suc (length ws) ≤ room
-        → (o : Option (Row (d .0)))
-        → acted (found o (refuses 3) (λ r. cond (eqb room 0) (refuses 4) (opens (levelled (room - 1) (r .parts))))) (λ ps. walk nestedDue ws (ps ++ ds))
+        → (o : Option (Row (d .0))) → acted (nestedBy room o) (λ ps. walk nestedDue ws (ps ++ ds))
         ≡ acted (found o (refuses 3) (λ r. opens (r .parts))) (λ ps. walk kindDue ws (ps ++ sorts ds))
     by-row more room g none = refl
     by-row more room g (some r) =
-        rw (ne-eqb room 0 (λ z. omega (arith, z)))
-        (ap (later 1)
-        (more (levelled (room - 1) (r .parts) ++ ds) (roomy-levelled (length ws) (room - 1) (r .parts) ds (omega arith) (roomy-less (length ws) (suc (length ws)) ds (omega arith) (h .1)))
-        ∙ ap (walk kindDue ws) (sorts-levelled (room - 1) (r .parts) ds)))
+        let others = roomy-less (length ws) (suc (length ws)) ds (omega arith) (h .1) in
+        let next = more (levelled (room - 1) (r .parts) ++ ds) (roomy-levelled (length ws) (room - 1) (r .parts) ds (omega arith) others) in
+        rw (ne-eqb room 0 (λ z. omega (arith, z))) (ap (later 1) (next ∙ ap (walk kindDue ws) (sorts-levelled (room - 1) (r .parts) ds)))
 
 -- The words of a tree are a whole node, whatever stands behind them.
 pub node-size : (s : Sort) (t : Tree s) → TreeInRange s t → (k : List ℕ) → nodeSize (putTree s t k) ≡ sizeTree s t
@@ -68,11 +64,12 @@ node-size s t h k =
     let first : sortOf (getD ws 0 0) ≡ s = ap (λ (l : List ℕ). sortOf (getD l 0 0)) (v .spelt k) ∙ sort-of v in
     let n : sizeTree s t + 0 ≡ sizeTree s t = omega arith in
     ap (λ (x : Sort). taken (walk kindDue ws (x ∷ []))) first
-    ∙ ap taken (sym (no-nesting ws ((s, room) ∷ []) (omega arith, tt)) ∙ tree-taken s t h room (omega arith) k [] ∙ ap (later (sizeTree s t)) (walk-done nestedDue k))
-    ∙ n
+    ∙ ap taken (sym (no-nesting ws ((s, room) ∷ []) (omega arith, tt)) ∙ tree-taken s t h room (omega arith) k []
+    ∙ ap (later (sizeTree s t)) (walk-done nestedDue k)) ∙ n
 
 -- So the reader gives back a tree's own words where they stand.
-pub node-given : (ws : List ℕ) (at : ℕ) (s : Sort) (t : Tree s) (k : List ℕ) → TreeInRange s t → drop at ws ≡ putTree s t k → nodeAt ws at ≡ putTree s t []
+pub node-given : (ws : List ℕ) (at : ℕ) (s : Sort) (t : Tree s) (k : List ℕ) → TreeInRange s t → drop at ws ≡ putTree s t k
+    → nodeAt ws at ≡ putTree s t []
 node-given ws at s t k h q =
     ap (λ (l : List ℕ). take (nodeSize l) l) q ∙ ap (λ (n : ℕ). take n (putTree s t k)) (node-size s t h k) ∙ take-tree s t k
 

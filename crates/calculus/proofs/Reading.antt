@@ -1,15 +1,13 @@
--- Reading words as trees inverts writing them: a tree's words and anything after them read back as that tree, and what reads is the words
--- of exactly one tree, in range. Assumes nothing.
+-- Reading words as trees inverts writing them: a tree's words and anything after them read back as that tree. Assumes nothing.
 use Prim.Native.Nat.{ℕ, _/_}
 use mathlib.Core.List.{List, [], _∷_, _++_}
-use mathlib.Core.Option.{Option, none, some, Option·some-injective, Option·none-ne-some}
-use mathlib.Core.Path.{_≡_, refl, sym, ap, _∙_, subst}
+use mathlib.Core.Option.{Option, none, some, Option·some-injective}
+use mathlib.Core.Path.{_≡_, refl, sym, ap, _∙_}
 use Rattle.calculus.specs.Verdicts.{found}
 use Rattle.calculus.specs.Words.{word}
 use Rattle.calculus.specs.Kinds.{Sort, Tree, Trees, putTree, putTrees, Row, rowFor}
 use Rattle.calculus.specs.Reading.{front, back, read, readTree}
-use Rattle.calculus.proofs.Verdicts.{found-some}
-use Rattle.calculus.proofs.Rows.{TreeInRange, TreesInRange, word-due, due-word, due-made}
+use Rattle.calculus.proofs.Rows.{TreeInRange, TreesInRange, word-due}
 use Rattle.calculus.proofs.Views.{View, view, Holds, OfParts, induction, operand-of}
 
 -- Trees in a row and others behind them.
@@ -97,38 +95,3 @@ pub one-tree : (s : Sort) (t u : Tree s) (j k : List ℕ) → TreeInRange s t �
 one-tree s t u j k ht hu q =
     let e = Option·some-injective _ _ (sym (read-tree s t ht j) ∙ ap (λ (ws : List ℕ). read ws (s ∷ [])) q ∙ read-tree s u hu k) in
     (ap (λ (x : Trees (s ∷ []) × List ℕ). x .0 .0) e, ap (λ (x : Trees (s ∷ []) × List ℕ). x .1) e)
-
--- What reads is the words of the trees read, which are in range.
-trees-split : (ss us : List Sort) (ts : Trees (ss ++ us)) (k : List ℕ)
-    → putTrees (ss ++ us) ts k ≡ putTrees ss (front ss us ts) (putTrees us (back ss us ts) k)
-trees-split [] us ts k = refl
-trees-split (s ∷ ss) us ts k = ap (putTree s (ts .0)) (trees-split ss us (ts .1) k)
-
-range-split : (ss us : List Sort) (ts : Trees (ss ++ us)) → TreesInRange (ss ++ us) ts → TreesInRange ss (front ss us ts) × TreesInRange us (back ss us ts)
-range-split [] us ts h = (tt, h)
-range-split (s ∷ ss) us ts h = let i = range-split ss us (ts .1) (h .1) in ((h .0, i .0), i .1)
-
-abbrev Spelt : List ℕ → (ss : List Sort) → Trees ss × List ℕ → Type 0
-Spelt ws ss x = (ws ≡ putTrees ss (x .0) (x .1)) × TreesInRange ss (x .0)
-
-made-spelt : (s : Sort) (w : ℕ) (ws : List ℕ) (ss : List Sort) (r : Row s) (x : Trees (r .parts ++ ss) × List ℕ) → rowFor s w ≡ some r
-    → Spelt ws (r .parts ++ ss) x → Spelt (w ∷ ws) (s ∷ ss) (made s r (w / 256) ss (x .0), x .1)
-made-spelt s w ws ss r x e h =
-    let m = due-made s w r e (front (r .parts) ss (x .0)) in
-    let g = range-split (r .parts) ss (x .0) (h .1) in (
-      ap (λ (l : List ℕ). w ∷ l) (h .0 ∙ trees-split (r .parts) ss (x .0) (x .1))
-          ∙ ap (λ (j : ℕ). j ∷ putTrees (r .parts) (front (r .parts) ss (x .0)) (putTrees ss (back (r .parts) ss (x .0)) (x .1))) (sym (due-word s w r e .spells))
-          ∙ sym (m .spelt (putTrees ss (back (r .parts) ss (x .0)) (x .1))),
-      (m .ranged (g .0), g .1),
-    )
-
-pub read-sound : (ws : List ℕ) (ss : List Sort) (x : Trees ss × List ℕ) → read ws ss ≡ some x → Spelt ws ss x
-unfolding read
-read-sound [] [] x q = subst (Spelt [] []) (Option·some-injective _ x q) (refl, tt)
-read-sound [] (s ∷ ss) x q = absurd (Option·none-ne-some x q)
-read-sound (w ∷ ws) [] x q = subst (Spelt (w ∷ ws) []) (Option·some-injective _ x q) (refl, tt)
-read-sound (w ∷ ws) (s ∷ ss) x q =
-    let i = found-some (rowFor s w) _ x q in
-    let j = found-some (read ws (i .0 .parts ++ ss)) _ x (i .2) in
-    subst (Spelt (w ∷ ws) (s ∷ ss)) (Option·some-injective _ x (j .2))
-    (made-spelt s w ws ss (i .0) (j .0) (i .1) (read-sound ws (i .0 .parts ++ ss) (j .0) (j .1)))

@@ -11,7 +11,8 @@ use Rattle.calculus.specs.File.{wordsOf, typed, checkWords, check, runIn
 use Rattle.calculus.specs.Recipes.{Starred, Refused}
 
 pub starred : Starred
-unfolding operate runIn check checkWords typed wordsOf run step turn fill contract toScheme toML contract2 contract1 onNumbers answer third amiss onLump onList onLambda onNumber form substitute infer read readTree inOrder walk rowFor put putTy size sizeTy
+unfolding operate runIn check checkWords typed wordsOf run step turn fill contract toScheme toML contract2 contract1 onNumbers answer third amiss
+    onLump onList onLambda onNumber form substitute infer read readTree inOrder walk rowFor put putTy size sizeTy
 starred =
     record {
       sum = refl;

@@ -115,7 +115,8 @@ row-law {s} (x ∷ rs) ls k r q = chosen (λ p. row-law rs (ls .1) k r p) (eqb k
   where
     chosen : (rowIn rs k ≡ some r → Law r × (r .kind ≡ k)) → (b : Bool) → eqb k (x .kind) ≡ b → cond b (some x) (rowIn rs k) ≡ some r
         → Law r × (r .kind ≡ k)
-    chosen later true e p = let z = Option·some-injective x r p in (subst Law z (ls .0), ap (λ (y : Row s). y .kind) (sym z) ∙ sym (eqb-true k (x .kind) e))
+    chosen later true e p =
+        let z = Option·some-injective x r p in (subst Law z (ls .0), ap (λ (y : Row s). y .kind) (sym z) ∙ sym (eqb-true k (x .kind) e))
     chosen later false e p = later p
 
 pub law-at : (s : Sort) (k : ℕ) (r : Row s) → rowIn (table s) k ≡ some r → Law r × (r .kind ≡ k)

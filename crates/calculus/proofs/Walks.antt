@@ -101,7 +101,8 @@ module _ {D : Type 0} (f : D → ℕ → Act D) where
     pub stops : (r : ℕ) → f d (getD ws 0 0) ≡ refuses r → later a (walk f ws (d ∷ ds)) ≡ refused r (a + 0)
     stops r e = rw (walk-step ws d ds some, e)
 
-    opened : (ps : List D) → f d (getD ws 0 0) ≡ opens ps → later a (walk f ws (d ∷ ds)) ≡ later (a + 1) (after (drop 1 ws) ds (walk f (drop 1 ws) ps))
+    opened : (ps : List D) → f d (getD ws 0 0) ≡ opens ps
+        → later a (walk f ws (d ∷ ds)) ≡ later (a + 1) (after (drop 1 ws) ds (walk f (drop 1 ws) ps))
     opened ps e = rw (walk-step ws d ds some, e, walk-append (drop 1 ws) ps ds) (later-later a 1 (after (drop 1 ws) ds (walk f (drop 1 ws) ps)))
 
     -- its parts are refused
