@@ -8,8 +8,7 @@ use lib.Dec.{eqb, leb}
 use lib.ListN.{length}
 use native.Mathlib.Nat.{add-mul, mul-le-mul, mul-le-mul-left, mul-le-mul-right}
 use native.Mathlib.Omega.{arith}
-use Rattle.calculus.specs.Trees.{Ty, Lang, ml, sc, Static, lists, numbers, Term, var, num, lam, op1, op2, if0, nil, wrong, ms}
-use Rattle.calculus.specs.Trees.{sm, app, fix}
+use Rattle.calculus.specs.Trees.{Ty, Lang, ml, sc, Static, lists, numbers, Term, var, num, lam, op1, op2, if0, nil, wrong, ms, sm, app, fix}
 use Rattle.calculus.specs.Words.{sizeTy, sizeStatic, size}
 use Rattle.calculus.specs.Typing.{Typed}
 use Rattle.calculus.specs.Substitution.{shift, forOwn, ordinary}

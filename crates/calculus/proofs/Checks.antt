@@ -17,8 +17,8 @@ use Rattle.calculus.specs.Scope.{Scoped, scopeDue}
 use Rattle.calculus.specs.Typing.{Typed}
 use Rattle.calculus.specs.Inference.{sameType, infer}
 use Rattle.calculus.specs.Run.{Result, run, uncounted, capacity}
-use Rattle.calculus.specs.File.{wordsOf, isSize, isHeader, typeCount, typeWords, termWords, ordered, scoped, Recipe, typed, withTree}
-use Rattle.calculus.specs.File.{judged, checkWords, check, runIn, operate}
+use Rattle.calculus.specs.File.{wordsOf, isSize, isHeader, typeCount, typeWords, termWords, ordered, scoped, Recipe, typed, withTree, judged}
+use Rattle.calculus.specs.File.{checkWords, check, runIn, operate}
 use Rattle.calculus.specs.Accepted.{Accepted}
 use Rattle.calculus.proofs.Verdicts.{passed-injective, then-passed, unless-iff, refuse-iff}
 use Rattle.calculus.proofs.Walks.{later-passed}

@@ -20,9 +20,9 @@ use Rattle.calculus.proofs.Contraction.{mark}
 use Rattle.calculus.proofs.Bounds.{size-shift}
 use Rattle.calculus.proofs.Typing.{typed-scoped}
 use Rattle.calculus.proofs.Agreement.{value-no-step}
-use Rattle.calculus.proofs.Reaching.{Within, still, on, within-steps, within-made, once, join, wider, inside, in-head, in-tail, into-ml}
-use Rattle.calculus.proofs.Reaching.{into-scheme, rule, onward, reached, after-rule, raises, raises-head, raises-tail, one-end, value-end}
-use Rattle.calculus.proofs.Reaching.{value-or-error, error-once, fails-run}
+use Rattle.calculus.proofs.Reaching.{Within, still, on, within-steps, within-made, once, join, wider, inside, step-in-first, step-in-second}
+use Rattle.calculus.proofs.Reaching.{into-ml, into-scheme, rule, onward, reached, after-rule, raises, raises-in-first, raises-in-second}
+use Rattle.calculus.proofs.Reaching.{one-end, value-end, value-or-error, error-once, fails-run}
 
 -- An ML value and a Scheme value are the same datum of a type; the steps of its way into ML, and out of it.
 data Same : ℕ → ℕ → Ty → Term ml → Term sc → Type 0 where
@@ -74,8 +74,8 @@ arrive (conses {t} {i} {j} {v = v} {w = w} {w′} a b) =
     let rest = ms (list t) w′ in
     on {f = cons (ms t w) rest} (rule (ms-cons (x .1) (y .1))) (omega (arith, type-bounded t, same-size a, same-size b))
     (join (i + j) refl
-    (inside (λ (e : Term ml). cons e rest) (suc (size rest)) (in-head CONS) (λ e. omega arith) (omega (arith, same-size b)) (arrive a))
-    (inside (λ (e : Term ml). cons v e) (suc (size v)) (in-tail CONS (x .0)) (λ e. omega arith) (omega arith) (arrive b)))
+    (inside (λ (e : Term ml). cons e rest) (suc (size rest)) (step-in-first CONS) (λ e. omega arith) (omega (arith, same-size b)) (arrive a))
+    (inside (λ (e : Term ml). cons v e) (suc (size v)) (step-in-second CONS (x .0)) (λ e. omega arith) (omega arith) (arrive b)))
 
 leave : {i o : ℕ} {t : Ty} {v : Term ml} {w : Term sc} → Same i o t v w → Within (boundaries t + size v) o (sm t v) w
 unfolding size sizeTy boundaries
@@ -88,8 +88,8 @@ leave (conses {t} {o = o} {p} {v} {v′} {w} a b) =
     let rest = sm (list t) v′ in
     on {f = cons (sm t v) rest} (rule (sm-cons (x .0) (y .0))) (omega (arith, type-bounded t))
     (join (o + p) refl
-    (inside (λ (e : Term sc). cons e rest) (suc (size rest)) (in-head CONS) (λ e. omega arith) (omega arith) (leave a))
-    (inside (λ (e : Term sc). cons w e) (suc (size w)) (in-tail CONS (x .1)) (λ e. omega arith) (omega (arith, same-size a)) (leave b)))
+    (inside (λ (e : Term sc). cons e rest) (suc (size rest)) (step-in-first CONS) (λ e. omega arith) (omega arith) (leave a))
+    (inside (λ (e : Term sc). cons w e) (suc (size w)) (step-in-second CONS (x .1)) (λ e. omega arith) (omega (arith, same-size a)) (leave b)))
 
 -- There and back.
 ml-within : {i o : ℕ} {t : Ty} {v : Term ml} {w : Term sc} → Same i o t v w
@@ -150,18 +150,19 @@ module _ (t : Ty) {v w : Term sc} (a : Value sc v) (b : Value sc w) where
   past-head : {P : Term ml → Type 0} → Reaches (ms t v) (Value ml) → ((r : Term ml) → Value ml r → Reaches (cons r (ms (list t) w)) P)
       → Reaches (ms (list t) (cons v w)) P
   past-head {P} x k =
-      after-rule (ms-cons a b) (onward (λ (e : Term ml). cons e (ms (list t) w)) (in-head CONS) {Q = P} (x .2) (k (x .1) (x .3)))
+      after-rule (ms-cons a b) (onward (λ (e : Term ml). cons e (ms (list t) w)) (step-in-first CONS) {Q = P} (x .2) (k (x .1) (x .3)))
 
   cons-conversion : (c d : Option ℕ) → Conversion t v c → Conversion (list t) w d → Conversion (list t) (cons v w) (first c d)
   cons-conversion none none x y = (
     fits-cons (x .0) (y .0),
-    past-head (x .1) (λ r h. onward (λ (e : Term ml). cons r e) (in-tail CONS h) {Q = Value ml} (y .1 .2) (0, _, stay, consV h (y .1 .3))),
+    past-head (x .1) (λ r h. onward (λ (e : Term ml). cons r e) (step-in-second CONS h) {Q = Value ml} (y .1 .2) (0, _, stay, consV h (y .1 .3))),
   )
   cons-conversion none (some d) x y =
-      past-head (x .1) (λ r h. onward (λ (e : Term ml). cons r e) (in-tail CONS h) {Q = Raises d} (y .2) (0, _, stay, raises-tail CONS h (y .3)))
+      past-head (x .1)
+      (λ r h. onward (λ (e : Term ml). cons r e) (step-in-second CONS h) {Q = Raises d} (y .2) (0, _, stay, raises-in-second CONS h (y .3)))
   cons-conversion (some c) d x y =
       after-rule (ms-cons a b)
-      (onward (λ (e : Term ml). cons e (ms (list t) w)) (in-head CONS) {Q = Raises c} (x .2) (0, _, stay, raises-head CONS (x .3)))
+      (onward (λ (e : Term ml). cons e (ms (list t) w)) (step-in-first CONS) {Q = Raises c} (x .2) (0, _, stay, raises-in-first CONS (x .3)))
 
 no-number : (v : Term sc) → Value sc v → ¬ Number v → Conversion N v (some 1)
 no-number v h ne = reached (wrong 1 N) (ms-no-number h ne) (raises N)
@@ -268,9 +269,9 @@ departs t {v} (consV {w = w} a b) h =
     let x = departs u a (h .2) in
     let y = departs (list u) b (rw p at (h .3)) in
     let last : Reaches (cons (x .1) (y .1)) (Fits (list u)) = (0, _, stay, fits-cons (x .3) (y .3)) in
-    let tail = onward (λ (e : Term sc). cons (x .1) e) (in-tail CONS (fits-value (x .3))) {Q = Fits (list u)} (y .2) last in
+    let tail = onward (λ (e : Term sc). cons (x .1) e) (step-in-second CONS (fits-value (x .3))) {Q = Fits (list u)} (y .2) last in
     subst (Arrival v) (sym q)
-    (after-rule (sm-cons a b) (onward (λ (e : Term sc). cons e (sm (list u) w)) (in-head CONS) {Q = Fits (list u)} (x .2) tail))
+    (after-rule (sm-cons a b) (onward (λ (e : Term sc). cons e (sm (list u) w)) (step-in-first CONS) {Q = Fits (list u)} (x .2) tail))
 departs t {v} (lumpV a) h = subst (Arrival v) (sym (h .1)) (reached _ (sm-lump a) (anything a))
 
 returned : (t : Ty) {v : Term ml} → Value ml v → Typed [] v t → Reaches (ms t (sm t v)) (Value ml)
@@ -307,9 +308,9 @@ late-error : (n : ℕ) → Steps 5 (app (ms (N to N) (lam tt (nil tt))) (num n))
 unfolding shift ordinary form
 late-error n =
     let f : Term sc = lam tt (nil tt) in
-    then (in-head APP (ms (N to N) f) (lam N (ms N (app f (sm N (var 0))))) (rule ms-lambda))
+    then (step-in-first APP (ms (N to N) f) (lam N (ms N (app f (sm N (var 0))))) (rule ms-lambda))
     (then {f = ms N (app f (sm N (num n)))} (rule (app-lambda numV))
-    (then (into-ml N (app f (sm N (num n))) (app f (num n)) (in-tail APP lamV (sm N (num n)) (num n) (rule sm-number)))
+    (then (into-ml N (app f (sm N (num n))) (app f (num n)) (step-in-second APP lamV (sm N (num n)) (num n) (rule sm-number)))
     (then (into-ml N (app f (num n)) (nil tt) (rule (app-lambda numV)))
     (then (rule (ms-no-number nilV (λ h. omega (arith, ap mark (h .1))))) stay))))
 
@@ -332,24 +333,24 @@ same-head {a} {b} {v} {w} q = cc (let z : becomes a ≡ becomes v = ap (contract
 abbrev Back : Ty → Term ml → Term ml → Type 0
 Back t r e = e ≡ cons r (nil t)
 
--- A list of one item comes back as the list of what the item comes back as.
+-- A list of one element comes back as the list of what the element comes back as.
 module _ (t : Ty) {v r : Term ml} {w : Term sc} (h : Value ml v) (f : Fits t w) (x : Value ml r) where
   list-in : {j : ℕ} → Steps j (ms t w) r → Reaches (ms (list t) (cons w (nil tt))) (Back t r)
   list-in p =
       after-rule (ms-cons (fits-value f) nilV)
-      (onward (λ (e : Term ml). cons e (ms (list t) (nil tt))) (in-head CONS) {Q = Back t r} p
-      (onward (λ (e : Term ml). cons r e) (in-tail CONS x) {Q = Back t r} (then (rule ms-nil) stay) (0, _, stay, refl)))
+      (onward (λ (e : Term ml). cons e (ms (list t) (nil tt))) (step-in-first CONS) {Q = Back t r} p
+      (onward (λ (e : Term ml). cons r e) (step-in-second CONS x) {Q = Back t r} (then (rule ms-nil) stay) (0, _, stay, refl)))
 
   list-out : {i j : ℕ} → Steps i (sm t v) w → Steps j (ms t w) r → Reaches (ms (list t) (sm (list t) (cons v (nil t)))) (Back t r)
   list-out q p =
       let s = list t in
       let rest = sm s (nil t) in
       onward (ms s) (into-ml s) {Q = Back t r} {r = cons (sm t v) rest} (then (rule (sm-cons h nilV)) stay)
-      (onward (λ (e : Term sc). ms s (cons e rest)) (λ a b z. into-ml s (cons a rest) (cons b rest) (in-head CONS a b z)) {Q = Back t r} q
-      (onward (λ (e : Term sc). ms s (cons w e)) (λ a b z. into-ml s (cons w a) (cons w b) (in-tail CONS (fits-value f) a b z)) {Q = Back t r}
+      (onward (λ (e : Term sc). ms s (cons e rest)) (λ a b z. into-ml s (cons a rest) (cons b rest) (step-in-first CONS a b z)) {Q = Back t r} q
+      (onward (λ (e : Term sc). ms s (cons w e)) (λ a b z. into-ml s (cons w a) (cons w b) (step-in-second CONS (fits-value f) a b z)) {Q = Back t r}
       (then (rule sm-nil) stay) (list-in p)))
 
--- So a list of one item comes back as it was only if the item does.
+-- So a list of one element comes back as it was only if the element does.
 list-back : (t : Ty) (v : Term ml) → Value ml v → Typed [] v t → (n : ℕ)
     → Steps n (ms (list t) (sm (list t) (cons v (nil t)))) (cons v (nil t))
     → (m : ℕ) × Steps m (ms t (sm t v)) v

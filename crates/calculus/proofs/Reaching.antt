@@ -50,13 +50,13 @@ module _ {m l : Lang} (F : Term m → Term l) (k : ℕ) (go : (x y : Term m) →
   inside c (on {e = e} {f} a d p) = on (go e f a) (omega (arith, c, d, fit f)) (inside c p)
 
 -- A step of a part is one of the node around, where evaluation goes.
-pub in-head : {l : Lang} {b : Term l} (o : Op2) (x y : Term l) → x ⟶ y → op2 o x b ⟶ op2 o y b
+pub step-in-first : {l : Lang} {b : Term l} (o : Op2) (x y : Term l) → x ⟶ y → op2 o x b ⟶ op2 o y b
 unfolding around
-in-head {b = b} o x y (by-rule E h) = by-rule (in-first o E b) h
+step-in-first {b = b} o x y (by-rule E h) = by-rule (in-first o E b) h
 
-pub in-tail : {l : Lang} {a : Term l} (o : Op2) → Value l a → (x y : Term l) → x ⟶ y → op2 o a x ⟶ op2 o a y
+pub step-in-second : {l : Lang} {a : Term l} (o : Op2) → Value l a → (x y : Term l) → x ⟶ y → op2 o a x ⟶ op2 o a y
 unfolding around
-in-tail {a = a} o v x y (by-rule E h) = by-rule (in-second o a v E) h
+step-in-second {a = a} o v x y (by-rule E h) = by-rule (in-second o a v E) h
 
 pub into-ml : (t : Ty) (x y : Term sc) → x ⟶ y → ms t x ⟶ ms t y
 unfolding around
@@ -80,18 +80,18 @@ module _ {m l : Lang} (F : Term m → Term l) (go : (x y : Term m) → x ⟶ y �
 pub reached : {l : Lang} {e : Term l} (r : Term l) {P : Term l → Type 0} → l ⊢ e ⇒ r → P r → Reaches e P
 reached r h p = (1, r, then (rule h) stay, p)
 
--- A wrong is a raised error, and so is a cons of one, and of a value and one.
+-- A wrong is a raised error, and so is a node of two parts whose first raises one, or whose second does behind a value.
 pub raises : {c : ℕ} (t : Ty) → Raises {l = ml} c (wrong c t)
 unfolding around
 raises t = by-wrong hole t
 
-pub raises-head : {l : Lang} {c : ℕ} {e b : Term l} (o : Op2) → Raises c e → Raises c (op2 o e b)
+pub raises-in-first : {l : Lang} {c : ℕ} {e b : Term l} (o : Op2) → Raises c e → Raises c (op2 o e b)
 unfolding around
-raises-head {b = b} o (by-wrong E t) = by-wrong (in-first o E b) t
+raises-in-first {b = b} o (by-wrong E t) = by-wrong (in-first o E b) t
 
-pub raises-tail : {l : Lang} {c : ℕ} {a e : Term l} (o : Op2) → Value l a → Raises c e → Raises c (op2 o a e)
+pub raises-in-second : {l : Lang} {c : ℕ} {a e : Term l} (o : Op2) → Value l a → Raises c e → Raises c (op2 o a e)
 unfolding around
-raises-tail {a = a} o v (by-wrong E t) = by-wrong (in-second o a v E) t
+raises-in-second {a = a} o v (by-wrong E t) = by-wrong (in-second o a v E) t
 
 pub after-rule : {l : Lang} {e f : Term l} {P : Term l → Type 0} → l ⊢ e ⇒ f → Reaches f P → Reaches e P
 after-rule h x = (suc (x .0), x .1, then (rule h) (x .2), x .3)

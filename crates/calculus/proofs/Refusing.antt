@@ -15,8 +15,8 @@ use Rattle.calculus.specs.Verdicts.{found, Verdict, refused, passed, and
 use Rattle.calculus.specs.Reading.{Act, opens, refuses, later, acted, walk, noneLeft, nestedDue, levels, levelled, inOrder, readTree}
 use Rattle.calculus.specs.Scope.{isFree, inside, partCount, scopeDue}
 use Rattle.calculus.specs.Inference.{sameType, infer}
-use Rattle.calculus.specs.File.{wordsOf, isSize, isHeader, typeCount, typeWords, termWords, Recipe, typed}
-use Rattle.calculus.specs.File.{judged, checkWords, check, runIn, operate}
+use Rattle.calculus.specs.File.{wordsOf, isSize, isHeader, typeCount, typeWords, termWords, Recipe, typed, judged, checkWords, check, runIn}
+use Rattle.calculus.specs.File.{operate}
 use Rattle.calculus.specs.Words.{size}
 use Rattle.calculus.specs.Run.{Result, uncounted, run, capacity}
 use Rattle.calculus.proofs.Verdicts.{not-both}

@@ -25,7 +25,7 @@ unfolding fill wordsBefore wordsAfter
 put-fill here x k = refl
 put-fill (within f F) x k = put-plug f (fill F x) k ∙ rw (put-fill F x (after f ++ k), append-assoc, append-assoc)
 
-words-fill : {m l : Lang} (F : Context m l) (x : Term m) → words (fill F x) ≡ wordsBefore F ++ (words x ++ wordsAfter F)
+pub words-fill : {m l : Lang} (F : Context m l) (x : Term m) → words (fill F x) ≡ wordsBefore F ++ (words x ++ wordsAfter F)
 words-fill F x = put-fill F x [] ∙ rw (append-nil, put-append x [] (wordsAfter F))
 
 abbrev Spliced : {l : Lang} → Term l → Outcome l → Type 0
