@@ -8,7 +8,7 @@ use lib.Dec.{eqb, leb}
 use lib.ListN.{length}
 use native.Mathlib.Nat.{add-mul, mul-le-mul, mul-le-mul-left, mul-le-mul-right}
 use native.Mathlib.Omega.{arith}
-use Rattle.calculus.specs.Trees.{Ty, Lang, ml, sc, Static, lists, numbers, Term, var, num, lam, op1, op2, if0, nil, wrong, ms, sm, app, fix}
+use Rattle.calculus.specs.Trees.{Ty, Lang, ml, sc, Term, var, num, lam, op1, op2, if0, nil, wrong, ms, sm, app, fix}
 use Rattle.calculus.specs.Words.{sizeTy, sizeStatic, size}
 use Rattle.calculus.specs.Typing.{Typed}
 use Rattle.calculus.specs.Substitution.{shift, forOwn, ordinary}
@@ -100,16 +100,6 @@ size-ordinary u k (sm t a) =
 twice : (m n : ℕ) → 2 ≤ m → n ≤ 2 * m → n ≤ m * m
 twice m n h i = omega (arith, mul-le-mul-right m h)
 
-numbers-size : (l : Lang) → sizeStatic l (numbers l) ≤ 1
-unfolding sizeTy
-numbers-size ml = omega arith
-numbers-size sc = omega arith
-
-lists-size : (l : Lang) (t : Static l) → sizeStatic l (lists l t) ≤ 1 + sizeStatic l t
-unfolding sizeTy
-lists-size ml t = omega arith
-lists-size sc t = omega arith
-
 -- Every rule but the two that substitute makes at most twice the words.
 rule-growth : {l : Lang} {e r : Term l} → l ⊢ e ⇒ r → (size r ≤ size e * size e) ⊎ ((2 ≤ size e) × (size r ≤ 2 * size e))
 unfolding size sizeTy
@@ -123,7 +113,8 @@ rule-growth (fix-lambda {t} {b}) =
     let j : size (fix (lam t b)) ≤ size (fix (lam t b)) = omega arith in
     inl (omega (arith, size-ordinary (fix (lam t b)) 0 b, mul-le-mul i j))
 rule-growth (add-numbers h) = inr (omega arith)
-rule-growth (add-over {l} h) = inr (omega (arith, numbers-size l))
+rule-growth (add-over {l = ml} h) = inr (omega arith)
+rule-growth (add-over {l = sc} h) = inr (omega arith)
 rule-growth (add-no-number {v} {w} a b n) = inr (omega (arith, size-some v, size-some w))
 rule-growth sub-numbers = inr (omega arith)
 rule-growth (sub-no-number {v} {w} a b n) = inr (omega (arith, size-some v, size-some w))
@@ -134,7 +125,8 @@ rule-growth (hd-cons {v = v} {w} a b) = inr (omega (arith, size-some v, size-som
 rule-growth hd-nil = inr (omega arith)
 rule-growth (hd-no-list {v} a n m) = inr (omega (arith, size-some v))
 rule-growth (tl-cons {v = v} {w} a b) = inr (omega (arith, size-some v, size-some w))
-rule-growth (tl-nil {l} {t}) = inr (omega (arith, lists-size l t))
+rule-growth (tl-nil {l = ml}) = inr (omega arith)
+rule-growth (tl-nil {l = sc}) = inr (omega arith)
 rule-growth (tl-no-list {v} a n m) = inr (omega (arith, size-some v))
 rule-growth null-nil = inr (omega arith)
 rule-growth (null-cons {v} {w} a b) = inr (omega (arith, size-some v, size-some w))

@@ -1,37 +1,33 @@
 -- Recipes of document 01 worked out by hand in the published rules: nothing here runs `step`. Assumes nothing.
 use mathlib.Core.Path.{ap}
 use native.Mathlib.Omega.{arith}
-use Rattle.calculus.specs.Trees.{N, L, list, _to_, Lang, ml, APP, ADD, CONS, Term, var, num, lam, if0, nil, wrong, ms, sm, app, add, cons, fix}
+use Rattle.calculus.specs.Trees.{N, L, list, _to_, ml, APP, ADD, CONS, var, num, lam, if0, nil, wrong, ms, sm, app, add, cons, fix}
 use Rattle.calculus.specs.Substitution.{shift, ordinary}
 use Rattle.calculus.specs.Reduction.{form}
 use Rattle.calculus.specs.Rules.{hole, in-first, in-second, in-ms, around, lamV, numV, nilV, _⊢_⇒_, app-lambda, fix-lambda, if0-no-number}
-use Rattle.calculus.specs.Rules.{ms-number, ms-cons, ms-no-list, ms-lambda, sm-number, sm-lump, _⟶_, by-rule, Steps, stay, then, Raises}
-use Rattle.calculus.specs.Rules.{by-wrong}
+use Rattle.calculus.specs.Rules.{ms-number, ms-cons, ms-no-list, ms-lambda, sm-number, sm-lump, by-rule, Steps, stay, then, Raises, by-wrong}
 use Rattle.calculus.proofs.Contraction.{mark}
-
-at-root : {l : Lang} {e r : Term l} → l ⊢ e ⇒ r → e ⟶ r
-unfolding around
-at-root h = by-rule hole h
+use Rattle.calculus.proofs.Reaching.{rule}
 
 -- (ms (N to N) (fn v0)) applied to 7: 7, 5 steps.
 pub function : Steps 5 (app (ms (N to N) (lam tt (var 0))) (num 7)) (num 7)
 unfolding around shift ordinary
 function =
     then (by-rule (in-first APP hole (num 7)) ms-lambda)
-    (then (at-root (app-lambda numV))
+    (then (rule (app-lambda numV))
     (then (by-rule (in-ms N (in-second APP (lam tt (var 0)) lamV hole)) sm-number)
     (then (by-rule (in-ms N hole) (app-lambda numV))
-    (then (at-root ms-number) stay))))
+    (then (rule ms-number) stay))))
 
 -- ms N (sm L (ms L 4)): 4, 2 steps.
 pub unsealed : Steps 2 (ms N (sm L (ms L (num 4)))) (num 4)
 unfolding around
-unsealed = then (by-rule (in-ms N hole) (sm-lump numV)) (then (at-root ms-number) stay)
+unsealed = then (by-rule (in-ms N hole) (sm-lump numV)) (then (rule ms-number) stay)
 
 -- fix (fn N v0): itself again.
 pub endless : Steps 1 (fix (lam N (var 0))) (fix (lam N (var 0)))
 unfolding shift ordinary
-endless = then (at-root fix-lambda) stay
+endless = then (rule fix-lambda) stay
 
 -- ms {N} (cons 1 2): error 3, in the fourth step; the head is converted before the tail is looked at.
 tail-no-list : ml ⊢ ms (list N) (num 2) ⇒ wrong 3 (list N)
@@ -41,7 +37,7 @@ tail-no-list = ms-no-list (numV {n = 2}) (λ h. omega (arith, ap mark (h .1))) (
 pub no-list : Steps 3 (ms (list N) (cons (num 1) (num 2))) (cons (num 1) (wrong 3 (list N))) × Raises {l = ml} 3 (cons (num 1) (wrong 3 (list N)))
 unfolding around
 no-list = (
-  then (at-root (ms-cons numV numV))
+  then (rule (ms-cons numV numV))
       (then (by-rule (in-first CONS hole (ms (list N) (num 2))) ms-number)
       (then (by-rule (in-second CONS (num 1) numV hole) tail-no-list) stay)),
   by-wrong (in-second CONS (num 1) numV hole) (list N),
@@ -50,7 +46,7 @@ no-list = (
 -- ms N (if0 nil 1 2): 2, 2 steps.
 pub third : Steps 2 (ms N (if0 (nil tt) (num 1) (num 2))) (num 2)
 unfolding around form
-third = then (by-rule (in-ms N hole) (if0-no-number nilV (λ h. omega (arith, ap mark (h .1))))) (then (at-root ms-number) stay)
+third = then (by-rule (in-ms N hole) (if0-no-number nilV (λ h. omega (arith, ap mark (h .1))))) (then (rule ms-number) stay)
 
 -- ms N (add (fn v0) (wrong 300)): error 300, in the first step.
 pub own-code : Raises 300 (ms N (add (lam tt (var 0)) (wrong 300 tt)))

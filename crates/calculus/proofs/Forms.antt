@@ -56,12 +56,3 @@ module _ {m : Lang} (P : Became m → Type 0) (o : Became m) where
   on-lump R (consForm v w) k h ne p = ne (omega arith)
   on-lump R (sealed v) k h ne p = p v h
   on-lump R other k h ne p = ne (omega arith)
-
--- The forms of Scheme, which has no lumps.
-pub of-scheme : (P : Form sc → Type 0) → ((n : ℕ) → P (number n)) → ((t : Static sc) (b : Term sc) → P (lambda t b))
-    → ((t : Static sc) → P (nilForm t)) → ((v w : Term sc) → P (consForm v w)) → P other → (f : Form sc) → P f
-of-scheme P n l e i o (number x) = n x
-of-scheme P n l e i o (lambda t b) = l t b
-of-scheme P n l e i o (nilForm t) = e t
-of-scheme P n l e i o (consForm v w) = i v w
-of-scheme P n l e i o other = o

@@ -13,7 +13,7 @@ use Rattle.calculus.specs.Reduction.{replaced, substitute, Form, number,
 use Rattle.calculus.specs.Reduction.{raises, nothing, onNumber, onLambda, onList, amiss, third, answer, contract1, onNumbers, contract2, toML}
 use Rattle.calculus.specs.Reduction.{toScheme, contract, Frame, under, first, second, tested, intoML, intoScheme, plug, Context, here, within}
 use Rattle.calculus.specs.Reduction.{fill, Outcome, value, raised, next, stuck, outcome, step}
-use Rattle.calculus.proofs.Forms.{of-scheme, on-number, on-lambda, on-list, on-lump}
+use Rattle.calculus.proofs.Forms.{on-number, on-lambda, on-list, on-lump}
 use Rattle.calculus.proofs.Turns.{step-by}
 
 cond-in-range : {l : Lang} (b : Bool) (x y : Term l) → (b ≡ true → InRange x) → InRange y → InRange (cond b x y)
@@ -85,16 +85,20 @@ third-in-range ml c h = tt
 third-in-range sc c h = h
 
 -- The rules.
-answer-in-range : (k : Test) (f : Form sc) → answer k f ≤ largest
+answers-in-range : (f : Form sc)
+    → (answer isFun f ≤ largest) × (answer isList f ≤ largest) × (answer isNull f ≤ largest) × (answer isNum f ≤ largest)
 unfolding answer
-answer-in-range isFun f =
-    of-scheme (λ f. answer isFun f ≤ largest) (λ n. omega arith) (λ t b. omega arith) (λ t. omega arith) (λ v w. omega arith) (omega arith) f
-answer-in-range isList f =
-    of-scheme (λ f. answer isList f ≤ largest) (λ n. omega arith) (λ t b. omega arith) (λ t. omega arith) (λ v w. omega arith) (omega arith) f
-answer-in-range isNull f =
-    of-scheme (λ f. answer isNull f ≤ largest) (λ n. omega arith) (λ t b. omega arith) (λ t. omega arith) (λ v w. omega arith) (omega arith) f
-answer-in-range isNum f =
-    of-scheme (λ f. answer isNum f ≤ largest) (λ n. omega arith) (λ t b. omega arith) (λ t. omega arith) (λ v w. omega arith) (omega arith) f
+answers-in-range (number n) = omega arith
+answers-in-range (lambda t b) = omega arith
+answers-in-range (nilForm t) = omega arith
+answers-in-range (consForm v w) = omega arith
+answers-in-range other = omega arith
+
+answer-in-range : (k : Test) (f : Form sc) → answer k f ≤ largest
+answer-in-range isFun f = answers-in-range f .0
+answer-in-range isList f = answers-in-range f .1
+answer-in-range isNull f = answers-in-range f .2
+answer-in-range isNum f = answers-in-range f .3
 
 module _ {l m : Lang} (v : Term l) (h : InRange v) (o : Became m) (r : BecameInRange o) where
   by-number : (k : ℕ → Became m) → ((n : ℕ) → n ≤ largest → BecameInRange (k n)) → BecameInRange (onNumber (form v) o k)

@@ -10,7 +10,7 @@ use Rattle.calculus.specs.Trees.{Lang, Term}
 use Rattle.calculus.specs.Words.{word, put, size}
 use Rattle.calculus.specs.Kinds.{Sort, term, Tree, Trees, putTree, putTrees, table, rowIn, sizeTree, sizeTrees}
 use Rattle.calculus.specs.Reading.{opens, refuses, later, acted, walk}
-use Rattle.calculus.specs.Scope.{Scoped, isFree, inside, partCount, scopeDue}
+use Rattle.calculus.specs.Scope.{Scoped, partCount, scopeDue}
 use Rattle.calculus.proofs.Verdicts.{not-both}
 use Rattle.calculus.proofs.Walks.{later-zero, later-later, later-passed}
 use Rattle.calculus.proofs.Views.{TreeScoped, TreesScoped, freeAt, insideAt, View, view, kind-of, operand-of, sort-of, sized, Holds, OfParts}
@@ -27,20 +27,14 @@ module _ (s : Sort) (t : Tree s) (Γ : List Lang) where
   abbrev Δ : List Lang
   Δ = insideAt Γ (v .row .kind)
 
-  due-free : isFree Γ w ≡ freeAt Γ (v .row .kind) (v .operand)
-  due-free = rw (kind-of v, operand-of v)
-
   part-count : partCount w ≡ length (v .row .parts)
   part-count =
       ap (λ (x : Sort). found (rowIn (table x) (w % 256)) 0 (λ r. length (r .parts))) (sort-of v)
       ∙ ap (λ (k : ℕ). found (rowIn (table s) k) 0 (λ r. length (r .parts))) (kind-of v)
       ∙ rw (v .listed)
 
-  due-parts : opens (replicate (partCount w) (inside Γ w)) ≡ opens (replicate (length (v .row .parts)) Δ)
-  due-parts = rw (part-count, kind-of v)
-
   due-is : scopeDue Γ w ≡ cond (freeAt Γ (v .row .kind) (v .operand)) (refuses 5) (opens (replicate (length (v .row .parts)) Δ))
-  due-is = rw (due-free, due-parts)
+  due-is = rw (part-count, kind-of v, operand-of v)
 
   -- the walk over a tree is that over its word and its parts
   walk-is : (k : List ℕ) (ds : List (List Lang))

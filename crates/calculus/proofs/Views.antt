@@ -159,10 +159,6 @@ operand-of v = let h = v .small in omega arith
 pub sort-of : {s : Sort} {t : Tree s} (v : View s t) → sortOf (word (v .row .kind) (v .operand)) ≡ s
 sort-of v = ap sortOfKind (kind-of v) ∙ v .home
 
--- Where the kind is known, so is the row.
-pub row-of : {s : Sort} {t : Tree s} (v : View s t) (k : ℕ) (r : Row s) → v .row .kind ≡ k → rowIn (table s) k ≡ some r → v .row ≡ r
-row-of {s} v k r e q = let z : some (v .row) ≡ some r = sym (v .listed) ∙ ap (λ (j : ℕ). rowIn (table s) j) e ∙ q in cc
-
 -- A tree is one word more than its parts.
 pub sized : {s : Sort} {t : Tree s} (v : View s t) → sizeTree s t ≡ suc (sizeTrees (v .row .parts) (v .parts))
 sized {s} {t} v = omega (arith, tree-length s t [], ap length (v .spelt []), trees-length (v .row .parts) (v .parts) [])
