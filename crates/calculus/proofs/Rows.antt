@@ -13,7 +13,7 @@ use Rattle.calculus.specs.Trees.{ml, sc}
 use Rattle.calculus.specs.Words.{word, testNumber, put, putTy}
 use Rattle.calculus.specs.Limits.{InRange, nestingTy, nesting}
 use Rattle.calculus.proofs.Verdicts.{found-some}
-use Rattle.calculus.specs.Kinds.{Sort, type, term, Tree, Trees, putTree, putTrees, Row, plain, ranged, testOf, table, rowIn, rowFor}
+use Rattle.calculus.specs.Kinds.{Sort, type, term, Tree, Trees, putTree, putTrees, Row, plain, testOf, table, rowIn, rowFor}
 
 -- Ranges and nesting, of a tree of any sort and of trees in a row.
 abbrev pub TreeInRange : (s : Sort) → Tree s → Type 0
