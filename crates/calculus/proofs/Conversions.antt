@@ -52,8 +52,7 @@ unfolding crossing
 same-count numbers = (refl, refl)
 same-count (lumps h) = (refl, refl)
 same-count nils = (refl, refl)
-same-count (conses a b) =
-    let x = same-count a in let y = same-count b in (omega (arith, x .0, y .0), omega (arith, x .1, y .1))
+same-count (conses a b) = let x = same-count a in let y = same-count b in (omega (arith, x .0, y .0), omega (arith, x .1, y .1))
 
 type-bounded : (t : Ty) → suc (sizeTy t) ≤ boundaries t
 unfolding sizeTy boundaries
@@ -201,8 +200,7 @@ fits-arrives : {t : Ty} {v : Term sc} → Fits t v → Reaches (ms t v) (Value m
 fits-arrives number = reached _ ms-number numV
 fits-arrives (anything h) = (0, _, stay, lumpV h)
 fits-arrives fits-nil = reached _ ms-nil nilV
-fits-arrives (fits-cons {t} a b) =
-    cons-conversion t (fits-value a) (fits-value b) none none (a, fits-arrives a) (b, fits-arrives b) .1
+fits-arrives (fits-cons {t} a b) = cons-conversion t (fits-value a) (fits-value b) none none (a, fits-arrives a) (b, fits-arrives b) .1
 fits-arrives function = reached _ ms-lambda lamV
 
 first-code : (P : ℕ → Type 0) (x y : Option ℕ) (c : ℕ) → (x ≡ some c → P c) → (y ≡ some c → P c) → first x y ≡ some c → P c
@@ -246,13 +244,7 @@ module _ (t : Ty) {v : Term sc} (h : Value sc v) (k : Typed [] v tt) where
 crosses : (t : Ty) {v : Term sc} (h : Value sc v) → Typed [] v tt → Crosses t h
 crosses t h k =
     let x = decided t h k (misfit t h) (conversion t h) in
-    record {
-      arrives = x .1;
-      fails = x .2;
-      error-run = λ c q. fails-run _ c (x .2 c .0 q);
-      fits = x .0;
-      codes = data-codes t h;
-    }
+    record { arrives = x .1; fails = x .2; error-run = λ c q. fails-run _ c (x .2 c .0 q); fits = x .0; codes = data-codes t h }
 
 -- An ML value of any type arrives in Scheme, and fits.
 abbrev Arrival : Term ml → Ty → Type 0
@@ -297,11 +289,7 @@ lambda-raises-nothing t u b k n c r p a =
     value-or-error (t to u) {e = ms (t to u) (lam tt b)} (k, refl) (reached _ ms-lambda lamV) (n, r, p, a)
 
 wraps : (t u : Ty) (b : Term sc) → Typed [] (lam tt b) tt → Wraps t u b
-wraps t u b k =
-    record {
-      wrapped = then (rule ms-lambda) stay;
-      raises-nothing = lambda-raises-nothing t u b k;
-    }
+wraps t u b k = record { wrapped = then (rule ms-lambda) stay; raises-nothing = lambda-raises-nothing t u b k }
 
 -- fn nil, called as an N to N.
 late-error : (n : ℕ) → Steps 5 (app (ms (N to N) (lam tt (nil tt))) (num n)) (wrong 1 N)

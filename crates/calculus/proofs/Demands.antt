@@ -23,18 +23,15 @@ exactly-one : {l : Lang} (r : Term l) (τ : Static l) (o : Outcome l) → Scoped
 exactly-one r τ value c q k = let v = value-step-iff r .0 q in the-first v (λ x. value-no-error v (x .1)) (λ x. value-no-step c v (x .1))
 exactly-one r τ (raised n) c q k =
     let a = raised-iff r n c .0 q in the-second (λ v. value-no-error v a) (n, a) (λ x. error-no-step c a (x .1))
-exactly-one r τ (next s) c q k =
-    let a = next-iff r s c .0 q in the-third (λ v. value-no-step c v a) (λ x. error-no-step c (x .1) a) (s, a)
+exactly-one r τ (next s) c q k = let a = next-iff r s c .0 q in the-third (λ v. value-no-step c v a) (λ x. error-no-step c (x .1) a) (s, a)
 exactly-one r τ stuck c q k = absurd k
 
 typed-sound : {l : Lang} (r : Term l) (τ : Static l) → Typed [] r τ → Sound τ r
-typed-sound r τ h =
-    let c = typed-scoped [] r τ h in record { typed = h; scoped = c; one = exactly-one r τ (step r) c refl (sound r τ h) }
+typed-sound r τ h = let c = typed-scoped [] r τ h in record { typed = h; scoped = c; one = exactly-one r τ (step r) c refl (sound r τ h) }
 
 steps-typed : {l : Lang} {n : ℕ} {e r : Term l} (τ : Static l) → Steps n e r → Typed [] e τ → Typed [] r τ
 steps-typed τ stay h = h
-steps-typed τ (then {e = e} {f} a p) h =
-    steps-typed τ p (subst (Kept τ) (next-iff e f (typed-scoped [] e τ h) .1 a) (sound e τ h))
+steps-typed τ (then {e = e} {f} a p) h = steps-typed τ p (subst (Kept τ) (next-iff e f (typed-scoped [] e τ h) .1 a) (sound e τ h))
 
 -- The first half holds "from every well-typed term whose variables have their lambdas, with that term's type as the declared one". A term
 -- that has a type in no lambdas has its variables' lambdas in itself.
@@ -54,8 +51,4 @@ operate-more bytes limit first second limit′ first′ second′ r hl hc q f =
 
 -- Demand 3.
 pub demand-3 : (bytes : List ℕ) → Demand3 bytes
-demand-3 bytes =
-    record {
-      accepted = λ τ e q. typed-safe e τ (check-iff bytes τ e .0 q .typed);
-      runs = operate-more bytes;
-    }
+demand-3 bytes = record { accepted = λ τ e q. typed-safe e τ (check-iff bytes τ e .0 q .typed); runs = operate-more bytes }

@@ -1,5 +1,4 @@
--- Refusals 3 and 4: the walk with levels takes exactly the words of a tree in range that is nested within the levels, and the walk of the
--- reader of nodes is the same walk with as many levels as there are words. Assumes nothing.
+-- Refusals 3 and 4: the walk with levels takes exactly the words of a tree in range that is nested within the levels. Assumes nothing.
 use Prim.Native.Nat.{ℕ, zero, suc, _+_, _-_, _/_, _≤_}
 use mathlib.Core.Bool.{Bool, true, false, cond}
 use mathlib.Core.List.{List, [], _∷_, _++_}

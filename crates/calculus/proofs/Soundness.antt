@@ -118,8 +118,7 @@ contract1-typed : {l : Lang} (o : Op1 l) (v : Term l) (t τ : Static l) → Type
     → Preserved τ (contract1 o v)
 unfolding contract1
 contract1-typed (HD {l}) v t τ h r f = by-list τ (form v) _ (amiss-typed l τ 3) τ _ _ (rw r at f) refl (λ a b p q. p)
-contract1-typed (TL {l}) v t τ h r f =
-    by-list τ (form v) _ (amiss-typed l τ 3) (r .0) _ _ (rw (r .1) at f) (r .2) (λ a b p q. rw (r .2) q)
+contract1-typed (TL {l}) v t τ h r f = by-list τ (form v) _ (amiss-typed l τ 3) (r .0) _ _ (rw (r .1) at f) (r .2) (λ a b p q. rw (r .2) q)
 contract1-typed FIX v t τ h r f =
     by-lambda {l = ml} τ (form v) _ tt τ τ _ (rw r at f) (λ b p. substitute-typed (fix v) τ (t, h, r) [] b τ p)
 contract1-typed NULL? v t τ h r f = by-list {l = ml} τ (form v) _ tt (r .0) _ _ (rw (r .1) at f) (r .2) (λ a b p q. r .2)
@@ -163,8 +162,7 @@ op2-placed l ADD a b τ t u h k r f g =
     own-placed (op2 ADD a b) τ
     (numbers-typed l τ a b _ (rw (r .0) at f) (rw (r .1) at g)
     (λ n m. cond-typed τ (leb (n + m) largest) (num (n + m)) (wrong 5 (numbers l)) (r .2) (r .2)))
-op2-placed l SUB a b τ t u h k r f g =
-    own-placed (op2 SUB a b) τ (numbers-typed l τ a b _ (rw (r .0) at f) (rw (r .1) at g) (λ n m. r .2))
+op2-placed l SUB a b τ t u h k r f g = own-placed (op2 SUB a b) τ (numbers-typed l τ a b _ (rw (r .0) at f) (rw (r .1) at g) (λ n m. r .2))
 op2-placed l CONS a b τ t u h k r f g = (t, u, h, k, r)
 
 ms-placed : (t : Ty) (a : Term sc) → Typed [] a tt → FormTyped (form a) tt → Placed (ms t a) t (own (isLump t) (ms t a))

@@ -37,20 +37,11 @@ Spliced e stuck = Unit {0}
 outcome-spliced : {m l : Lang} (e : Term l) (F : Context m l) (n : Term m) → turn e ≡ at m F n → fill F n ≡ e
     → (b : Became m) → contract n ≡ b → Spliced e (outcome F b)
 outcome-spliced e F n q s (becomes x) c =
-    record {
-      lang = _;
-      place = F;
-      node = n;
-      became = x;
-      turns = q;
-      contracts = c;
-      was = ap words (sym s) ∙ words-fill F n;
-      is = words-fill F x;
-    }
+    let was = ap words (sym s) ∙ words-fill F n in
+    record { lang = _; place = F; node = n; became = x; turns = q; contracts = c; was = was; is = words-fill F x }
 outcome-spliced e F n q s (raises c) d = tt
 outcome-spliced e F n q s nothing d = tt
 
 -- Every step is such a one.
 pub step-splice : {l : Lang} (e r : Term l) → step e ≡ next r → Splice e r
-step-splice e r q =
-    subst (Spliced e) q (step-by (Spliced e) e tt (λ m F n t s. outcome-spliced e F n t s (contract n) refl))
+step-splice e r q = subst (Spliced e) q (step-by (Spliced e) e tt (λ m F n t s. outcome-spliced e F n t s (contract n) refl))

@@ -1,15 +1,14 @@
 -- Whose turn it is: `turn` finds, in any term that is no value, the one node in an evaluation context that is ready for a rule.
 -- So a step is a node replaced at its place. Assumes nothing.
 use mathlib.Core.Bool.{Bool, true, false}
-use mathlib.Core.Logic.{_↔_}
-use mathlib.Core.Path.{_≡_, refl, ap, subst}
+use mathlib.Core.Path.{_≡_, refl, ap}
 use lib.Dec.{T}
 use Rattle.calculus.specs.Trees.{Lang, Term, var, num, lam, op1, op2, if0, nil, wrong, ms, sm}
-use Rattle.calculus.specs.Reduction.{isLump, isCons, isValue, Frame, under, first, second, tested, intoML, intoScheme, plug, Context, here}
-use Rattle.calculus.specs.Reduction.{within, fill, contract, Turn, done, at, into, own, turn, Outcome, value, outcome, stepped, step}
+use Rattle.calculus.specs.Reduction.{isLump, isCons, Frame, under, first, second, tested, intoML, intoScheme, plug, Context, here, within, fill}
+use Rattle.calculus.specs.Reduction.{contract, Turn, done, at, into, own, turn, Outcome, value, outcome, stepped, step}
 use Rattle.calculus.specs.Rules.{Value, lamV, numV, nilV}
 use Rattle.calculus.specs.Evaluation.{Taken, Evaluated, Ready}
-use Rattle.calculus.proofs.Values.{cons-value, lump-value, value-iff, value-turn}
+use Rattle.calculus.proofs.Values.{cons-value, lump-value, value-turn}
 
 -- What a turn tells of its term: that it is a value, or where the ready node stands in it.
 abbrev pub Found : {l : Lang} → Term l → Turn l → Type 0
@@ -59,10 +58,6 @@ module _ {l : Lang} (P : Outcome l → Type 0) (e : Term l) (v : P value)
   pub step-by : P (step e)
   unfolding step
   step-by = by-turn (turn e) refl (turn-found e)
-
--- It is no node's turn in values alone.
-pub turn-done : {l : Lang} (e : Term l) → (turn e ≡ done) ↔ T (isValue e)
-turn-done e = (λ q. value-iff e .1 (subst (Found e) q (turn-found e)), λ h. value-turn (value-iff e .0 h))
 
 ready-turn : {l : Lang} (e : Term l) → Ready e → turn e ≡ at l here e
 unfolding turn

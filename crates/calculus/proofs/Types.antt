@@ -16,8 +16,7 @@ types-iff t u = (ap wordsTy, λ q. one-tree type t u [] [] tt tt q .0)
 
 -- So the check's comparison is one of words.
 same-words-iff : (t u : Ty) → (sameType ml t u ≡ true) ↔ (wordsTy t ≡ wordsTy u)
-same-words-iff t u =
-    let i = same-iff ml t u in let j = types-iff t u in (λ q. j .0 (i .0 q), λ q. i .1 (j .1 q))
+same-words-iff t u = let i = same-iff ml t u in let j = types-iff t u in (λ q. j .0 (i .0 q), λ q. i .1 (j .1 q))
 
 pub equal-by-words : EqualByWords
 equal-by-words = record { equal = types-iff; same = same-words-iff }

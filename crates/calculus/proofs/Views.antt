@@ -1,5 +1,5 @@
--- Every tree is what a row of the table makes: its row, its operand and its parts, with its words by them. It is the inversion by the kind
--- of the first word, for every kind at once, and gives induction over trees with one case. Assumes nothing.
+-- Every tree is what a row of the table makes: its row, its operand and its parts, with its words, ranges and scope by them. It is the
+-- inversion by the kind of the first word, for every kind at once, and gives induction over trees with one case. Assumes nothing.
 use Prim.Native.Nat.{ℕ, zero, suc, _/_, _%_, _≤_, _<_}
 use mathlib.Core.Bool.{Bool, true, false, cond, not}
 use mathlib.Core.List.{List, [], _∷_}

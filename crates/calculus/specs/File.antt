@@ -86,7 +86,7 @@ check bytes = unless (isSize (length bytes)) 1 0 (checkWords (wordsOf bytes))
 unfoldable pub runIn : ℕ → ℕ → Recipe → Verdict Result
 runIn limit cap x = unless (leb (size (x .1)) cap) 8 0 (passed (run limit cap uncounted (x .1)))
 
--- "Lent: the file, a step limit, two word buffers": the whole operation, by the buffers' lengths.
+-- "Lent: the file, a step limit .., two word buffers": the whole operation, by the buffers' lengths.
 unfoldable pub operate : List ℕ → ℕ → ℕ → ℕ → Verdict Result
 operate bytes limit first second = andThen (check bytes) (λ x. runIn limit (capacity first second) x)
 

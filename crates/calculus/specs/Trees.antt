@@ -2,7 +2,7 @@
 use Prim.Native.Nat.{ℕ}
 
 infixr 30 _to_
--- "1 N (number); 2 L (lump, a sealed Scheme value); 3 list, written {t}; 4 function, written t to u".
+-- "1 N (number); 2 L (lump, a sealed Scheme value); 3 list, written {t}: t; 4 function, written t to u: t, u."
 pub data Ty : Type 0 where
   N L : Ty
   list : Ty → Ty

@@ -33,8 +33,8 @@ Rule2 l ADD t u τ = (t ≡ numbers l) × (u ≡ numbers l) × (τ ≡ numbers l
 Rule2 l SUB t u τ = (t ≡ numbers l) × (u ≡ numbers l) × (τ ≡ numbers l)
 Rule2 l CONS t u τ = (u ≡ lists l t) × (τ ≡ lists l t)
 
--- "A number has type N, a variable the type written at its lambda. A lambda with type t and a body of type u has type t to u. if0 of an
--- N and two t has type t. nil t has type {t}. wrong t has type t. ms t of a well-formed Scheme term has type t. sm t of an ML term is
+-- "A number has type N, a variable the type written at its lambda. A lambda with type t and a body of type u has type t to u. .. if0 of an
+-- N and two t has type t. nil t has type {t}; .. wrong t has type t. ms t of a well-formed Scheme term has type t. sm t of an ML term is
 -- well formed exactly if that term has type t. Any other Scheme term is well formed exactly if its parts are."
 abbrev pub Typed : {l : Lang} → Lambdas → Term l → Static l → Type 0
 Typed Γ (var {l} i) τ = At Γ i l τ
