@@ -367,11 +367,7 @@ back-data (t to u) h =
 -- Functions are not data.
 functions : Functions
 functions =
-    record {
-      late = late-error;
-      changed = no-lambda-back;
-      exactly = λ t. (λ d v h k. (crossing t v, survives t d .ml-back v h k), back-data t);
-    }
+    record { late = late-error; changed = no-lambda-back; exactly = λ t. (λ d v h k. (crossing t v, survives t d .ml-back v h k), back-data t) }
 
 pub conversions : Conversions
 conversions = record { survives = survives; crosses = crosses; leaves = leaves; seals = seals; wraps = wraps; functions = functions }

@@ -102,8 +102,4 @@ ends-iff limit cap e τ h x = (
 -- Exactly one exists.
 pub ending : (limit cap : ℕ) (e : Term ml) (τ : Ty) → Typed [] e τ → Ending limit cap e
 ending limit cap e τ h =
-    record {
-      result = run limit cap uncounted e;
-      ends = ends-iff limit cap e τ h (run limit cap uncounted e) .1 refl;
-      only = λ r p. sym (ends-run τ h p);
-    }
+    record { result = run limit cap uncounted e; ends = ends-iff limit cap e τ h _ .1 refl; only = λ r p. sym (ends-run τ h p) }

@@ -11,7 +11,7 @@ use lib.Seq.{length-take-le}
 use native.Mathlib.Omega.{arith}
 use Rattle.calculus.specs.Trees.{Ty, Lang, ml, Term}
 use Rattle.calculus.specs.Kinds.{Sort, type, term, Row, rowFor}
-use Rattle.calculus.specs.Verdicts.{found, Verdict, refused, passed, andThen, unless, orRefuse}
+use Rattle.calculus.specs.Verdicts.{Verdict, refused, passed, andThen, unless, orRefuse}
 use Rattle.calculus.specs.Reading.{Act, opens, refuses, later, acted, walk, noneLeft, nestedDue, levels, levelled, inOrder, readTree}
 use Rattle.calculus.specs.Scope.{isFree, inside, partCount, scopeDue}
 use Rattle.calculus.specs.Inference.{sameType, infer}
@@ -21,6 +21,7 @@ use Rattle.calculus.specs.Words.{size}
 use Rattle.calculus.specs.Run.{Result, uncounted, run, capacity}
 use Rattle.calculus.proofs.Verdicts.{not-both}
 use Rattle.calculus.proofs.Walks.{reach, walk-reach}
+use Rattle.calculus.proofs.Nesting.{nestedBy}
 use Rattle.calculus.proofs.Files.{header-iff}
 
 -- A refusal's place is at most b.
@@ -81,23 +82,19 @@ proper-walk f h [] (d ∷ ds) = refusing 3 0 (omega arith)
 proper-walk f h (w ∷ ws) [] = passing
 proper-walk f h (w ∷ ws) (d ∷ ds) = proper-acted (length ws) (f d w) (h d w) (λ ps. proper-walk f h ws (ps ++ ds))
 
+due-cond : {D : Type 0} (t : Bool) (a b : Act D) → Due a → Due b → Due (cond t a b)
+due-cond true a b h k = h
+due-cond false a b h k = k
+
 due-nested : (d : Sort × ℕ) (w : ℕ) → Due (nestedDue d w)
 due-nested d w = by (rowFor (d .0) w)
   where
-    level : (t : Bool) (r : Row (d .0)) → Due (cond t (refuses 4) (opens (levelled (d .1 - 1) (r .parts))))
-    level true r = omega arith
-    level false r = tt
-
-    by : (o : Option (Row (d .0))) → Due (found o (refuses 3) (λ r. cond (eqb (d .1) 0) (refuses 4) (opens (levelled (d .1 - 1) (r .parts)))))
+    by : (o : Option (Row (d .0))) → Due (nestedBy (d .1) o)
     by none = omega arith
-    by (some r) = level (eqb (d .1) 0) r
+    by (some r) = due-cond (eqb (d .1) 0) (refuses 4) (opens (levelled (d .1 - 1) (r .parts))) (omega arith) tt
 
 due-scope : (Γ : List Lang) (w : ℕ) → Due (scopeDue Γ w)
-due-scope Γ w = by (isFree Γ w)
-  where
-    by : (t : Bool) → Due (cond t (refuses 5) (opens (replicate (partCount w) (inside Γ w))))
-    by true = omega arith
-    by false = tt
+due-scope Γ w = due-cond (isFree Γ w) (refuses 5) (opens (replicate (partCount w) (inside Γ w))) (omega arith) tt
 
 proper-order : (s : Sort) (ws : List ℕ) → Proper (length ws) (inOrder s ws)
 unfolding inOrder
