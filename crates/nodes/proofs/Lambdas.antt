@@ -4,10 +4,10 @@ use Prim.Native.Nat.{ℕ, zero, suc, _+_, _-_, _/_, _%_, _≤_, _<_}
 use mathlib.Core.Bool.{Bool, true, false, cond, not}
 use mathlib.Core.List.{List, _∷_}
 use mathlib.Core.Path.{_≡_, refl, sym, ap, _∙_}
-use lib.Dec.{eqb}
+use lib.Dec.{eqb, leb}
 use lib.ListN.{length, getD, set}
 use lib.Seq.{getD-set-same, getD-set-other}
-use borrow.Author.Tests.{eq-eqb, ne-eqb, eqb-true, eqb-false}
+use borrow.Author.Tests.{eq-eqb, ne-eqb, eqb-true, eqb-false, leb-true}
 use native.Mathlib.Numerals.{add-one}
 use native.Mathlib.Omega.{arith}
 use Rattle.calculus.specs.Verdicts.{found}
@@ -18,7 +18,7 @@ use Rattle.nodes.specs.declared.kinds.Row as code
 use Rattle.nodes.specs.Table.{rowOf, rows, listed}
 use Rattle.nodes.specs.Walks.{sortsOf}
 use Rattle.nodes.specs.Languages.{langOf, lambdasIn, WordIn, Entered}
-use Rattle.nodes.proofs.Table.{not-in, past, by-table}
+use Rattle.nodes.proofs.Table.{not-in, past, by-table, by-rows}
 
 -- What hangs on two kinds, ML's and Scheme's, hangs on the shape that they share and the sort.
 module _ {X : Type 0} (a b c : X) where
@@ -43,7 +43,17 @@ module _ {X : Type 0} (a b c : X) where
   unfolding by-kinds by-shape rowOf
   by-lambda k = agree 18 34 3 (omega arith) (omega arith) (λ p. omega (arith, p)) refl k
 
--- How many parts a kind has.
+-- How many parts a kind has: by its row, and by the sorts that its parts stand for.
+pub row-count : (w : ℕ) → rowOf (w % 256) .count ≡ partCount w
+unfolding rowOf
+row-count w =
+    by-table (λ k. rowOf k .count) (λ k. found (rowIn (table (sortOfKind k)) k) 0 (λ r. length (r .parts))) refl
+    (λ k h. rw (past k h, not-in (table type) tt k h, not-in (table (term ml)) tt k h, not-in (table (term sc)) tt k h)) (w % 256)
+
+pub count-few : (k : ℕ) → rowOf k .count ≤ 3
+unfolding rowOf
+count-few k = leb-true (rowOf k .count) 3 (by-rows (λ r. leb (r .count) 3) (λ r. true) refl refl k)
+
 pub part-count : (w : ℕ) → partCount w ≡ length (sortsOf (rowOf (w % 256) .parts))
 unfolding rowOf sortsOf
 part-count w =

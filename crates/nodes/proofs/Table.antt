@@ -29,7 +29,15 @@ same-list f g n e k h = sym (listed-at f (f 0) n k h) ∙ ap (λ (l : List _). g
 
 -- A row from its number.
 abbrev pub unpacked : ℕ → code.Row
-unpacked r = record { sort = r % 5; parts = r / 5 % 125; shape = r / 625 % 64; low = r / 40000 % 2; high = r / 80000 }
+unpacked r =
+    record {
+      sort = r % 8;
+      parts = r / 8 % 128;
+      shape = r / 1024 % 64;
+      count = r / 65536 % 4;
+      low = r / 262144 % 2;
+      high = r / 524288;
+    }
 
 pub unpacked-at : (k : ℕ) → k < rows → unpacked (getD kinds k 0) ≡ rowOf k
 unfolding kinds rowOf

@@ -1,6 +1,7 @@
 -- The table of kinds as code has it, computed from the table of the calculus.
 use Prim.Native.Nat.{ℕ, zero, suc, _+_, _*_}
 use mathlib.Core.List.{List, [], _∷_}
+use lib.ListN.{length}
 use Rattle.calculus.specs.Verdicts.{found}
 use Rattle.calculus.specs.Trees.{N, L, list, _to_, ml, sc, var, num, lam, op1, op2, if0, nil, wrong, ms, sm}
 use Rattle.calculus.specs.Kinds.{Sort, type, term, Tree, Trees, Row, table, rowIn, sortOfKind}
@@ -49,12 +50,13 @@ entry {s} r =
       sort = sortNumber s;
       parts = sortsNumber (r .parts);
       shape = shapeNumber s (r .make (r .low) (anyTrees (r .parts)));
+      count = length (r .parts);
       low = r .low;
       high = r .high;
     }
 
 abbrev pub noEntry : code.Row
-noEntry = record { sort = 0; parts = 0; shape = 0; low = 0; high = 0 }
+noEntry = record { sort = 0; parts = 0; shape = 0; count = 0; low = 0; high = 0 }
 
 unfoldable pub rowOf : ℕ → code.Row
 rowOf k = found (rowIn (table (sortOfKind k)) k) noEntry (λ r. entry r)
@@ -65,7 +67,7 @@ rows = 64
 
 -- A row in one number, and the whole table.
 abbrev pub packed : code.Row → ℕ
-packed r = r .sort + 5 * r .parts + 625 * r .shape + 40000 * r .low + 80000 * r .high
+packed r = r .sort + 8 * r .parts + 1024 * r .shape + 65536 * r .count + 262144 * r .low + 524288 * r .high
 
 abbrev pub listed {ℓ} : {A : Type ℓ} → (ℕ → A) → ℕ → ℕ → List A
 listed f k zero = []

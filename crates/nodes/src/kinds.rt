@@ -1,7 +1,8 @@
 // The one table of kinds, which reader, checker and reducer look up.
 
 ghost use mathlib.Core.Path.{_≡_};
-ghost use Prim.Native.Nat.{_%_};
+ghost use Prim.Native.Nat.{_%_, _≤_};
+ghost use Rattle.calculus.specs.Scope.{partCount};
 ghost use Rattle.nodes.specs.Table.{rowOf, kinds};
 
 // The sorts of nodes are digits. 0 is none, and 4 is free.
@@ -40,18 +41,29 @@ pub const LIST: u64 = 12;
 
 pub const FUNCTION: u64 = 13;
 
-// The places of a row's columns: its parts' sorts, its shape, and its operand's range.
-const FIRST: u64 = BASE;
+// The places of a row's columns: its sort; its parts' sorts, as digits in base 5; its shape; how many parts it has; and its operand's range. They
+// are powers of two, so that a column is read by a shift and a mask.
+const SORTS: u64 = 8;
+
+const FIRST: u64 = SORTS;
 
 const SECOND: u64 = BASE * FIRST;
 
 const THIRD: u64 = BASE * SECOND;
 
-const SHAPE: u64 = BASE * THIRD;
+const PARTS: u64 = 128;
+
+const SHAPE: u64 = PARTS * FIRST;
 
 const SHAPES: u64 = 64;
 
-const FROM_ONE: u64 = SHAPES * SHAPE;
+const ONE: u64 = SHAPES * SHAPE;
+
+const TWO: u64 = 2 * ONE;
+
+const THREE: u64 = 3 * ONE;
+
+const FROM_ONE: u64 = 4 * ONE;
 
 const UP_TO: u64 = 2 * FROM_ONE;
 
@@ -69,8 +81,8 @@ pub const KINDS: Kinds = [
     0,
     TYPE + SHAPE * NUMBERS, // 1 N
     TYPE + SHAPE * LUMP, // 2 L
-    TYPE + FIRST * TYPE + SHAPE * LIST, // 3 list
-    TYPE + FIRST * TYPE + SECOND * TYPE + SHAPE * FUNCTION, // 4 function
+    TYPE + ONE + FIRST * TYPE + SHAPE * LIST, // 3 list
+    TYPE + TWO + FIRST * TYPE + SECOND * TYPE + SHAPE * FUNCTION, // 4 function
     0,
     0,
     0,
@@ -84,34 +96,34 @@ pub const KINDS: Kinds = [
     0,
     ML + SHAPE * VARIABLE + UP_TO * LARGEST, // 16 variable
     ML + SHAPE * NUMBER + UP_TO * LARGEST, // 17 number
-    ML + FIRST * TYPE + SECOND * ML + SHAPE * LAMBDA, // 18 lambda
-    ML + FIRST * ML + SECOND * ML + SHAPE * OPERATOR_2, // 19 application
-    ML + FIRST * ML + SHAPE * OPERATOR_1, // 20 fix
-    ML + FIRST * ML + SECOND * ML + SHAPE * OPERATOR_2, // 21 add
-    ML + FIRST * ML + SECOND * ML + SHAPE * OPERATOR_2, // 22 subtract
-    ML + FIRST * ML + SECOND * ML + THIRD * ML + SHAPE * IF0, // 23 if0
-    ML + FIRST * TYPE + SHAPE * NIL, // 24 nil
-    ML + FIRST * ML + SECOND * ML + SHAPE * OPERATOR_2, // 25 cons
-    ML + FIRST * ML + SHAPE * OPERATOR_1, // 26 hd
-    ML + FIRST * ML + SHAPE * OPERATOR_1, // 27 tl
-    ML + FIRST * ML + SHAPE * OPERATOR_1, // 28 null?
-    ML + FIRST * TYPE + SHAPE * WRONG + FROM_ONE + UP_TO * LAST_CODE, // 29 wrong
-    ML + FIRST * TYPE + SECOND * SCHEME + SHAPE * BOUNDARY, // 30 ms
+    ML + TWO + FIRST * TYPE + SECOND * ML + SHAPE * LAMBDA, // 18 lambda
+    ML + TWO + FIRST * ML + SECOND * ML + SHAPE * OPERATOR_2, // 19 application
+    ML + ONE + FIRST * ML + SHAPE * OPERATOR_1, // 20 fix
+    ML + TWO + FIRST * ML + SECOND * ML + SHAPE * OPERATOR_2, // 21 add
+    ML + TWO + FIRST * ML + SECOND * ML + SHAPE * OPERATOR_2, // 22 subtract
+    ML + THREE + FIRST * ML + SECOND * ML + THIRD * ML + SHAPE * IF0, // 23 if0
+    ML + ONE + FIRST * TYPE + SHAPE * NIL, // 24 nil
+    ML + TWO + FIRST * ML + SECOND * ML + SHAPE * OPERATOR_2, // 25 cons
+    ML + ONE + FIRST * ML + SHAPE * OPERATOR_1, // 26 hd
+    ML + ONE + FIRST * ML + SHAPE * OPERATOR_1, // 27 tl
+    ML + ONE + FIRST * ML + SHAPE * OPERATOR_1, // 28 null?
+    ML + ONE + FIRST * TYPE + SHAPE * WRONG + FROM_ONE + UP_TO * LAST_CODE, // 29 wrong
+    ML + TWO + FIRST * TYPE + SECOND * SCHEME + SHAPE * BOUNDARY, // 30 ms
     0,
     SCHEME + SHAPE * VARIABLE + UP_TO * LARGEST, // 32 variable
     SCHEME + SHAPE * NUMBER + UP_TO * LARGEST, // 33 number
-    SCHEME + FIRST * SCHEME + SHAPE * LAMBDA, // 34 lambda
-    SCHEME + FIRST * SCHEME + SECOND * SCHEME + SHAPE * OPERATOR_2, // 35 application
-    SCHEME + FIRST * SCHEME + SECOND * SCHEME + SHAPE * OPERATOR_2, // 36 add
-    SCHEME + FIRST * SCHEME + SECOND * SCHEME + SHAPE * OPERATOR_2, // 37 subtract
-    SCHEME + FIRST * SCHEME + SECOND * SCHEME + THIRD * SCHEME + SHAPE * IF0, // 38 if0
+    SCHEME + ONE + FIRST * SCHEME + SHAPE * LAMBDA, // 34 lambda
+    SCHEME + TWO + FIRST * SCHEME + SECOND * SCHEME + SHAPE * OPERATOR_2, // 35 application
+    SCHEME + TWO + FIRST * SCHEME + SECOND * SCHEME + SHAPE * OPERATOR_2, // 36 add
+    SCHEME + TWO + FIRST * SCHEME + SECOND * SCHEME + SHAPE * OPERATOR_2, // 37 subtract
+    SCHEME + THREE + FIRST * SCHEME + SECOND * SCHEME + THIRD * SCHEME + SHAPE * IF0, // 38 if0
     SCHEME + SHAPE * NIL, // 39 nil
-    SCHEME + FIRST * SCHEME + SECOND * SCHEME + SHAPE * OPERATOR_2, // 40 cons
-    SCHEME + FIRST * SCHEME + SHAPE * OPERATOR_1, // 41 hd
-    SCHEME + FIRST * SCHEME + SHAPE * OPERATOR_1, // 42 tl
-    SCHEME + FIRST * SCHEME + SHAPE * OPERATOR_1 + UP_TO * 3, // 43 test
+    SCHEME + TWO + FIRST * SCHEME + SECOND * SCHEME + SHAPE * OPERATOR_2, // 40 cons
+    SCHEME + ONE + FIRST * SCHEME + SHAPE * OPERATOR_1, // 41 hd
+    SCHEME + ONE + FIRST * SCHEME + SHAPE * OPERATOR_1, // 42 tl
+    SCHEME + ONE + FIRST * SCHEME + SHAPE * OPERATOR_1 + UP_TO * 3, // 43 test
     SCHEME + SHAPE * WRONG + FROM_ONE + UP_TO * LAST_CODE, // 44 wrong
-    SCHEME + FIRST * TYPE + SECOND * ML + SHAPE * BOUNDARY, // 45 sm
+    SCHEME + TWO + FIRST * TYPE + SECOND * ML + SHAPE * BOUNDARY, // 45 sm
     0,
     0,
     0,
@@ -132,12 +144,13 @@ pub const KINDS: Kinds = [
     0,
 ];
 
-// What the table says of a kind: its sort, its parts' sorts (the first in the lowest digit, in base 5; 0 ends them), its shape, and the least
-// and the greatest operand.
+// What the table says of a kind: its sort, its parts' sorts (the first in the lowest digit, in base 5; 0 ends them), its shape, how many parts it
+// has, and the least and the greatest operand.
 pub struct Row {
     pub sort: u64,
     pub parts: u64,
     pub shape: u64,
+    pub count: usize,
     pub low: u64,
     pub high: u64,
 }
@@ -153,16 +166,28 @@ pub fn row_at(table: &Kinds, w: u32) -> Row
             sort: 0,
             parts: 0,
             shape: 0,
+            count: 0,
             low: 0,
             high: 0,
         };
     }
     let r = table[k];
     Row {
-        sort: r % BASE,
-        parts: r / FIRST % THIRD,
+        sort: r % SORTS,
+        parts: r / FIRST % PARTS,
         shape: r / SHAPE % SHAPES,
+        count: (r / ONE % 4) as usize,
         low: r / FROM_ONE % 2,
         high: r / UP_TO,
     }
+}
+
+// How many parts the node of a word has.
+pub fn part_count(table: &Kinds, w: u32) -> usize
+    requires { ⌜ now table ≡ kinds ⌝ }
+    ensures { λ r. ⌜ r ≡ partCount w ⌝ }
+    ensures most { λ r. ⌜ r ≤ 3 ⌝ }
+{
+    let row = row_at(table, w);
+    row.count
 }

@@ -1,7 +1,6 @@
 pub mod Stores
 pub mod Clearing
 pub mod Trees
-pub mod Digits
 pub mod Measures
 pub mod Lengths
 pub mod Replacing

@@ -2,8 +2,8 @@
 
 use crate::copy;
 use crate::put;
-use crate::spans::count;
 use nodes::kinds::Kinds;
+use nodes::kinds::part_count;
 use nodes::kinds::row_at;
 ghost use mathlib.Core.Path.{_≡_};
 ghost use Prim.Native.Nat.{_+_, _*_, _<_, _≤_};
@@ -60,7 +60,7 @@ pub fn substitute(
         }
         k = put(target, k, w);
         let row = row_at(table, w);
-        let parts = count(row.parts);
+        let parts = part_count(table, w);
         if row.shape != nodes::kinds::LAMBDA {
             left += parts;
             continue;

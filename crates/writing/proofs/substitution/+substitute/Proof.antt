@@ -8,8 +8,6 @@ use native.Mathlib.Omega.{arith}
 use Rattle.calculus.specs.Scope.{partCount}
 use Rattle.nodes.specs.Table.{rowOf}
 use Rattle.nodes.specs.Walks.{sortsOf}
-use Rattle.nodes.proofs.Dues.{parts-digits}
-use Rattle.nodes.proofs.Lambdas.{part-count}
 use Rattle.nodes.proofs.Ways.{part-length}
 use Rattle.writing.proofs.Stores.{wrote-length}
 use Rattle.writing.proofs.Turns.{Begun, begins, ends, breaks, replaces, passes, enters, descends}
@@ -21,7 +19,7 @@ use Rattle.writing.proofs.substitution.+substitute.Lts-substitute as lt
 use Rattle.nodes.proofs.kinds.row_at.Reads as row-at-reads
 use Rattle.writing.proofs.copy.Reads as copy-reads
 use Rattle.writing.proofs.put.Reads as put-reads
-use Rattle.writing.proofs.spans.count.Reads as count-reads
+use Rattle.nodes.proofs.kinds.part_count.Reads as count-reads
 use Rattle.writing.proofs.substitution.+substitute.{statement}
 use Rattle.writing.proofs.substitution.+substitute.Tie.{close}
 
@@ -68,11 +66,9 @@ looped c = c .before .before .before .before .before .before .before .before .be
 abbrev started : {t : ℕ} (c : Stayed t) → lts.Start (calls t) (here t) substitute.Post Inv μ-loop
 started c = looped c .before .before .before .before
 
-counted : {t : ℕ} (c : Stayed t) → c .before .count .result ≡ partCount (getD (started c .args .words .now) (looped c .loop .i) 0)
+counted : {t : ℕ} (c : Stayed t) → c .before .part-count .result ≡ partCount (getD (started c .args .words .now) (looped c .loop .i) 0)
 counted c =
-    c .before .count .ensures .0
-    ∙ ap (λ r. length (sortsOf (r .parts))) (c .before .before .row-at .ensures)
-    ∙ sym (part-count (getD (started c .args .words .now) (looped c .loop .i) 0))
+    c .before .part-count .ensures .0
 
 shaped : {t : ℕ} (c : Stayed t)
     → c .before .before .row-at .result .shape ≡ rowOf (getD (started c .args .words .now) (looped c .loop .i) 0 % 256) .shape
@@ -149,8 +145,8 @@ substitute-put-requires t c κs =
 substitute-row-at-requires : (t : ℕ) → lts.Need-row-at-requires (calls t) (here t) substitute.Post Inv μ-loop
 substitute-row-at-requires t c κs = search needs
 
-substitute-count-requires : (t : ℕ) → lts.Need-count-requires (calls t) (here t) substitute.Post Inv μ-loop
-substitute-count-requires t c κs = rw (c .row-at .ensures) (parts-digits _)
+substitute-part-count-requires : (t : ℕ) → lts.Need-part-count-requires (calls t) (here t) substitute.Post Inv μ-loop
+substitute-part-count-requires t c κs = search needs
 
 substitute-add-left : (t : ℕ) → lts.Need-add-left (calls t) (here t) substitute.Post Inv μ-loop
 substitute-add-left t c = search needs
@@ -164,7 +160,7 @@ substitute-loop-again-2 t c =
     let i = looped p .loop .inv in
     let w = written p .put .ensures in
     let some = p .before .before .before .before .before .before .before .before .before .before .loop-test .taken in (
-      omega arith,
+      one-read p,
       omega (arith, i .1, w .place),
       omega (arith, i .2, w .place),
       omega (arith, i .3),
@@ -284,7 +280,7 @@ pub +substitute-spec : {M : Type 1} → statement M
     (substitute-loop-again t)
     (substitute-put-requires t)
     (substitute-row-at-requires t)
-    (substitute-count-requires t)
+    (substitute-part-count-requires t)
     (substitute-add-left t)
     (substitute-loop-less-2 t)
     (substitute-loop-again-2 t)
