@@ -12,7 +12,7 @@ use native.Mathlib.Numerals.{add-one}
 use native.Mathlib.Omega.{arith}
 use Rattle.calculus.specs.Verdicts.{found}
 use Rattle.calculus.specs.Trees.{Lang, ml, sc}
-use Rattle.calculus.specs.Kinds.{type, term, Row, table, rowIn, sortOfKind}
+use Rattle.calculus.specs.Kinds.{type, term, table, rowIn, sortOfKind}
 use Rattle.calculus.specs.Scope.{sameLang, lambdaAt, isFree, inside, partCount}
 use Rattle.nodes.specs.declared.kinds.Row as code
 use Rattle.nodes.specs.Table.{rowOf, rows, listed}

@@ -7,7 +7,6 @@ use mathlib.Core.Path.{_≡_, refl, ap, _∙_, subst}
 use lib.Dec.{eqb}
 use lib.ListN.{getD}
 use Rattle.calculus.specs.Trees.{ml, sc}
-use Rattle.calculus.specs.Words.{word}
 use Rattle.calculus.specs.Kinds.{Sort, type, term, Tree, Trees, putTree, Row, table, rowIn}
 use Rattle.calculus.proofs.Views.{View, view, kind-of}
 use Rattle.nodes.specs.declared.kinds.Row as code
