@@ -17,7 +17,9 @@ slice-aggregate-step c =
 step-requires : tie.Need-step-requires
 step-requires c κs =
     let start = c .before .before .before .before .before in
-    let s = start in (record { table-is = s .pre .0; few = omega (arith, length-take-le (s .args .n) (s .args .first .now) (s .pre .1 .in-first), s .pre .1 .few) }, s .pre .2)
+    let s = start in
+    let l = length-take-le (s .args .n) (s .args .first .now) (s .pre .1 .in-first) in
+    (record { table-is = s .pre .0; few = omega (arith, l, s .pre .1 .few) }, s .pre .2)
 
 same-length : tie.Need-same-length
 same-length c = search needs
@@ -43,7 +45,9 @@ slice-aggregate-step-2 c =
 step-requires-2 : tie.Need-step-requires-2
 step-requires-2 c κs =
     let start = c .before .before .before .before .before in
-    let s = start in (record { table-is = s .pre .0; few = omega (arith, length-take-le (s .args .n) (s .args .second .now) (s .pre .1 .in-second), s .pre .1 .few) }, s .pre .2)
+    let s = start in
+    let l = length-take-le (s .args .n) (s .args .second .now) (s .pre .1 .in-second) in
+    (record { table-is = s .pre .0; few = omega (arith, l, s .pre .1 .few) }, s .pre .2)
 
 same-length-3 : tie.Need-same-length-3
 same-length-3 c = search needs
