@@ -25,9 +25,9 @@ use Rattle.calculus.proofs.Nesting.{nestedBy}
 use Rattle.calculus.proofs.Files.{header-iff}
 
 -- A refusal's place is at most b.
-abbrev pub Within : {A : Type 0} → ℕ → Verdict A → Type 0
-Within b (refused n p) = p ≤ b
-Within b (passed a) = Unit {0}
+abbrev pub PlaceWithin : {A : Type 0} → ℕ → Verdict A → Type 0
+PlaceWithin b (refused n p) = p ≤ b
+PlaceWithin b (passed a) = Unit {0}
 
 -- "The check alone never gives 8": a refusal's number is one of 1 to 7.
 abbrev pub Numbered : {A : Type 0} → Verdict A → Type 0
@@ -39,7 +39,7 @@ data Proper {A : Type 0} (b : ℕ) : Verdict A → Type 0 where
   refusing : (n p : ℕ) → (1 ≤ n) × (n ≤ 7) × (p ≤ b) → Proper b (refused n p)
   passing : {a : A} → Proper b (passed a)
 
-proper-within : {A : Type 0} {b : ℕ} {v : Verdict A} → Proper b v → Within b v
+proper-within : {A : Type 0} {b : ℕ} {v : Verdict A} → Proper b v → PlaceWithin b v
 proper-within (refusing n p h) = h .2
 proper-within passing = tt
 
@@ -132,7 +132,7 @@ proper-words ws = proper-unless (length ws) 2 0 (omega arith) (isHeader ws) (λ 
         proper-then (proper-or (length ws) 3 4 (omega arith) (readTree type types)) (λ τ.
         proper-then (proper-or (length ws) 3 start (omega arith) (readTree (term ml) terms)) (λ e. proper-typed (length ws) τ e)))))
 
-pub words-within : (ws : List ℕ) → Within (length ws) (checkWords ws)
+pub words-within : (ws : List ℕ) → PlaceWithin (length ws) (checkWords ws)
 words-within ws = proper-within (proper-words ws)
 
 proper-check : (bytes : List ℕ) → Proper (length (wordsOf bytes)) (check bytes)
@@ -140,7 +140,7 @@ unfolding check
 proper-check bytes = proper-unless (length (wordsOf bytes)) 1 0 (omega arith) (isSize (length bytes)) (λ h. proper-words (wordsOf bytes))
 
 -- Of every file that is refused.
-pub place-in-file : (bytes : List ℕ) → Within (length (wordsOf bytes)) (check bytes)
+pub place-in-file : (bytes : List ℕ) → PlaceWithin (length (wordsOf bytes)) (check bytes)
 place-in-file bytes = proper-within (proper-check bytes)
 
 pub number-in-table : (bytes : List ℕ) → Numbered (check bytes)

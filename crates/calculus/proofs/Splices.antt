@@ -6,11 +6,11 @@ use Rattle.calculus.specs.Trees.{Lang, Term}
 use Rattle.calculus.specs.Words.{put, words}
 use Rattle.calculus.specs.Reduction.{Became, becomes, raises, nothing, contract, Frame, under, first, second, tested, intoML, intoScheme, plug}
 use Rattle.calculus.specs.Reduction.{Context, here, within, fill, at, turn, Outcome, value, raised, next, stuck, outcome, step}
-use Rattle.calculus.specs.Splices.{before, after, wordsBefore, wordsAfter, Splice}
+use Rattle.calculus.specs.Splices.{wordsBeforeOpen, wordsAfterOpen, wordsBefore, wordsAfter, Splice}
 use Rattle.calculus.proofs.Sizes.{putTy-append, put-append}
 use Rattle.calculus.proofs.Turns.{step-by}
 
-put-plug : {m l : Lang} (f : Frame m l) (x : Term m) (k : List ℕ) → put (plug f x) k ≡ before f ++ put x (after f ++ k)
+put-plug : {m l : Lang} (f : Frame m l) (x : Term m) (k : List ℕ) → put (plug f x) k ≡ wordsBeforeOpen f ++ put x (wordsAfterOpen f ++ k)
 unfolding put
 put-plug (under o) x k = refl
 put-plug (first o b) x k = rw (put-append b [] k)
@@ -23,7 +23,7 @@ put-plug (intoScheme t) x k = rw (putTy-append t [] (put x k))
 pub put-fill : {m l : Lang} (F : Context m l) (x : Term m) (k : List ℕ) → put (fill F x) k ≡ wordsBefore F ++ put x (wordsAfter F ++ k)
 unfolding fill wordsBefore wordsAfter
 put-fill here x k = refl
-put-fill (within f F) x k = put-plug f (fill F x) k ∙ rw (put-fill F x (after f ++ k), append-assoc, append-assoc)
+put-fill (within f F) x k = put-plug f (fill F x) k ∙ rw (put-fill F x (wordsAfterOpen f ++ k), append-assoc, append-assoc)
 
 pub words-fill : {m l : Lang} (F : Context m l) (x : Term m) → words (fill F x) ≡ wordsBefore F ++ (words x ++ wordsAfter F)
 words-fill F x = put-fill F x [] ∙ rw (append-nil, put-append x [] (wordsAfter F))

@@ -30,8 +30,8 @@ abbrev pub plenty : Lent
 plenty = lent 1000000 4096
 
 -- A file that is run, with what is lent, ends: with an end, a code, steps made, words left and words wanted.
-abbrev pub Ends : List ℕ → Lent → End → ℕ → ℕ → List ℕ → ℕ → Type 0
-Ends file x end code steps left wanted =
+abbrev pub EndsAs : List ℕ → Lent → End → ℕ → ℕ → List ℕ → ℕ → Type 0
+EndsAs file x end code steps left wanted =
     operate (bytesOf file) (x .limit) (x .room) (x .room) ≡ passed (ended end code (record { steps = steps }) left wanted)
 
 -- A file is refused, with a number and a place.
@@ -39,34 +39,34 @@ abbrev pub Refuses : List ℕ → Lent → ℕ → ℕ → Type 0
 Refuses file x number place = operate (bytesOf file) (x .limit) (x .room) (x .room) ≡ refused number place
 
 -- (ms (N to N) (fn v0)) applied to 7.
-abbrev pub converted : List ℕ
-converted = 19 ∷ 30 ∷ 4 ∷ 1 ∷ 1 ∷ 34 ∷ 32 ∷ 1809 ∷ []
+abbrev pub convertedWords : List ℕ
+convertedWords = 19 ∷ 30 ∷ 4 ∷ 1 ∷ 1 ∷ 34 ∷ 32 ∷ 1809 ∷ []
 
 -- The recipes with a star.
 pub record Starred : Type 0 where
   -- add 2 3: value 5, 1 step; subtract 2 3: 0, 1; add 16,777,215 1: error 5, 2
-  pub sum : Ends (fileOf (1 ∷ []) (21 ∷ 529 ∷ 785 ∷ [])) plenty valued 0 1 (1297 ∷ []) 0
-  pub difference : Ends (fileOf (1 ∷ []) (22 ∷ 529 ∷ 785 ∷ [])) plenty valued 0 1 (17 ∷ []) 0
-  pub over : Ends (fileOf (1 ∷ []) (21 ∷ 4294967057 ∷ 273 ∷ [])) plenty error 5 2 [] 0
+  pub sum : EndsAs (fileOf (1 ∷ []) (21 ∷ 529 ∷ 785 ∷ [])) plenty valued 0 1 (1297 ∷ []) 0
+  pub difference : EndsAs (fileOf (1 ∷ []) (22 ∷ 529 ∷ 785 ∷ [])) plenty valued 0 1 (17 ∷ []) 0
+  pub over : EndsAs (fileOf (1 ∷ []) (21 ∷ 4294967057 ∷ 273 ∷ [])) plenty error 5 2 [] 0
   -- ms N (fn 0): error 1, 2 steps
-  pub no-number : Ends (fileOf (1 ∷ []) (30 ∷ 1 ∷ 34 ∷ 33 ∷ [])) plenty error 1 2 [] 0
+  pub no-number : EndsAs (fileOf (1 ∷ []) (30 ∷ 1 ∷ 34 ∷ 33 ∷ [])) plenty error 1 2 [] 0
   -- value 7, 5 steps; limit 4, spent; capacity 12 serves, 11 is full after 0 steps, wanting 12
-  pub function : Ends (fileOf (1 ∷ []) converted) plenty valued 0 5 (1809 ∷ []) 0
-  pub function-spent : Ends (fileOf (1 ∷ []) converted) (lent 4 4096) spent 0 4 (30 ∷ 1 ∷ 1825 ∷ []) 0
-  pub function-served : Ends (fileOf (1 ∷ []) converted) (lent 1000000 12) valued 0 5 (1809 ∷ []) 0
-  pub function-full : Ends (fileOf (1 ∷ []) converted) (lent 1000000 11) full 0 0 converted 12
+  pub function : EndsAs (fileOf (1 ∷ []) convertedWords) plenty valued 0 5 (1809 ∷ []) 0
+  pub function-spent : EndsAs (fileOf (1 ∷ []) convertedWords) (lent 4 4096) spent 0 4 (30 ∷ 1 ∷ 1825 ∷ []) 0
+  pub function-served : EndsAs (fileOf (1 ∷ []) convertedWords) (lent 1000000 12) valued 0 5 (1809 ∷ []) 0
+  pub function-full : EndsAs (fileOf (1 ∷ []) convertedWords) (lent 1000000 11) full 0 0 convertedWords 12
   -- ms N (sm L (ms L 4)): 4, 2 steps
-  pub unsealed : Ends (fileOf (1 ∷ []) (30 ∷ 1 ∷ 45 ∷ 2 ∷ 30 ∷ 2 ∷ 1057 ∷ [])) plenty valued 0 2 (1041 ∷ []) 0
+  pub unsealed : EndsAs (fileOf (1 ∷ []) (30 ∷ 1 ∷ 45 ∷ 2 ∷ 30 ∷ 2 ∷ 1057 ∷ [])) plenty valued 0 2 (1041 ∷ []) 0
   -- ms L (fn v0), limit 0: value, 0 steps
-  pub sealed : Ends (fileOf (2 ∷ []) (30 ∷ 2 ∷ 34 ∷ 32 ∷ [])) (lent 0 4096) valued 0 0 (30 ∷ 2 ∷ 34 ∷ 32 ∷ []) 0
+  pub sealed : EndsAs (fileOf (2 ∷ []) (30 ∷ 2 ∷ 34 ∷ 32 ∷ [])) (lent 0 4096) valued 0 0 (30 ∷ 2 ∷ 34 ∷ 32 ∷ []) 0
   -- fix (fn N v0), under limit 3: spent with its own four words left
-  pub endless : Ends (fileOf (1 ∷ []) (20 ∷ 18 ∷ 1 ∷ 16 ∷ [])) (lent 3 4096) spent 0 3 (20 ∷ 18 ∷ 1 ∷ 16 ∷ []) 0
+  pub endless : EndsAs (fileOf (1 ∷ []) (20 ∷ 18 ∷ 1 ∷ 16 ∷ [])) (lent 3 4096) spent 0 3 (20 ∷ 18 ∷ 1 ∷ 16 ∷ []) 0
   -- ms {N} (cons 1 2): error 3, 4 steps; hd (nil N): error 4, 2
-  pub no-list : Ends (fileOf (3 ∷ 1 ∷ []) (30 ∷ 3 ∷ 1 ∷ 40 ∷ 289 ∷ 545 ∷ [])) plenty error 3 4 [] 0
-  pub hd-of-nil : Ends (fileOf (1 ∷ []) (26 ∷ 24 ∷ 1 ∷ [])) plenty error 4 2 [] 0
+  pub no-list : EndsAs (fileOf (3 ∷ 1 ∷ []) (30 ∷ 3 ∷ 1 ∷ 40 ∷ 289 ∷ 545 ∷ [])) plenty error 3 4 [] 0
+  pub hd-of-nil : EndsAs (fileOf (1 ∷ []) (26 ∷ 24 ∷ 1 ∷ [])) plenty error 4 2 [] 0
   -- ms N (if0 nil 1 2): 2, 2 steps; ms N (add (fn v0) (wrong 300)): error 300, 1 step
-  pub third : Ends (fileOf (1 ∷ []) (30 ∷ 1 ∷ 38 ∷ 39 ∷ 289 ∷ 545 ∷ [])) plenty valued 0 2 (529 ∷ []) 0
-  pub own-code : Ends (fileOf (1 ∷ []) (30 ∷ 1 ∷ 36 ∷ 34 ∷ 32 ∷ 76844 ∷ [])) plenty error 300 1 [] 0
+  pub third : EndsAs (fileOf (1 ∷ []) (30 ∷ 1 ∷ 38 ∷ 39 ∷ 289 ∷ 545 ∷ [])) plenty valued 0 2 (529 ∷ []) 0
+  pub own-code : EndsAs (fileOf (1 ∷ []) (30 ∷ 1 ∷ 36 ∷ 34 ∷ 32 ∷ 76844 ∷ [])) plenty error 300 1 [] 0
 
 -- The small inputs of the table of refusals, fn N (ms N v0) with Scheme v0, and "3 before 4 at a word".
 pub record Refused : Type 0 where

@@ -8,29 +8,29 @@ use Rattle.calculus.specs.Reduction.{becomes, contract, Frame, under, fi
 use Rattle.calculus.specs.Reduction.{turn}
 
 -- The words of a node before and after its open part, and those of a term before and after a place.
-abbrev pub before : {m l : Lang} → Frame m l → List ℕ
-before (under o) = word1 o ∷ []
-before (first {l} o b) = word2 l o ∷ []
-before (second {l} o a) = word2 l o ∷ words a
-before (tested {l} b c) = by l 23 38 ∷ []
-before (intoML t) = 30 ∷ wordsTy t
-before (intoScheme t) = 45 ∷ wordsTy t
+abbrev pub wordsBeforeOpen : {m l : Lang} → Frame m l → List ℕ
+wordsBeforeOpen (under o) = word1 o ∷ []
+wordsBeforeOpen (first {l} o b) = word2 l o ∷ []
+wordsBeforeOpen (second {l} o a) = word2 l o ∷ words a
+wordsBeforeOpen (tested {l} b c) = by l 23 38 ∷ []
+wordsBeforeOpen (intoML t) = 30 ∷ wordsTy t
+wordsBeforeOpen (intoScheme t) = 45 ∷ wordsTy t
 
-abbrev pub after : {m l : Lang} → Frame m l → List ℕ
-after (under o) = []
-after (first o b) = words b
-after (second o a) = []
-after (tested b c) = put b (words c)
-after (intoML t) = []
-after (intoScheme t) = []
+abbrev pub wordsAfterOpen : {m l : Lang} → Frame m l → List ℕ
+wordsAfterOpen (under o) = []
+wordsAfterOpen (first o b) = words b
+wordsAfterOpen (second o a) = []
+wordsAfterOpen (tested b c) = put b (words c)
+wordsAfterOpen (intoML t) = []
+wordsAfterOpen (intoScheme t) = []
 
 unfoldable pub wordsBefore : {m l : Lang} → Context m l → List ℕ
 wordsBefore here = []
-wordsBefore (within f F) = before f ++ wordsBefore F
+wordsBefore (within f F) = wordsBeforeOpen f ++ wordsBefore F
 
 unfoldable pub wordsAfter : {m l : Lang} → Context m l → List ℕ
 wordsAfter here = []
-wordsAfter (within f F) = wordsAfter F ++ after f
+wordsAfter (within f F) = wordsAfter F ++ wordsAfterOpen f
 
 -- The step from e to r: the node whose turn it is, its place, what it becomes, and both terms in words.
 pub record Splice {l : Lang} (e r : Term l) : Type 0 where

@@ -15,9 +15,9 @@ use Rattle.writing.specs.Spans.{span}
 use Rattle.contraction.specs.declared.became.Became.the-variants.{Nothing, Becomes}
 use Rattle.contraction.specs.declared.became.Piece.the-variants.{Part}
 use Rattle.contraction.specs.Forms.{formAt}
-use Rattle.contraction.specs.Told.{Tells}
+use Rattle.contraction.specs.Pieces.{Tells}
 use Rattle.contraction.specs.Chosen.{OfIf}
-use Rattle.contraction.proofs.Views.{Formed, is-number, by-form}
+use Rattle.contraction.proofs.ByForm.{Formed, is-number, by-form}
 use Rattle.contraction.proofs.Parts.{Stands, stands}
 use Rattle.contraction.proofs.Looks.{no-number, number-of}
 

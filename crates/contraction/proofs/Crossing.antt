@@ -16,9 +16,9 @@ use Rattle.contraction.specs.declared.became.Became.{Became}
 use Rattle.contraction.specs.declared.became.Became.the-variants.{Nothing, Becomes}
 use Rattle.contraction.specs.declared.became.Piece.the-variants.{Part}
 use Rattle.contraction.specs.Forms.{isScheme}
-use Rattle.contraction.specs.Told.{Tells, misfitIn, numberIn, from, converted}
-use Rattle.contraction.specs.Chosen.{Value, AtType, AtList, AtFunction}
-use Rattle.contraction.proofs.Views.{Formed, is-number, is-lump, by-form}
+use Rattle.contraction.specs.Pieces.{Tells, misfitIn, numberIn, from, converted}
+use Rattle.contraction.specs.Chosen.{ValueAt, AtType, AtList, AtFunction}
+use Rattle.contraction.proofs.ByForm.{Formed, is-number, is-lump, by-form}
 use Rattle.contraction.proofs.Parts.{Stands, sized, stands}
 use Rattle.contraction.proofs.Looks.{no-number, no-lump, number-told, number-of}
 
@@ -62,7 +62,7 @@ in-ml {ws} {r} {t} g = record { of = ml-told ws r t g }
 pub in-scheme : {ws : List ℕ} {r : Became} {t : Ty} → IntoScheme ws r t → AtType ws true r t
 in-scheme {ws} {r} {t} g = record { of = scheme-told ws r t g }
 
-module _ {ws : List ℕ} {form-number value end : ℕ} (p : Value ws form-number value end) where
+module _ {ws : List ℕ} {form-number value end : ℕ} (p : ValueAt ws form-number value end) where
   -- The type, the value after it, and the value's form.
   pub type-stands : (l : Lang) (t : Ty) (v : Term l) (k : List ℕ) → drop 1 ws ≡ putTy t (put v k) → Stands type t (put v k) ws 1 value
   type-stands l t v k q = stands type t (put v k) ws 1 value q (p .value-is)

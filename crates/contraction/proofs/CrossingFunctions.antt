@@ -18,15 +18,15 @@ use Rattle.contraction.specs.declared.became.Became.{Became}
 use Rattle.contraction.specs.declared.became.Became.the-variants.{Nothing, Becomes}
 use Rattle.contraction.specs.declared.became.Piece.the-variants.{IntoML, IntoScheme}
 use Rattle.contraction.specs.Forms.{isScheme}
-use Rattle.contraction.specs.Told.{Tells, misfitIn, from, converted}
-use Rattle.contraction.specs.Chosen.{Value, AtType, AtList, AtFunction, OfBoundary}
-use Rattle.contraction.proofs.Views.{Formed, is-function, size-some}
+use Rattle.contraction.specs.Pieces.{Tells, misfitIn, from, converted}
+use Rattle.contraction.specs.Chosen.{ValueAt, AtType, AtList, AtFunction, OfBoundary}
+use Rattle.contraction.proofs.ByForm.{Formed, is-function, size-some}
 use Rattle.contraction.proofs.Parts.{Stands, stands}
 use Rattle.contraction.proofs.Parts as parts
 use Rattle.contraction.proofs.Looks.{no-lambda}
 use Rattle.contraction.proofs.Crossing.{function-words, in-ml, in-scheme, type-stands, value-stands, value-form, inner, misfit-told}
 
-module _ {ws : List ℕ} {form-number value end : ℕ} (p : Value ws form-number value end) where
+module _ {ws : List ℕ} {form-number value end : ℕ} (p : ValueAt ws form-number value end) where
   function-amiss : (l : Lang) (t u : Ty) (v : Term (from l)) (k : List ℕ) → drop 1 ws ≡ putTy (t to u) (put v k) → (form-number ≡ 2 → ⊥)
       → Tells ws (misfitIn (isScheme l) 2 value) (converted l (t to u) v)
   unfolding toML toScheme

@@ -14,14 +14,14 @@ use Rattle.writing.specs.Spans.{span}
 use Rattle.contraction.specs.declared.became.Became.the-variants.{Nothing, Becomes}
 use Rattle.contraction.specs.declared.became.Piece.the-variants.{Led, Cons}
 use Rattle.contraction.specs.Forms.{isScheme}
-use Rattle.contraction.specs.Told.{Tells, misfitIn, from, converted}
-use Rattle.contraction.specs.Chosen.{Value, AtList}
-use Rattle.contraction.proofs.Views.{Formed, is-nil, is-cons}
+use Rattle.contraction.specs.Pieces.{Tells, misfitIn, from, converted}
+use Rattle.contraction.specs.Chosen.{ValueAt, AtList}
+use Rattle.contraction.proofs.ByForm.{Formed, is-nil, is-cons}
 use Rattle.contraction.proofs.Parts.{Stands, sized, stands}
 use Rattle.contraction.proofs.Looks.{no-list}
 use Rattle.contraction.proofs.Crossing.{cons-words, in-ml, in-scheme, type-stands, value-stands, value-form, inner, misfit-told}
 
-module _ {ws : List ℕ} {form-number value end : ℕ} (p : Value ws form-number value end) where
+module _ {ws : List ℕ} {form-number value end : ℕ} (p : ValueAt ws form-number value end) where
   -- The element's type stands from 2 up to the value.
   element : (l : Lang) (t : Ty) (v : Term l) (k : List ℕ) → drop 1 ws ≡ putTy (list t) (put v k) → Stands type t (put v k) ws 2 value
   unfolding putTy sizeTy

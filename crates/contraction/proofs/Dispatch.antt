@@ -19,10 +19,10 @@ use Rattle.contraction.specs.declared.became.Became.{Became}
 use Rattle.contraction.specs.declared.became.Became.the-variants.{Nothing, Raises}
 use Rattle.contraction.specs.declared.became.Piece.{Piece}
 use Rattle.contraction.specs.declared.became.Piece.the-variants.{Substituted}
-use Rattle.contraction.specs.Told.{Gives, Tells}
+use Rattle.contraction.specs.Pieces.{Gives, Tells}
 use Rattle.writing.specs.Stretches.{stretch}
 use Rattle.contraction.specs.Chosen.{OfOne, OfTwo, OfIf, OfBoundary, OfNode, Writes}
-use Rattle.contraction.proofs.Views.{size-some}
+use Rattle.contraction.proofs.ByForm.{size-some}
 
 pub node-none : (ws : List ℕ) → length ws < 1 → OfNode ws Nothing
 node-none ws h = record { of = λ l e k q. absurd (omega (arith, h, ap length q, tree-length (term l) e k, size-some l e)) }

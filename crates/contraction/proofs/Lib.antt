@@ -1,4 +1,4 @@
-pub mod Views
+pub mod ByForm
 pub mod Parts
 pub mod Looks
 pub mod OnePart

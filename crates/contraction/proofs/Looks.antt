@@ -13,8 +13,8 @@ use Rattle.calculus.specs.Reduction.{form, Became, becomes, amiss, onNumber, on
 use Rattle.contraction.specs.declared.became.Became.the-variants.{Nothing, Becomes}
 use Rattle.contraction.specs.declared.became.Piece.the-variants.{Number}
 use Rattle.contraction.specs.Forms.{isScheme}
-use Rattle.contraction.specs.Told.{Tells, PartIn, Within, amissIn, nullBy, numberIn, misfitIn, overIn, sumIn}
-use Rattle.contraction.proofs.Views.{Formed, is-number, is-function, is-nil, is-cons, is-lump, is-other}
+use Rattle.contraction.specs.Pieces.{Tells, PartIn, BecameIn, amissIn, nullBy, numberIn, misfitIn, overIn, sumIn}
+use Rattle.contraction.proofs.ByForm.{Formed, is-number, is-function, is-nil, is-cons, is-lump, is-other}
 
 module _ {m : Lang} (o : Became m) where
   pub no-number : {l : Lang} {v : Term l} {n : ℕ} (k : ℕ → Became m) → Formed l n v → (n ≡ 1 → ⊥) → onNumber (form v) o k ≡ o
@@ -64,14 +64,14 @@ amiss-told ws sc c = (_, refl, refl)
 pub no-part : (n : ℕ) → PartIn n 0 0
 no-part n = record { order = omega arith; most = omega arith }
 
-pub amiss-placed : (n : ℕ) (s : Bool) (c : ℕ) → Within n (amissIn s c)
+pub amiss-placed : (n : ℕ) (s : Bool) (c : ℕ) → BecameIn n (amissIn s c)
 amiss-placed n true c = no-part n
 amiss-placed n false c = tt
 
-pub null-placed : (n form : ℕ) → Within n (nullBy form)
+pub null-placed : (n form : ℕ) → BecameIn n (nullBy form)
 null-placed n form = cases (eqb form 3) (eqb form 4)
   where
-    cases : (a b : Bool) → Within n (cond a (Becomes (Number 17 0)) (cond b (Becomes (Number 17 1)) Nothing))
+    cases : (a b : Bool) → BecameIn n (cond a (Becomes (Number 17 0)) (cond b (Becomes (Number 17 1)) Nothing))
     cases true b = record { kind = omega arith; small = omega arith }
     cases false true = record { kind = omega arith; small = omega arith }
     cases false false = tt
@@ -87,18 +87,18 @@ unfolding put
 number-of ml n k ws q = ap (λ (v : List ℕ). getD v 0 0 / 256) q ∙ omega arith
 number-of sc n k ws q = ap (λ (v : List ℕ). getD v 0 0 / 256) q ∙ omega arith
 
-pub number-placed : (n : ℕ) (s : Bool) (m : ℕ) → m ≤ 16777215 → Within n (numberIn s m)
+pub number-placed : (n : ℕ) (s : Bool) (m : ℕ) → m ≤ 16777215 → BecameIn n (numberIn s m)
 number-placed n true m h = record { kind = omega arith; small = h }
 number-placed n false m h = record { kind = omega arith; small = h }
 
-pub misfit-placed : (n : ℕ) (s : Bool) (c v : ℕ) → 1 ≤ v → v ≤ n → Within n (misfitIn s c v)
+pub misfit-placed : (n : ℕ) (s : Bool) (c v : ℕ) → 1 ≤ v → v ≤ n → BecameIn n (misfitIn s c v)
 misfit-placed n true c v h g = tt
 misfit-placed n false c v h g = record { order = h; most = g }
 
-pub sum-placed : (n : ℕ) (s : Bool) (a b : ℕ) → Within n (sumIn s a b)
+pub sum-placed : (n : ℕ) (s : Bool) (a b : ℕ) → BecameIn n (sumIn s a b)
 sum-placed n s a b = cases (leb (a + b) 16777215) refl s
   where
-    cases : (t : Bool) → leb (a + b) 16777215 ≡ t → (s : Bool) → Within n (cond t (numberIn s (a + b)) (overIn s))
+    cases : (t : Bool) → leb (a + b) 16777215 ≡ t → (s : Bool) → BecameIn n (cond t (numberIn s (a + b)) (overIn s))
     cases true e s = number-placed n s (a + b) (leb-true (a + b) 16777215 e)
     cases false e true = no-part n
     cases false e false = no-part n

@@ -18,9 +18,9 @@ use Rattle.contraction.specs.declared.became.Became.{Became}
 use Rattle.contraction.specs.declared.became.Became.the-variants.{Nothing, Becomes}
 use Rattle.contraction.specs.declared.became.Piece.the-variants.{Number, Part, Led, Led2, Substituted}
 use Rattle.contraction.specs.Forms.{formNumber, isScheme, answerBy, operator1}
-use Rattle.contraction.specs.Told.{Tells, amissIn, nullBy, part}
+use Rattle.contraction.specs.Pieces.{Tells, amissIn, nullBy, part}
 use Rattle.contraction.specs.Chosen.{FirstPart, OfFix, OfList, OfOne}
-use Rattle.contraction.proofs.Views.{Formed, is-number, is-function, is-nil, is-cons, is-lump, is-other, by-form, form-at, size-some}
+use Rattle.contraction.proofs.ByForm.{Formed, is-number, is-function, is-nil, is-cons, is-lump, is-other, by-form, form-at, size-some}
 use Rattle.contraction.proofs.Parts.{Stands, sized, stands}
 use Rattle.contraction.proofs.Looks.{no-lambda, no-list, amiss-told}
 

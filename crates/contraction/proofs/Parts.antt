@@ -15,7 +15,7 @@ use Rattle.writing.proofs.Measures.{span-tree}
 use Rattle.writing.proofs.Lengths.{span-parts, span-within}
 use Rattle.contraction.specs.Forms.{formAt}
 use Rattle.writing.specs.Stretches.{stretch}
-use Rattle.contraction.specs.Chosen.{Node}
+use Rattle.contraction.specs.Chosen.{NodeIn}
 
 pub record Stands (s : Sort) (t : Tree s) (k ws : List ℕ) (a e : ℕ) : Type 0 where
   pub end : e ≡ a + sizeTree s t
@@ -36,7 +36,7 @@ pub stands : (s : Sort) (t : Tree s) (k ws : List ℕ) (a e : ℕ) → drop a ws
 stands s t k ws a e q h = sized s t k ws a e q (omega (arith, h, span-tree s t k (drop a ws) q))
 
 -- A node, by how many parts it has.
-pub node : {table ws : List ℕ} {end n : ℕ} → Given table ws → 1 ≤ length ws → end ≡ span ws 1 → partCount (getD ws 0 0) ≡ n → Node n table ws end
+pub node : {table ws : List ℕ} {end n : ℕ} → Given table ws → 1 ≤ length ws → end ≡ span ws 1 → partCount (getD ws 0 0) ≡ n → NodeIn n table ws end
 node {table} {ws} {end} {n} g h e c =
     record { given = g; some = h; end-is = e ∙ span-parts ws n h c; most = omega (arith, e, span-within ws 1) }
 

@@ -18,9 +18,9 @@ use Rattle.contraction.specs.declared.became.Became.{Became}
 use Rattle.contraction.specs.declared.became.Became.the-variants.{Nothing, Becomes}
 use Rattle.contraction.specs.declared.became.Piece.the-variants.{Substituted}
 use Rattle.contraction.specs.Forms.{formAt, isScheme, operator2}
-use Rattle.contraction.specs.Told.{Tells, amissIn, numberIn, overIn, sumIn}
+use Rattle.contraction.specs.Pieces.{Tells, amissIn, numberIn, overIn, sumIn}
 use Rattle.contraction.specs.Chosen.{TwoParts, OfApply, OfTwo}
-use Rattle.contraction.proofs.Views.{Formed, is-number, is-function, by-form, size-some}
+use Rattle.contraction.proofs.ByForm.{Formed, is-number, is-function, by-form, size-some}
 use Rattle.contraction.proofs.Parts.{Stands, stands}
 use Rattle.contraction.proofs.Looks.{no-lambda, no-number, amiss-told, number-told, number-of}
 

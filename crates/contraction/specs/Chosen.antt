@@ -13,10 +13,10 @@ use Rattle.writing.specs.Wrote.{Wrote}
 use Rattle.contraction.specs.declared.became.Became.{Became}
 use Rattle.contraction.specs.declared.became.Piece.{Piece}
 use Rattle.contraction.specs.Forms.{formAt, isScheme}
-use Rattle.contraction.specs.Told.{Gives, Tells, part, from, converted}
+use Rattle.contraction.specs.Pieces.{Gives, Tells, part, from, converted}
 
 -- A node of n parts, and where its words end.
-pub record Node (n : ℕ) (table ws : List ℕ) (end : ℕ) : Type 0 where
+pub record NodeIn (n : ℕ) (table ws : List ℕ) (end : ℕ) : Type 0 where
   pub given : Given table ws
   pub some : 1 ≤ length ws
   pub end-is : end ≡ 1 + span (drop 1 ws) n
@@ -59,7 +59,7 @@ pub record OfIf (ws : List ℕ) (r : Became) : Type 0 where
   pub of : (l : Lang) (a b c : Term l) (k : List ℕ) → ws ≡ put (if0 a b c) k → Tells ws r (contract (if0 a b c))
 
 -- ms and sm: the value's form, where its words start and where they end.
-pub record Value (ws : List ℕ) (form value end : ℕ) : Type 0 where
+pub record ValueAt (ws : List ℕ) (form value end : ℕ) : Type 0 where
   pub form-is : form ≡ formAt (drop value ws)
   pub value-is : value ≡ 1 + span (drop 1 ws) 1
   pub end-is : end ≡ value + span (drop value ws) 1

@@ -1,3 +1,3 @@
 pub mod Forms
-pub mod Told
+pub mod Pieces
 pub mod Chosen

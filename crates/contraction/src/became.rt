@@ -3,7 +3,7 @@
 use nodes::words::scheme_wrong;
 ghost use mathlib.Core.Path.{_≡_};
 ghost use Prim.Native.Nat.{_≤_};
-ghost use Rattle.contraction.specs.Told.{amissIn, numberIn};
+ghost use Rattle.contraction.specs.Pieces.{amissIn, numberIn};
 
 pub enum Became {
     Nothing,

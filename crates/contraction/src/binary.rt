@@ -13,8 +13,8 @@ ghost use mathlib.Core.Path.{_≡_};
 ghost use Prim.Native.Nat.{_≤_, _-_};
 ghost use lib.ListN.{length};
 ghost use Rattle.contraction.specs.Forms.{operator2};
-ghost use Rattle.contraction.specs.Told.{Within, sumIn};
-ghost use Rattle.contraction.specs.Chosen.{Node, TwoParts, OfApply, OfTwo, OfIf};
+ghost use Rattle.contraction.specs.Pieces.{BecameIn, sumIn};
+ghost use Rattle.contraction.specs.Chosen.{NodeIn, TwoParts, OfApply, OfTwo, OfIf};
 
 const APP: u64 = 0;
 
@@ -86,7 +86,7 @@ fn of_apply(
     end: usize,
 ) -> Became
     requires { ⌜ TwoParts (now table) (now words) form middle end ⌝ }
-    ensures placed { λ r. ⌜ Within (length (now (words .entry))) r ⌝ }
+    ensures placed { λ r. ⌜ BecameIn (length (now (words .entry))) r ⌝ }
     ensures told { λ r. ⌜ OfApply (now (words .entry)) scheme r ⌝ }
 {
     if form != crate::forms::FUNCTION {
@@ -111,8 +111,8 @@ fn of_apply(
 
 // The operators of two parts. The node's words end at `end`.
 pub fn contract_2(table: &Kinds, words: &[u32], end: usize) -> Became
-    requires { ⌜ Node 2 (now table) (now words) end ⌝ }
-    ensures placed { λ r. ⌜ Within (length (now (words .entry))) r ⌝ }
+    requires { ⌜ NodeIn 2 (now table) (now words) end ⌝ }
+    ensures placed { λ r. ⌜ BecameIn (length (now (words .entry))) r ⌝ }
     ensures told { λ r. ⌜ OfTwo (now (words .entry)) r ⌝ }
 {
     let middle = 1 + skip(table, &words[1..], 1);
@@ -145,8 +145,8 @@ pub fn contract_2(table: &Kinds, words: &[u32], end: usize) -> Became
 
 // if0. The node's words end at `end`.
 pub fn of_if(table: &Kinds, words: &[u32], end: usize) -> Became
-    requires { ⌜ Node 3 (now table) (now words) end ⌝ }
-    ensures placed { λ r. ⌜ Within (length (now (words .entry))) r ⌝ }
+    requires { ⌜ NodeIn 3 (now table) (now words) end ⌝ }
+    ensures placed { λ r. ⌜ BecameIn (length (now (words .entry))) r ⌝ }
     ensures told { λ r. ⌜ OfIf (now (words .entry)) r ⌝ }
 {
     let second = 1 + skip(table, &words[1..], 1);

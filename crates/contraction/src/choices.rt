@@ -11,13 +11,13 @@ ghost use mathlib.Core.Path.{_≡_};
 ghost use lib.ListN.{length};
 ghost use Rattle.writing.specs.Given.{Given};
 ghost use Rattle.writing.specs.Spans.{span};
-ghost use Rattle.contraction.specs.Told.{Within};
+ghost use Rattle.contraction.specs.Pieces.{BecameIn};
 ghost use Rattle.contraction.specs.Chosen.{OfNode};
 
 // What the node that the words start with becomes, whose words end at `end`.
 pub fn contract(table: &Kinds, words: &[u32], end: usize) -> Became
     requires { ⌜ Given (now table) (now words) × (end ≡ span (now words) 1) ⌝ }
-    ensures placed { λ r. ⌜ Within (length (now (words .entry))) r ⌝ }
+    ensures placed { λ r. ⌜ BecameIn (length (now (words .entry))) r ⌝ }
     ensures told { λ r. ⌜ OfNode (now (words .entry)) r ⌝ }
 {
     if words.len() < 1 {

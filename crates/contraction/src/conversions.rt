@@ -13,8 +13,8 @@ ghost use Prim.Native.Nat.{_≤_};
 ghost use lib.ListN.{length};
 ghost use Rattle.calculus.specs.Trees.{N, L};
 ghost use Rattle.writing.specs.Given.{mostWords, Given};
-ghost use Rattle.contraction.specs.Told.{Within, misfitIn};
-ghost use Rattle.contraction.specs.Chosen.{Node, Value, AtType, AtList, AtFunction, OfBoundary};
+ghost use Rattle.contraction.specs.Pieces.{BecameIn, misfitIn};
+ghost use Rattle.contraction.specs.Chosen.{NodeIn, ValueAt, AtType, AtList, AtFunction, OfBoundary};
 
 // A value that has not the type, whose words end at `value`: a wrong in ML.
 fn misfit(scheme: bool, code: u32, value: usize) -> Became
@@ -33,8 +33,8 @@ fn misfit(scheme: bool, code: u32, value: usize) -> Became
 
 // At the type N. The value's form is told; its words stand from `value` to `end`.
 fn at_number(words: &[u32], scheme: bool, form: u64, value: usize, end: usize) -> Became
-    requires { ⌜ Value (now words) form value end ⌝ }
-    ensures placed { λ r. ⌜ Within (length (now (words .entry))) r ⌝ }
+    requires { ⌜ ValueAt (now words) form value end ⌝ }
+    ensures placed { λ r. ⌜ BecameIn (length (now (words .entry))) r ⌝ }
     ensures told { λ r. ⌜ AtType (now (words .entry)) scheme r N ⌝ }
 {
     if form != crate::forms::NUMBER {
@@ -45,8 +45,8 @@ fn at_number(words: &[u32], scheme: bool, form: u64, value: usize, end: usize) -
 
 // At the type L: nothing is opened on its way into ML.
 fn at_lump(words: &[u32], scheme: bool, form: u64, value: usize, end: usize) -> Became
-    requires { ⌜ (length (now words) ≤ mostWords) × Value (now words) form value end ⌝ }
-    ensures placed { λ r. ⌜ Within (length (now (words .entry))) r ⌝ }
+    requires { ⌜ (length (now words) ≤ mostWords) × ValueAt (now words) form value end ⌝ }
+    ensures placed { λ r. ⌜ BecameIn (length (now (words .entry))) r ⌝ }
     ensures told { λ r. ⌜ AtType (now (words .entry)) scheme r L ⌝ }
 {
     if scheme {
@@ -73,8 +73,8 @@ fn at_list(
     value: usize,
     end: usize,
 ) -> Became
-    requires { ⌜ Given (now table) (now words) × Value (now words) form value end ⌝ }
-    ensures placed { λ r. ⌜ Within (length (now (words .entry))) r ⌝ }
+    requires { ⌜ Given (now table) (now words) × ValueAt (now words) form value end ⌝ }
+    ensures placed { λ r. ⌜ BecameIn (length (now (words .entry))) r ⌝ }
     ensures told { λ r. ⌜ AtList (now (words .entry)) scheme r ⌝ }
 {
     if form == crate::forms::NIL {
@@ -125,8 +125,8 @@ fn at_function(
     value: usize,
     end: usize,
 ) -> Became
-    requires { ⌜ Given (now table) (now words) × Value (now words) form value end ⌝ }
-    ensures placed { λ r. ⌜ Within (length (now (words .entry))) r ⌝ }
+    requires { ⌜ Given (now table) (now words) × ValueAt (now words) form value end ⌝ }
+    ensures placed { λ r. ⌜ BecameIn (length (now (words .entry))) r ⌝ }
     ensures told { λ r. ⌜ AtFunction (now (words .entry)) scheme r ⌝ }
 {
     if form != crate::forms::FUNCTION {
@@ -152,8 +152,8 @@ fn at_function(
 
 // ms or sm of a value. The node's words end at `end`.
 pub fn converted(table: &Kinds, words: &[u32], end: usize) -> Became
-    requires { ⌜ Node 2 (now table) (now words) end ⌝ }
-    ensures placed { λ r. ⌜ Within (length (now (words .entry))) r ⌝ }
+    requires { ⌜ NodeIn 2 (now table) (now words) end ⌝ }
+    ensures placed { λ r. ⌜ BecameIn (length (now (words .entry))) r ⌝ }
     ensures told { λ r. ⌜ OfBoundary (now (words .entry)) r ⌝ }
 {
     let value = 1 + skip(table, &words[1..], 1);

@@ -7,7 +7,7 @@ ghost use lib.ListN.{getD};
 ghost use Rattle.calculus.specs.Words.{word};
 ghost use Rattle.writing.specs.Given.{mostCount};
 ghost use Rattle.writing.specs.Wrote.{Wrote};
-ghost use Rattle.contraction.specs.Told.{NumberOf};
+ghost use Rattle.contraction.specs.Pieces.{NumberOf};
 
 // The operand of a word.
 fn operand(w: u32) -> u32

@@ -11,7 +11,7 @@ ghost use Prim.Native.Nat.{_+_, _*_, _≤_};
 ghost use lib.ListN.{length};
 ghost use Rattle.writing.specs.Given.{mostWords, mostPiece, mostPlace, Given};
 ghost use Rattle.writing.specs.Wrote.{Wrote};
-ghost use Rattle.contraction.specs.Told.{PartIn, ConsIn, LambdaIn, Placed, consWords, intoMLWords, intoSchemeWords};
+ghost use Rattle.contraction.specs.Pieces.{PartIn, ConsIn, LambdaIn, Placed, consWords, intoMLWords, intoSchemeWords};
 ghost use Rattle.writing.specs.Stretches.{stretch};
 ghost use Rattle.contraction.specs.Chosen.{Near, Writes};
 ghost use Rattle.contraction.specs.declared.became.Piece.the-variants.{Substituted};

@@ -11,8 +11,8 @@ ghost use mathlib.Core.Path.{_≡_};
 ghost use Prim.Native.Nat.{_≤_};
 ghost use lib.ListN.{length};
 ghost use Rattle.contraction.specs.Forms.{answerBy, operator1};
-ghost use Rattle.contraction.specs.Told.{Within, nullBy};
-ghost use Rattle.contraction.specs.Chosen.{Node, FirstPart, OfFix, OfList, OfOne};
+ghost use Rattle.contraction.specs.Pieces.{BecameIn, nullBy};
+ghost use Rattle.contraction.specs.Chosen.{NodeIn, FirstPart, OfFix, OfList, OfOne};
 
 const HD: u64 = 0;
 
@@ -98,7 +98,7 @@ fn of_null(form: u64) -> Became
 // fix of a value, whose form is told and whose words end at `end`.
 fn of_fix(table: &Kinds, words: &[u32], form: u64, end: usize) -> Became
     requires { ⌜ FirstPart (now table) (now words) form end ⌝ }
-    ensures placed { λ r. ⌜ Within (length (now (words .entry))) r ⌝ }
+    ensures placed { λ r. ⌜ BecameIn (length (now (words .entry))) r ⌝ }
     ensures told { λ r. ⌜ OfFix (now (words .entry)) r ⌝ }
 {
     if form != crate::forms::FUNCTION {
@@ -116,7 +116,7 @@ fn of_fix(table: &Kinds, words: &[u32], form: u64, end: usize) -> Became
 // hd, or tl.
 fn of_list(table: &Kinds, words: &[u32], first: bool, scheme: bool, form: u64, end: usize) -> Became
     requires { ⌜ FirstPart (now table) (now words) form end ⌝ }
-    ensures placed { λ r. ⌜ Within (length (now (words .entry))) r ⌝ }
+    ensures placed { λ r. ⌜ BecameIn (length (now (words .entry))) r ⌝ }
     ensures told { λ r. ⌜ OfList (now (words .entry)) first scheme r ⌝ }
 {
     if form == crate::forms::CONS {
@@ -159,8 +159,8 @@ fn of_list(table: &Kinds, words: &[u32], first: bool, scheme: bool, form: u64, e
 
 // The operators of one part. The node's words end at `end`.
 pub fn contract_1(table: &Kinds, words: &[u32], end: usize) -> Became
-    requires { ⌜ Node 1 (now table) (now words) end ⌝ }
-    ensures placed { λ r. ⌜ Within (length (now (words .entry))) r ⌝ }
+    requires { ⌜ NodeIn 1 (now table) (now words) end ⌝ }
+    ensures placed { λ r. ⌜ BecameIn (length (now (words .entry))) r ⌝ }
     ensures told { λ r. ⌜ OfOne (now (words .entry)) r ⌝ }
 {
     if end < 2 {

@@ -18,7 +18,7 @@ use Rattle.nodes.specs.Refusals.{numberOf, placeOf, refusal}
 use Rattle.checker.specs.declared.Checked.{Checked}
 use Rattle.checker.specs.declared.Checked.the-variants.{Refused, Accepted}
 use Rattle.checker.specs.Checks.{checked, accepting}
-use Rattle.demands.specs.Demanded.{Recipe, Checks, Twice}
+use Rattle.demands.specs.Demanded.{RecipeOf, Checks, Twice}
 use Rattle.engine.specs.Lent.{Lent, Returned}
 use Rattle.demands.proofs.Running.{Promised, grow}
 
@@ -47,7 +47,7 @@ refusal-injective : {A : Type 0} (x y : Refusal) → _≡_ {A = Verdict A} (refu
 refusal-injective x y q = sym (numbered-is x) ∙ ap (λ (v : Verdict _). spokenOf v x) q ∙ numbered-is y
 
 module _ (bytes : List ℕ) where
-  accepted-recipe : (v : Verdict calculus.Recipe) → check bytes ≡ v → passed tt ≡ accepting v → Recipe bytes
+  accepted-recipe : (v : Verdict calculus.Recipe) → check bytes ≡ v → passed tt ≡ accepting v → RecipeOf bytes
   accepted-recipe (refused n p) q h = absurd (not-both n p tt (sym h))
   accepted-recipe (passed x) q h = (x .0, x .1, check-iff bytes (x .0) (x .1) .0 q)
 
@@ -67,13 +67,13 @@ module _ (bytes : List ℕ) where
   is-refused (Refused y) x h = ap Refused (refusal-injective y x h)
   is-refused Accepted x h = absurd (not-both (numberOf x) (placeOf x) tt (sym h))
 
-  one-recipe : (x y : Recipe bytes) → (x .0 ≡ y .0) × (x .1 ≡ y .1)
+  one-recipe : (x y : RecipeOf bytes) → (x .0 ≡ y .0) × (x .1 ≡ y .1)
   one-recipe x y =
       let same = accepted-once bytes (x .0, x .1) (y .0, y .1) (x .2) (y .2) in
       (ap (λ (z : calculus.Recipe). z .0) same, ap (λ (z : calculus.Recipe). z .1) same)
 
   module _ (c : Checked) (h : checked c ≡ accepting (check bytes)) where
-    accepts-iff : (c ≡ Accepted) ↔ Recipe bytes
+    accepts-iff : (c ≡ Accepted) ↔ RecipeOf bytes
     accepts-iff = (
       λ q. accepted-recipe (check bytes) refl (ap checked (sym q) ∙ h),
       λ x. is-accepted c (h ∙ ap accepting (check-iff bytes (x .0) (x .1) .1 (x .2))),

@@ -30,13 +30,13 @@ pub data Finishes (l : Lent) (g : Returned) : Type 0 where
   ends : (x : Report) → g .answer ≡ Ended x → Finishes l g
 
 -- A file of some recipe: "the check accepts exactly those to which the published typing .. gives the declared type".
-abbrev pub Recipe : List ℕ → Type 0
-Recipe bytes = (τ : Ty) × (e : Term ml) × Accepted bytes τ e
+abbrev pub RecipeOf : List ℕ → Type 0
+RecipeOf bytes = (τ : Ty) × (e : Term ml) × Accepted bytes τ e
 
 -- Demand 2 of the check, and its refusals: the number and place of the table, 1 to 7. A file is of one recipe at most.
 pub record Checks (bytes : List ℕ) (r : Checked) : Type 0 where
-  pub accepts : (r ≡ checked.Accepted) ↔ Recipe bytes
-  pub one : (x y : Recipe bytes) → (x .0 ≡ y .0) × (x .1 ≡ y .1)
+  pub accepts : (r ≡ checked.Accepted) ↔ RecipeOf bytes
+  pub one : (x y : RecipeOf bytes) → (x .0 ≡ y .0) × (x .1 ≡ y .1)
   pub refuses : (x : Refusal) → (r ≡ checked.Refused x) ↔ (check bytes ≡ refusal x)
   pub seven : (x : Refusal) → r ≡ checked.Refused x → (1 ≤ numberOf x) × (numberOf x ≤ 7)
 
@@ -89,6 +89,6 @@ pub record Same (x : Report) (g h : Returned) : Type 0 where
 -- Demand 3. "Whatever recipe the check accepts", all that its reduction reaches is sound; "And whatever file is run twice, .. let the second run be
 -- lent at least as many steps and at least the capacity of the first. If the first ends as a value or an error, the second gives the same" as it.
 pub record Twice (c : Checked) (l : Lent) (g : Returned) (m : Lent) (h : Returned) : Type 0 where
-  pub accepts : (c ≡ checked.Accepted) ↔ Recipe (l .bytes)
+  pub accepts : (c ≡ checked.Accepted) ↔ RecipeOf (l .bytes)
   pub safe : (τ : Ty) (e : Term ml) → Accepted (l .bytes) τ e → Safe τ e
   pub grows : (x : Report) → l .limit ≤ m .limit → room l ≤ room m → g .answer ≡ Ended x → Final (endOf (x .end)) → Same x g h

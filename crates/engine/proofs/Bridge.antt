@@ -7,11 +7,11 @@ use Rattle.calculus.specs.Words.{words}
 use Rattle.calculus.specs.Reduction.{Outcome, value, raised, next, stuck, step}
 use Rattle.reducer.specs.declared.turns.From.{From}
 use Rattle.reducer.specs.declared.steps.Move.{Move}
-use Rattle.reducer.specs.Around.{Standing}
+use Rattle.reducer.specs.Standing.{Standing}
 use Rattle.reducer.specs.Moves as reducer
 use Rattle.engine.proofs.Moving.{Moved}
 
-pub moved : {ws b b′ : List ℕ} {from : From} {r : Move} → reducer.Steps ws from b r b′ → (e : Term ml) → ws ≡ words e
+pub moved : {ws b b′ : List ℕ} {from : From} {r : Move} → reducer.OneStep ws from b r b′ → (e : Term ml) → ws ≡ words e
     → Standing e (from .place) (from .due) → Moved (step e) b r b′
 moved {ws} {b} {b′} {from} {r} s e q at = by (step e) (s .of e q at)
   where

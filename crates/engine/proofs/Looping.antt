@@ -18,7 +18,7 @@ use Rattle.calculus.proofs.Ranges.{OutcomeInRange, step-in-range}
 use Rattle.reducer.specs.declared.turns.From.{From}
 use Rattle.reducer.specs.declared.steps.Change.{Change}
 use Rattle.reducer.specs.declared.steps.Move.{Move}
-use Rattle.reducer.specs.Around.{root, Standing}
+use Rattle.reducer.specs.Standing.{root, Standing}
 use Rattle.reducer.specs.Placed.{beginning}
 use Rattle.reducer.specs.Moves.{Few}
 use Rattle.engine.specs.declared.ends.Counts.{Counts}

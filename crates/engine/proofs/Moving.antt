@@ -17,7 +17,7 @@ use Rattle.calculus.specs.Kinds.{term}
 use Rattle.reducer.specs.declared.steps.Change.{Change}
 use Rattle.reducer.specs.declared.steps.Move.{Move}
 use Rattle.reducer.specs.declared.steps.Move.the-variants as m
-use Rattle.reducer.specs.Around.{Standing}
+use Rattle.reducer.specs.Standing.{Standing}
 use Rattle.engine.specs.declared.ends.Counts.{Counts}
 use Rattle.engine.specs.declared.ends.End.{End}
 use Rattle.engine.specs.declared.ends.End.the-variants as ends

@@ -11,7 +11,7 @@ use Rattle.calculus.specs.Typing.{Typed}
 use Rattle.calculus.specs.Run as spec
 use Rattle.reducer.specs.declared.turns.From.{From}
 use Rattle.reducer.specs.declared.steps.Move.{Move}
-use Rattle.reducer.specs.Moves.{Few, Steps}
+use Rattle.reducer.specs.Moves.{Few, OneStep}
 use Rattle.engine.specs.declared.ends.Report.{Report}
 use Rattle.engine.specs.declared.reductions.Halt.{Halt}
 use Rattle.engine.specs.Results.{lineOf, told}
@@ -27,7 +27,7 @@ pub record Good (e : Term ml) : Type 0 where
 pub record Advanced (front : Bool) (n : ℕ) (from : From) (first second : List ℕ) (r : Move) (first′ second′ : List ℕ) : Type 0 where
   pub kept : held front first′ second′ ≡ held front first second
   pub few : Few r
-  pub stepped : Steps (take n (held front first second)) from (held (not front) first second) r (held (not front) first′ second′)
+  pub stepped : OneStep (take n (held front first second)) from (held (not front) first second) r (held (not front) first′ second′)
 
 -- Where the loop halts: the report and the term left are the run's.
 pub record Halted (r : spec.Result) (h : Halt) (first′ second′ : List ℕ) : Type 0 where

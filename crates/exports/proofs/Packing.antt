@@ -12,7 +12,7 @@ use Rattle.calculus.specs.Run.{Result, run, uncounted, capacity}
 use Rattle.calculus.specs.File.{wordsOf, isSize, checkWords, check, Recipe, runIn, operate}
 use Rattle.calculus.proofs.Verdicts.{not-both, passed-injective}
 use Rattle.calculus.proofs.Bounds.{operate-bounded}
-use Rattle.calculus.proofs.Refusing.{Within, words-within}
+use Rattle.calculus.proofs.Refusing.{PlaceWithin, words-within}
 use Rattle.calculus.proofs.Files.{size-iff}
 use Rattle.file.proofs.Bytes.{words-length}
 use Rattle.nodes.specs.declared.refusals.Refusal.{Refusal}
@@ -27,20 +27,20 @@ use Rattle.engine.specs.Results.{Line, lineOf, told}
 use Rattle.engine.specs.Answered.{spoken}
 use Rattle.exports.specs.Numbers.{checkNumber}
 
-accepting-within : (b : ℕ) (v : Verdict Recipe) → Within b v → Within b (accepting v)
+accepting-within : (b : ℕ) (v : Verdict Recipe) → PlaceWithin b v → PlaceWithin b (accepting v)
 accepting-within b (refused n p) h = h
 accepting-within b (passed x) h = tt
 
-within-more : (a b : ℕ) (v : Verdict Recipe) → a ≤ b → Within a v → Within b v
+within-more : (a b : ℕ) (v : Verdict Recipe) → a ≤ b → PlaceWithin a v → PlaceWithin b v
 within-more a b (refused n p) h i = omega (arith, i)
 within-more a b (passed x) h i = tt
 
 -- Where the size is refused, the place is 0; else the file has at most 4,096 words.
-check-within : (bytes : List ℕ) → Within 4096 (check bytes)
+check-within : (bytes : List ℕ) → PlaceWithin 4096 (check bytes)
 unfolding check
 check-within bytes = by (isSize (length bytes)) refl
   where
-    by : (b : Bool) → isSize (length bytes) ≡ b → Within 4096 (unless b 1 0 (checkWords (wordsOf bytes)))
+    by : (b : Bool) → isSize (length bytes) ≡ b → PlaceWithin 4096 (unless b 1 0 (checkWords (wordsOf bytes)))
     by true q =
         let few : length (wordsOf bytes) ≤ 4096 = omega (arith, words-length bytes, size-iff (length bytes) .0 q .0 .1) in
         within-more (length (wordsOf bytes)) 4096 (checkWords (wordsOf bytes)) few (words-within (wordsOf bytes))
@@ -48,7 +48,7 @@ check-within bytes = by (isSize (length bytes)) refl
 
 pub refused-place : (bytes : List ℕ) (r : Refusal) (x : Checked) → x ≡ Refused r → checked x ≡ accepting (check bytes) → placeOf r ≤ 4096
 refused-place bytes r x q e =
-    subst (Within 4096) (sym (sym (ap checked q) ∙ e)) (accepting-within 4096 (check bytes) (check-within bytes))
+    subst (PlaceWithin 4096) (sym (sym (ap checked q) ∙ e)) (accepting-within 4096 (check bytes) (check-within bytes))
 
 pub refused-number : (bytes : List ℕ) (r : Refusal) (x : Checked) (n : ℕ) → x ≡ Refused r → checked x ≡ accepting (check bytes)
     → n ≡ numberOf r + 256 * placeOf r → n ≡ checkNumber (accepting (check bytes))
@@ -59,27 +59,27 @@ accepted-number bytes x q e = ap checkNumber (sym (ap checked q) ∙ e)
 
 -- The same of a run.
 module _ (bytes : List ℕ) (limit n m : ℕ) where
-  run-within : (v : Verdict Recipe) → Within 4096 v → Within 4096 (andThen v (λ x. runIn limit (capacity n m) x))
+  run-within : (v : Verdict Recipe) → PlaceWithin 4096 v → PlaceWithin 4096 (andThen v (λ x. runIn limit (capacity n m) x))
   unfolding runIn
   run-within (refused r p) h = h
   run-within (passed x) h = by (leb (size (x .1)) (capacity n m))
     where
-      by : (b : Bool) → Within 4096 (unless b 8 0 (passed (run limit (capacity n m) uncounted (x .1))))
+      by : (b : Bool) → PlaceWithin 4096 (unless b 8 0 (passed (run limit (capacity n m) uncounted (x .1))))
       by true = tt
       by false = omega arith
 
-  operate-within : Within 4096 (operate bytes limit n m)
+  operate-within : PlaceWithin 4096 (operate bytes limit n m)
   unfolding operate
   operate-within = run-within (check bytes) (check-within bytes)
 
-  lines-within : (v : Verdict Result) → Within 4096 v → Within 4096 (andThen v (λ y. passed (lineOf y)))
+  lines-within : (v : Verdict Result) → PlaceWithin 4096 v → PlaceWithin 4096 (andThen v (λ y. passed (lineOf y)))
   lines-within (refused r p) h = h
   lines-within (passed y) h = tt
 
   module _ (a : Answer) (h : spoken a ≡ andThen (operate bytes limit n m) (λ y. passed (lineOf y))) where
     -- The place of a refusal.
     pub run-place : (r : Refusal) → a ≡ answer.Refused r → placeOf r ≤ 4096
-    run-place r q = subst (Within 4096) (sym (sym (ap spoken q) ∙ h)) (lines-within (operate bytes limit n m) operate-within)
+    run-place r q = subst (PlaceWithin 4096) (sym (sym (ap spoken q) ∙ h)) (lines-within (operate bytes limit n m) operate-within)
 
     -- The words left and the words wanted.
     pub run-words : (x : Report) → a ≡ answer.Ended x → (x .left ≤ 16384) × (x .wanted ≤ 268435456)

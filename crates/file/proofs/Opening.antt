@@ -11,7 +11,7 @@ use Rattle.calculus.proofs.Verdicts.{not-both}
 use Rattle.file.specs.Opening.{opening, kept}
 use Rattle.file.proofs.Bytes.{words-length}
 use Rattle.file.proofs.Padding.{padded-take, padded-length}
-use Rattle.file.proofs.Tests.{Fits, header-fits, size-fits}
+use Rattle.file.proofs.Tests.{HeaderFits, header-fits, size-fits}
 
 module _ (bs : List ℕ) (s : isSize (length bs) ≡ true) where
   -- A file of a fit size has 6 to 4,096 words.
@@ -42,7 +42,7 @@ pub record Opens (bs all : List ℕ) (types n : ℕ) : Type 0 where
   pub words-are : take n all ≡ wordsOf bs
   pub count-is : n ≡ length (wordsOf bs)
   pub types-are : types ≡ typeCount (wordsOf bs)
-  pub fits : Fits (wordsOf bs)
+  pub fits : HeaderFits (wordsOf bs)
   pub check-is : check bs ≡ checkWords (wordsOf bs)
   pub few : n ≤ 4096
   pub array-is : length all ≡ 4096

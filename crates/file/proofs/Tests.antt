@@ -38,7 +38,7 @@ size-fits n e =
     record { least = leb-true _ _ (q .0); most = leb-true _ _ (q .1); whole = eqb-true _ _ (p .1) }
 
 -- The numbers of a header that fits its words.
-pub record Fits (ws : List ℕ) : Type 0 where
+pub record HeaderFits (ws : List ℕ) : Type 0 where
   pub types : 1 ≤ typeCount ws
   pub types-from : getD ws 1 0 ≡ 4
   pub terms : 1 ≤ getD ws 2 0
@@ -46,7 +46,7 @@ pub record Fits (ws : List ℕ) : Type 0 where
   pub ends : getD ws 3 0 + getD ws 2 0 ≡ length ws
 
 -- They follow from the test.
-pub header-fits : (ws : List ℕ) → isHeader ws ≡ true → Fits ws
+pub header-fits : (ws : List ℕ) → isHeader ws ≡ true → HeaderFits ws
 header-fits ws e =
     let p = split _ _ e in
     let q = split _ _ (p .0) in
@@ -60,15 +60,15 @@ header-fits ws e =
       ends = eqb-true _ _ (p .1);
     }
 
-pub header-is : (ws : List ℕ) → Fits ws → isHeader ws ≡ true
+pub header-is : (ws : List ℕ) → HeaderFits ws → isHeader ws ≡ true
 header-is ws f =
     joined _ _ (joined _ _ (joined _ _ (joined _ _ (le-leb _ _ (f .types)) (eq-eqb _ _ (f .types-from))) (le-leb _ _ (f .terms)))
     (eq-eqb _ _ (f .terms-from))) (eq-eqb _ _ (f .ends))
 
 -- A header that fits passes with its counts.
-pub header-passed : (ws : List ℕ) → Fits ws → passed (typeCount ws, length ws) ≡ headed ws
+pub header-passed : (ws : List ℕ) → HeaderFits ws → passed (typeCount ws, length ws) ≡ headed ws
 header-passed ws f = rw (header-is ws f)
 
 -- Any other is refused by 2.
-pub header-refused : (ws : List ℕ) → (Fits ws → ⊥) → refused 2 0 ≡ headed ws
+pub header-refused : (ws : List ℕ) → (HeaderFits ws → ⊥) → refused 2 0 ≡ headed ws
 header-refused ws h = rw (refuted (isHeader ws) (λ e. h (header-fits ws e)))

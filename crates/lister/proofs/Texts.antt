@@ -16,7 +16,7 @@ use Rattle.exports.specs.Numbers.{runNumbers}
 use Rattle.exports.specs.declared.runs.RecipeRun.{RecipeRun}
 use Rattle.text.specs.Characters.{characters}
 use Rattle.lister.specs.Listing.{lineFeed, wordsLine, endName, textOf, listing}
-use Rattle.lister.specs.Told.{nameOf, refusedLine, endedLine, textBy}
+use Rattle.lister.specs.Numbered.{nameOf, refusedLine, endedLine, textBy}
 
 -- The name of an end, by its number.
 pub value-name : (n : ℕ) → n ≡ 0 → characters "value" ≡ nameOf n

@@ -11,7 +11,7 @@ ghost use lib.ListN.{length};
 ghost use Rattle.calculus.specs.File.{padded};
 ghost use Rattle.writing.specs.Wrote.{Wrote};
 ghost use Rattle.lister.specs.Listing.{field, fields, wordsLine, listing};
-ghost use Rattle.lister.specs.Told.{nameOf, refusedLine, endedLine, textBy};
+ghost use Rattle.lister.specs.Numbered.{nameOf, refusedLine, endedLine, textBy};
 
 // A blank and a number, from the place n on. Returns the place after it, as each function here does.
 fn field(text: &mut [u8], n: usize, number: u32) -> usize

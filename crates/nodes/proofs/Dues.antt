@@ -13,7 +13,7 @@ use Rattle.calculus.specs.Trees.{ml, sc}
 use Rattle.calculus.specs.Kinds.{Sort, type, term, Row, table, rowIn, rowFor}
 use Rattle.nodes.specs.declared.kinds.Row as code
 use Rattle.nodes.specs.Table.{sortNumber, rowOf, rows, listed}
-use Rattle.nodes.specs.Walks.{sortThen, sortsOf, Digits, isDue}
+use Rattle.nodes.specs.Walks.{sortThen, sortsOf, SortDigits, isDue}
 use Rattle.nodes.proofs.Table.{not-in, past, by-table, by-rows}
 
 -- What a walk needs of a row: its parts and its operand's range.
@@ -72,7 +72,7 @@ pub record FirstDue (d : ℕ) : Type 0 where
   pub number : sortNumber sort ≡ d % 5
   pub sorts : sortsOf d ≡ sort ∷ sortsOf (d / 5)
 
-pub first-due : (d : ℕ) → Digits d → (d % 5 ≡ 0 → ⊥) → FirstDue d
+pub first-due : (d : ℕ) → SortDigits d → (d % 5 ≡ 0 → ⊥) → FirstDue d
 unfolding sortsOf
 first-due d h g = by (d % 5) refl
   where
@@ -90,17 +90,17 @@ first-due d h g = by (d % 5) refl
     by (suc (suc (suc (suc n)))) e = absurd (omega (arith, e, h .first))
 
 -- One digit, the digits but the first, and a kind's parts stand for sorts.
-pub one-digit : (d : ℕ) → d < 4 → Digits d
+pub one-digit : (d : ℕ) → d < 4 → SortDigits d
 one-digit d h = record { first = omega arith; second = omega arith; third = omega arith }
 
-pub other-digits : (d : ℕ) → Digits d → Digits (d / 5)
+pub other-digits : (d : ℕ) → SortDigits d → SortDigits (d / 5)
 other-digits d h = record { first = h .second; second = omega (arith, h .third); third = omega (arith, h .third) }
 
 below : (f : ℕ → ℕ) → listed (λ k. ltb (f (rowOf k .parts)) 4) 0 rows ≡ listed (λ k. true) 0 rows → ltb (f 0) 4 ≡ true → (k : ℕ)
     → f (rowOf k .parts) < 4
 below f e z k = ltb-true (f (rowOf k .parts)) 4 (by-rows (λ r. ltb (f (r .parts)) 4) (λ r. true) e z k)
 
-pub parts-digits : (k : ℕ) → Digits (rowOf k .parts)
+pub parts-digits : (k : ℕ) → SortDigits (rowOf k .parts)
 unfolding rowOf
 parts-digits k =
     record { first = below (λ p. p % 5) refl refl k; second = below (λ p. p / 5 % 5) refl refl k; third = below (λ p. p / 25) refl refl k }

@@ -12,7 +12,7 @@ use Rattle.calculus.specs.Reading.{opens, refuses, later, walk, levelled, neste
 use Rattle.nodes.specs.declared.kinds.Row as code
 use Rattle.nodes.specs.declared.walks.Walked.{Walked}
 use Rattle.nodes.specs.Table.{rowOf}
-use Rattle.nodes.specs.Walks.{walked, sortsOf, Digits, isDue}
+use Rattle.nodes.specs.Walks.{walked, sortsOf, SortDigits, isDue}
 use Rattle.nodes.proofs.Dues.{row-due, none-due, FirstDue, first-due}
 use Rattle.nodes.proofs.Ways.{Inner}
 use Rattle.nodes.proofs.Ways as ways
@@ -24,7 +24,7 @@ nestedAt ws at due room = later at (walk nestedDue ws (levelled room (sortsOf du
 pub nothing-due : (ws : List ℕ) (at due room : ℕ) → due % 5 ≡ 0 → passed at ≡ nestedAt ws at due room
 nothing-due ws at due room h = rw (none-due due h) (ways.done nestedDue ws at)
 
-module _ (ws : List ℕ) (at due room : ℕ) (small : Digits due) (some : due % 5 ≡ 0 → ⊥) where
+module _ (ws : List ℕ) (at due room : ℕ) (small : SortDigits due) (some : due % 5 ≡ 0 → ⊥) where
   abbrev d : FirstDue due
   d = first-due due small some
 

@@ -13,7 +13,7 @@ use Rattle.calculus.specs.Scope.{isFree, inside, scopeDue}
 use Rattle.nodes.specs.declared.kinds.Row as code
 use Rattle.nodes.specs.declared.walks.Walked.{Walked}
 use Rattle.nodes.specs.Table.{rowOf}
-use Rattle.nodes.specs.Walks.{walked, Digits}
+use Rattle.nodes.specs.Walks.{walked, SortDigits}
 use Rattle.nodes.specs.Languages.{each}
 use Rattle.nodes.proofs.Dues.{none-due, first-due}
 use Rattle.nodes.proofs.Lambdas.{part-count}
@@ -27,7 +27,7 @@ scopedAt ws at due Γ = later at (walk scopeDue ws (each Γ due))
 pub nothing-due : (ws : List ℕ) (at due : ℕ) (Γ : List Lang) → due % 5 ≡ 0 → passed at ≡ scopedAt ws at due Γ
 nothing-due ws at due Γ h = rw (none-due due h) (ways.done scopeDue ws at)
 
-module _ (ws : List ℕ) (at due : ℕ) (Γ : List Lang) (small : Digits due) (some : due % 5 ≡ 0 → ⊥) where
+module _ (ws : List ℕ) (at due : ℕ) (Γ : List Lang) (small : SortDigits due) (some : due % 5 ≡ 0 → ⊥) where
   answer-is : later at (walk scopeDue ws (Γ ∷ each Γ (due / 5))) ≡ scopedAt ws at due Γ
   answer-is = ap (λ (ss : List Sort). later at (walk scopeDue ws (replicate (length ss) Γ))) (sym (first-due due small some .sorts))
 

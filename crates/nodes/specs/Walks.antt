@@ -31,7 +31,7 @@ unfoldable pub sortsOf : ℕ → List Sort
 sortsOf d = sortThen (d % 5) (sortThen (d / 5 % 5) (sortThen (d / 25 % 5) []))
 
 -- Numbers that stand for sorts: three digits at most, each 0 or a sort's. The digit 4 is no sort's.
-pub record Digits (d : ℕ) : Type 0 where
+pub record SortDigits (d : ℕ) : Type 0 where
   pub first : d % 5 < 4
   pub second : d / 5 % 5 < 4
   pub third : d / 25 < 4
@@ -44,7 +44,7 @@ pub record WordsAt (table ws : List ℕ) (at : ℕ) : Type 0 where
 -- A walk over the words begins, with nodes due of the sorts that a number stands for.
 pub record WalkFrom (table ws : List ℕ) (at due : ℕ) : Type 0 where
   pub words : WordsAt table ws at
-  pub digits : Digits due
+  pub digits : SortDigits due
 
 -- A kind is of a sort, and has an operand in its range.
 abbrev pub isDue : code.Row → ℕ → ℕ → Bool

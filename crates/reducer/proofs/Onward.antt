@@ -20,19 +20,19 @@ use Rattle.calculus.proofs.Splices.{put-fill}
 use Rattle.calculus.specs.Splices.{wordsBefore, wordsAfter}
 use Rattle.calculus.proofs.Turns.{turn-filled}
 use Rattle.reducer.specs.declared.turns.From.{From}
-use Rattle.reducer.specs.Around.{Around, root, inside, whole, Reached, lengthBefore, lengthAround, waitsFor, follows, pending, Standing, Ripe}
+use Rattle.reducer.specs.Standing.{Frames, root, inside, whole, Reached, lengthBefore, lengthFrames, waitsFor, follows, pending, Standing, Ripe}
 
 -- The frames around a place as a context, from the root inwards.
-abbrev pub contextOf : {j m : Lang} → Around m → Context j m → Context j ml
+abbrev pub contextOf : {j m : Lang} → Frames m → Context j m → Context j ml
 contextOf root F = F
 contextOf (inside f A) F = contextOf A (within f F)
 
-pub context-fill : {j m : Lang} (A : Around m) (F : Context j m) (x : Term j) → fill (contextOf A F) x ≡ whole A (fill F x)
+pub context-fill : {j m : Lang} (A : Frames m) (F : Context j m) (x : Term j) → fill (contextOf A F) x ≡ whole A (fill F x)
 unfolding fill
 context-fill root F x = refl
 context-fill (inside f A) F x = context-fill A (within f F) x
 
-pub context-evaluated : {j m : Lang} (A : Around m) → Reached A → (F : Context j m) → Evaluated F → Evaluated (contextOf A F)
+pub context-evaluated : {j m : Lang} (A : Frames m) → Reached A → (F : Context j m) → Evaluated F → Evaluated (contextOf A F)
 context-evaluated root r F ev = ev
 context-evaluated (inside f A) r F ev = context-evaluated A (r .1) (within f F) (r .0, ev)
 
@@ -45,7 +45,7 @@ before-length (tested b c) F = omega arith
 before-length (intoML t) F = omega (arith, length-append (putTy t []) (wordsBefore F), tree-length type t [])
 before-length (intoScheme t) F = omega (arith, length-append (putTy t []) (wordsBefore F), tree-length type t [])
 
-pub context-length : {j m : Lang} (A : Around m) (F : Context j m) → length (wordsBefore (contextOf A F)) ≡ lengthAround A + length (wordsBefore F)
+pub context-length : {j m : Lang} (A : Frames m) (F : Context j m) → length (wordsBefore (contextOf A F)) ≡ lengthFrames A + length (wordsBefore F)
 context-length root F = omega arith
 context-length (inside f A) F = omega (arith, context-length A (within f F), before-length f F)
 
@@ -79,17 +79,17 @@ ripe-turn {e} r =
 
 -- What holds of the nearest node around that waits: it stands at a place, where so many parts are due, and whatever it is, a walk may begin at
 -- `back`.
-pub record Owner {m : Lang} (A : Around m) (node back : From) : Type 0 where
-  pub place : node .place ≡ lengthAround A
+pub record Owner {m : Lang} (A : Frames m) (node back : From) : Type 0 where
+  pub place : node .place ≡ lengthFrames A
   pub due : node .due ≡ 1 + pending A
   pub resumes : (x : Term m) → Standing (whole A x) (back .place) (back .due)
 
-abbrev pub Owns : {m : Lang} → Around m → From → From → Type 0
+abbrev pub Owns : {m : Lang} → Frames m → From → From → Type 0
 Owns root node back = ⊥
 Owns (inside f A) node back = (waitsFor f ≡ true → Owner A node back) × (waitsFor f ≡ false → Owns A node back)
 
 -- A walk may begin at that node, whatever stands in it.
-pub owner-standing : {m : Lang} (A : Around m) (node back : From) → Reached A → Owns A node back
+pub owner-standing : {m : Lang} (A : Frames m) (node back : From) → Reached A → Owns A node back
     → (x : Term m) → Standing (whole A x) (node .place) (node .due)
 owner-standing root node back r o x = absurd o
 owner-standing {m} (inside {k = k} f A) node back r o x = by (λ w. owner-standing A node back (r .1) (o .1 w) (plug f x)) (waitsFor f) refl
@@ -100,7 +100,7 @@ owner-standing {m} (inside {k = k} f A) node back r o x = by (λ w. owner-standi
     by outer false w = outer w
 
 -- No node around waits.
-abbrev pub Free : {m : Lang} → Around m → Type 0
+abbrev pub Free : {m : Lang} → Frames m → Type 0
 Free root = Unit {0}
 Free (inside f A) = (waitsFor f ≡ false) × Free A
 
@@ -112,30 +112,30 @@ frame-some (tested b c) = omega arith
 frame-some (intoML t) = omega arith
 frame-some (intoScheme t) = omega arith
 
-pub start-free : {m : Lang} (A : Around m) → 0 ≡ lengthAround A → Free A
+pub start-free : {m : Lang} (A : Frames m) → 0 ≡ lengthFrames A → Free A
 start-free root h = tt
 start-free (inside f A) h = absurd (omega (arith, h, frame-some f))
 
 -- Past a value: the next part that evaluation takes;
-pub record Further {m : Lang} (A : Around m) (x : Term m) : Type 0 where
+pub record Further {m : Lang} (A : Frames m) (x : Term m) : Type 0 where
   pub lang : Lang
-  pub around : Around lang
+  pub around : Frames lang
   pub part : Term lang
   pub is : whole around part ≡ whole A x
   pub reached : Reached around
-  pub place : lengthAround around ≡ lengthAround A + size x
+  pub place : lengthFrames around ≡ lengthFrames A + size x
   pub left : pending A ≡ 1 + pending around
   pub owns : (node back : From) → Owns A node back → Owns around node back
   pub free : Free A → Free around
 
 -- or the end of the node that waits, whose turn it is; or of the term, which is a value.
-pub record Over {m : Lang} (A : Around m) (x : Term m) : Type 0 where
+pub record Over {m : Lang} (A : Frames m) (x : Term m) : Type 0 where
   pub none : pending A ≡ 0
   pub ripe : (node back : From) → Owns A node back → Ripe (whole A x) (node .place) (back .place) (back .due)
   pub value : Free A → Value ml (whole A x)
 
 -- A node that waits has its turn.
-ripe-over : {m k : Lang} (f : Frame m k) (A : Around k) (x : Term m) → waitsFor f ≡ true → follows f ≡ 0 → Reached A → Ready (plug f x)
+ripe-over : {m k : Lang} (f : Frame m k) (A : Frames k) (x : Term m) → waitsFor f ≡ true → follows f ≡ 0 → Reached A → Ready (plug f x)
     → Over (inside f A) x
 ripe-over {m} {k} f A x w z r h =
     record {
@@ -152,8 +152,8 @@ ripe-over {m} {k} f A x w z r h =
     }
 
 -- A node that is a value with its part: on from there.
-module _ {m k : Lang} (f : Frame m k) (A : Around k) (x : Term m) (w : waitsFor f ≡ false) (z : follows f ≡ 0)
-    (s : lengthAround A + size (plug f x) ≡ lengthAround A + lengthBefore f + size x) where
+module _ {m k : Lang} (f : Frame m k) (A : Frames k) (x : Term m) (w : waitsFor f ≡ false) (z : follows f ≡ 0)
+    (s : lengthFrames A + size (plug f x) ≡ lengthFrames A + lengthBefore f + size x) where
   pending-is : pending (inside f A) ≡ pending A
   pending-is = rw w (omega (arith, z))
 
@@ -174,7 +174,7 @@ module _ {m k : Lang} (f : Frame m k) (A : Around k) (x : Term m) (w : waitsFor 
   value-on (inr g) = inr (record { none = pending-is ∙ g .none; ripe = λ n b o. g .ripe n b (o .1 w); value = λ h. g .value (h .1) })
 
 -- Past the first of two parts: the second.
-to-second : {l : Lang} (o : Op2) (b : Term l) (A : Around l) (x : Term l) → Reached A → Value l x → Further (inside (first o b) A) x
+to-second : {l : Lang} (o : Op2) (b : Term l) (A : Frames l) (x : Term l) → Reached A → Value l x → Further (inside (first o b) A) x
 to-second {l} o b A x r v =
     record {
       lang = l;
@@ -188,7 +188,7 @@ to-second {l} o b A x r v =
       free = λ h. h;
     }
 
-pub onward : (m : Lang) (A : Around m) (x : Term m) → Reached A → Value m x → Further A x ⊎ Over A x
+pub onward : (m : Lang) (A : Frames m) (x : Term m) → Reached A → Value m x → Further A x ⊎ Over A x
 unfolding size
 onward m root x r v = inr (record { none = refl; ripe = λ n b o. absurd o; value = λ _. v })
 onward m (inside (under o) A) x r v = inr (ripe-over (under o) A x refl refl (r .1) v)

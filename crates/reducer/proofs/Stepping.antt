@@ -22,7 +22,7 @@ use Rattle.writing.proofs.Stores.{then, before, wrote-as}
 use Rattle.contraction.specs.declared.became.Became.{Became}
 use Rattle.contraction.specs.declared.became.Became.the-variants.{Nothing, Raises, Becomes}
 use Rattle.contraction.specs.declared.became.Piece.{Piece}
-use Rattle.contraction.specs.Told.{Gives, Tells}
+use Rattle.contraction.specs.Pieces.{Gives, Tells}
 use Rattle.contraction.specs.Chosen.{OfNode, Writes}
 use Rattle.writer.specs.Kept as writer
 use Rattle.reducer.specs.declared.turns.Found.{Found}
@@ -31,9 +31,9 @@ use Rattle.reducer.specs.declared.steps.Change.{Change}
 use Rattle.reducer.specs.declared.steps.Move.{Move}
 use Rattle.reducer.specs.declared.steps.Move.the-variants.{Value, Raised, Next, Stuck}
 use Rattle.reducer.specs.declared.turns.From.{From}
-use Rattle.reducer.specs.Around.{root, Standing, Ripe}
-use Rattle.reducer.specs.Placed.{beginning, Told, Turns}
-use Rattle.reducer.specs.Moves.{Fits, Spliced, Moved, Steps}
+use Rattle.reducer.specs.Standing.{root, Standing, Ripe}
+use Rattle.reducer.specs.Placed.{beginning, WalkTold, Turns}
+use Rattle.reducer.specs.Moves.{PieceFits, Spliced, Moved, OneStep}
 use Rattle.reducer.proofs.Onward.{contextAt, context-place, context-is, part-stands, ripe-turn}
 
 -- A term's first word is there, whatever follows.
@@ -51,7 +51,7 @@ first-word (ms t a) k = refl
 first-word (sm t a) k = refl
 
 -- The splice: what the node becomes is written first, and the words before it and after it around that.
-module _ (source : List ℕ) (place end : ℕ) (piece : Piece) (fits : Fits source place end piece) (b b₀ b′ : List ℕ) (after k : ℕ) (back : From)
+module _ (source : List ℕ) (place end : ℕ) (piece : Piece) (fits : PieceFits source place end piece) (b b₀ b′ : List ℕ) (after k : ℕ) (back : From)
     (wrote : Writes (take (length source - place) (drop place source)) piece b place after b₀)
     (next : writer.Next source place after end b₀ k b′) where
   writes : Writes (drop place source) piece b place after b₀
@@ -96,7 +96,7 @@ from-the-start t =
 pub at-any-rate : {ws : List ℕ} {from : From} {r : Found} → Turns ws from from r → (place end : ℕ) (back : From) → r ≡ found.At place end back
     → Turns ws from beginning r
 at-any-rate {ws} {from} {r} t place end back q =
-    record { of = λ e w s. subst (Told e beginning) (sym q) (subst (Told e from) q (t .of e w s)) }
+    record { of = λ e w s. subst (WalkTold e beginning) (sym q) (subst (WalkTold e from) q (t .of e w s)) }
 
 words-fill : {m l : Lang} (F : Context m l) (x : Term m) → words (fill F x) ≡ wordsBefore F ++ (words x ++ wordsAfter F)
 words-fill F x = put-fill F x [] ∙ rw (append-nil, put-append x [] (wordsAfter F))
@@ -115,16 +115,16 @@ module _ {m : Lang} (e : Term ml) (b ws : List ℕ) (r : Became) (F : Context m 
 
 module _ (source : List ℕ) (from : From) (b : List ℕ) (x : Found) (x-is : Turns source from beginning x) where
   -- A value.
-  pub step-value : x ≡ found.Nothing → Steps source from b Value b
+  pub step-value : x ≡ found.Nothing → OneStep source from b Value b
   unfolding step
   step-value h =
-      record { of = λ e q s. subst (λ t. Moved e Value b b (stepped t)) (sym (subst (Told e beginning) h (x-is .of e q s) refl)) (refl, refl) }
+      record { of = λ e q s. subst (λ t. Moved e Value b b (stepped t)) (sym (subst (WalkTold e beginning) h (x-is .of e q s) refl)) (refl, refl) }
 
   module _ (place last : ℕ) (back : From) (h : x ≡ found.At place last back) (r : Became) (told : OfNode (drop place source) r) where
     -- The node whose turn it is, and what it becomes.
     module _ (e : Term ml) (q : source ≡ words e) (s₀ : Standing e (from .place) (from .due)) where
       ripe : Ripe e place (back .place) (back .due)
-      ripe = subst (Told e beginning) h (x-is .of e q s₀)
+      ripe = subst (WalkTold e beginning) h (x-is .of e q s₀)
 
       abbrev at : Standing e place (ripe .here)
       at = ripe .standing
@@ -136,7 +136,7 @@ module _ (source : List ℕ) (from : From) (b : List ℕ) (x : Found) (x-is : Tu
       unfolding step
       by-node a b′ m = subst (λ t. Moved e a b b′ (stepped t)) (sym (ripe-turn ripe)) m
 
-    pub step-stuck : r ≡ Nothing → Steps source from b Stuck b
+    pub step-stuck : r ≡ Nothing → OneStep source from b Stuck b
     step-stuck g =
         record {
           of = λ e q s.
@@ -144,7 +144,7 @@ module _ (source : List ℕ) (from : From) (b : List ℕ) (x : Found) (x-is : Tu
               by-node e q s Stuck b (stuck-moved e b (drop place source) r (contextAt t) g (contract (t .part)) (tells e q s));
         }
 
-    pub step-raised : (c : ℕ) → r ≡ Raises c → Steps source from b (Raised c) b
+    pub step-raised : (c : ℕ) → r ≡ Raises c → OneStep source from b (Raised c) b
     step-raised c g =
         record {
           of = λ e q s.
@@ -191,5 +191,5 @@ module _ (source : List ℕ) (from : From) (b : List ℕ) (x : Found) (x-is : Tu
       next-moved e q s₀ (raises i) k t = let z : _≡_ {A = ℕ} 0 1 = cc in absurd (omega arith)
       next-moved e q s₀ nothing k t = let z : _≡_ {A = ℕ} 0 1 = cc in absurd (omega arith)
 
-      pub step-next : Steps source from b (Next c) b′
+      pub step-next : OneStep source from b (Next c) b′
       step-next = record { of = λ e q s. by-node e q s (Next c) b′ (next-moved e q s (contract (at e q s .part)) refl (tells e q s)) }

@@ -18,13 +18,13 @@ use Rattle.calculus.proofs.Values.{value-turn}
 use Rattle.writing.specs.Spans.{span}
 use Rattle.writing.proofs.Measures.{span-end}
 use Rattle.writing.proofs.Lengths.{span-next, span-join}
-use Rattle.contraction.proofs.Views.{size-some}
+use Rattle.contraction.proofs.ByForm.{size-some}
 use Rattle.reducer.specs.declared.turns.Found.{Found}
 use Rattle.reducer.specs.declared.turns.Found.the-variants.{Nothing}
 use Rattle.reducer.specs.declared.turns.From.{From}
 use Rattle.reducer.specs.declared.turns.Look.{Look}
-use Rattle.reducer.specs.Around.{inside, whole, waitsFor, pending, Standing, Ripe}
-use Rattle.reducer.specs.Placed.{beginning, Told, Turns, Spanned, finished, Alone, Enters, Looked}
+use Rattle.reducer.specs.Standing.{inside, whole, waitsFor, pending, Standing, Ripe}
+use Rattle.reducer.specs.Placed.{beginning, WalkTold, Turns, Spanned, finished, Alone, Enters, Looked}
 use Rattle.reducer.proofs.Onward.{contextAt, part-stands, Owns, owner-standing, Free, start-free, Further, Over, onward}
 
 -- The walk stands at a part; if a node was met that waits, the last such is the nearest around.
@@ -260,6 +260,6 @@ module _ {ws : List ℕ} {from : From} {i due rest : ℕ} {node back : From} {wa
   walk-turns = record { of = λ e q s₀. rw r-is (by e (came e q over (w .of e q s₀)) waits refl) }
     where
       by : (e : Term ml) → Came from e due node back waits → (b : Bool) → waits ≡ b
-          → Told e from (finished b (node .place) (i + span (drop i ws) rest) back)
+          → WalkTold e from (finished b (node .place) (i + span (drop i ws) rest) back)
       by e c true b = c .ripe b
       by e c false b = c .value b

@@ -1,3 +1,3 @@
-pub mod Around
+pub mod Standing
 pub mod Placed
 pub mod Moves

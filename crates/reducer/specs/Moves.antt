@@ -9,7 +9,7 @@ use Rattle.calculus.specs.Reduction.{becomes, contract, Outcome, value, raised,
 use Rattle.calculus.specs.Splices.{wordsBefore, Splice}
 use Rattle.writing.specs.Wrote.{Wrote}
 use Rattle.writing.specs.Spans.{span}
-use Rattle.contraction.specs.Told.{Placed}
+use Rattle.contraction.specs.Pieces.{Placed}
 use Rattle.contraction.specs.Chosen.{OfNode}
 use Rattle.contraction.specs.declared.became.Piece.{Piece}
 use Rattle.contraction.specs.declared.became.Became.the-variants.{Becomes}
@@ -17,11 +17,11 @@ use Rattle.reducer.specs.declared.turns.From.{From}
 use Rattle.reducer.specs.declared.steps.Change.{Change}
 use Rattle.reducer.specs.declared.steps.Move.{Move}
 use Rattle.reducer.specs.declared.steps.Move.the-variants.{Value, Raised, Next, Stuck}
-use Rattle.reducer.specs.Around.{Standing}
+use Rattle.reducer.specs.Standing.{Standing}
 use Rattle.reducer.specs.Placed.{FewDue}
 
 -- A piece that is what the node at a place of the source becomes, and whose places are within the words.
-pub record Fits (source : List ℕ) (place end : ℕ) (piece : Piece) : Type 0 where
+pub record PieceFits (source : List ℕ) (place end : ℕ) (piece : Piece) : Type 0 where
   pub inside : place < length source
   pub ends : end ≡ place + span (drop place source) 1
   pub told : OfNode (drop place source) (Becomes piece)
@@ -62,5 +62,5 @@ Few (Next c) = FewDue (c .back)
 Few Stuck = Unit {0}
 
 -- Of every term whose words these are, if the walk may begin where it is said to.
-pub record Steps (source : List ℕ) (from : From) (b : List ℕ) (r : Move) (b′ : List ℕ) : Type 0 where
+pub record OneStep (source : List ℕ) (from : From) (b : List ℕ) (r : Move) (b′ : List ℕ) : Type 0 where
   pub of : (e : Term ml) → source ≡ words e → Standing e (from .place) (from .due) → Moved e r b b′ (step e)

@@ -15,7 +15,7 @@ use Rattle.reducer.specs.declared.turns.Found.{Found}
 use Rattle.reducer.specs.declared.turns.Found.the-variants.{Nothing, At}
 use Rattle.reducer.specs.declared.turns.From.{From}
 use Rattle.reducer.specs.declared.turns.Look.{Look}
-use Rattle.reducer.specs.Around.{lengthBefore, waitsFor, follows, Standing, Ripe}
+use Rattle.reducer.specs.Standing.{lengthBefore, waitsFor, follows, Standing, Ripe}
 
 -- Not more parts are due than the words before the place have.
 abbrev pub FewDue : From → Type 0
@@ -23,9 +23,9 @@ FewDue f = f .due ≤ 1 + 3 * f .place
 
 -- What a walk from a place tells: the node whose turn it is; or that all parts from there on are values, up to the end of a node that waits,
 -- or of the term.
-abbrev pub Told : Term ml → From → Found → Type 0
-Told e from Nothing = from .place ≡ 0 → turn e ≡ done
-Told e from (At place end back) = Ripe e place (back .place) (back .due)
+abbrev pub WalkTold : Term ml → From → Found → Type 0
+WalkTold e from Nothing = from .place ≡ 0 → turn e ≡ done
+WalkTold e from (At place end back) = Ripe e place (back .place) (back .due)
 
 -- The start of a term.
 abbrev pub beginning : From
@@ -33,7 +33,7 @@ beginning = record { place = 0; due = 1 }
 
 -- A walk may begin where it would come to; `whole` is where it is said to have begun.
 pub record Turns (ws : List ℕ) (from whole : From) (r : Found) : Type 0 where
-  pub of : (e : Term ml) → ws ≡ words e → Standing e (from .place) (from .due) → Told e whole r
+  pub of : (e : Term ml) → ws ≡ words e → Standing e (from .place) (from .due) → WalkTold e whole r
 
 -- The node stands within the words, and ends where one node's words do.
 abbrev pub Spanned : List ℕ → Found → Type 0

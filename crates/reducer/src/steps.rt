@@ -11,7 +11,7 @@ use nodes::kinds::Kinds;
 use writer::write_next;
 ghost use Rattle.writing.specs.Given.{Given};
 ghost use Rattle.reducer.specs.Placed.{FewDue, beginning, Spanned, Turns};
-ghost use Rattle.reducer.specs.Moves.{Fits, Spliced, Few, Steps};
+ghost use Rattle.reducer.specs.Moves.{PieceFits, Spliced, Few, OneStep};
 
 // The word of the node whose turn it was, its place, how many words stood there, how many stand there now, how many words the next term has,
 // whether it fits or not, and where the next walk may begin.
@@ -41,7 +41,7 @@ fn splice(
     piece: Piece,
     target: &mut [u32],
 ) -> Change
-    requires { ⌜ Given (now table) (now source) × Fits (now source) place end piece ⌝ }
+    requires { ⌜ Given (now table) (now source) × PieceFits (now source) place end piece ⌝ }
     ensures { λ r. ⌜ Spliced (now (source .entry)) place back (now (target .entry)) r (now (target .exit)) ⌝ }
 {
     let after = write(table, &source[place..], piece, target, place);
@@ -73,7 +73,7 @@ fn whose(table: &Kinds, source: &[u32], from: From) -> Found
 pub fn step(table: &Kinds, source: &[u32], target: &mut [u32], from: From) -> Move
     requires { ⌜ Given (now table) (now source) × FewDue from ⌝ }
     ensures few { λ r. ⌜ Few r ⌝ }
-    ensures is { λ r. ⌜ Steps (now (source .entry)) from (now (target .entry)) r (now (target .exit)) ⌝ }
+    ensures is { λ r. ⌜ OneStep (now (source .entry)) from (now (target .entry)) r (now (target .exit)) ⌝ }
 {
     let found = whose(table, source, from);
     let Found::At(place, end, back) = found else {

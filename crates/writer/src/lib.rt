@@ -1,7 +1,7 @@
 // A writer: it borrows the unused buffer, and counts the words of the next term, those that did not fit too.
 
 ghost use mathlib.Core.Path.{_≡_};
-ghost use Rattle.writing.specs.Stretches.{Within};
+ghost use Rattle.writing.specs.Stretches.{StretchIn};
 ghost use Rattle.writer.specs.Kept.{Put, Gap, Next};
 
 pub struct Writer<'a> {
@@ -24,7 +24,7 @@ pub fn filled<'a>(w: Writer<'a>) -> usize
 
 // The words of src from a to e after the others.
 pub fn put<'a, 's>(w: Writer<'a>, src: &'s [u32], a: usize, e: usize) -> Writer<'a>
-    requires { ⌜ Within (now src) a e (w .at) ⌝ }
+    requires { ⌜ StretchIn (now src) a e (w .at) ⌝ }
     ensures { λ r. ⌜ Put (w .entry) (now (src .entry)) a e r ⌝ }
 {
     let at = w.at;

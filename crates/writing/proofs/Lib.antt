@@ -5,4 +5,4 @@ pub mod Measures
 pub mod Lengths
 pub mod Replacing
 pub mod Substituting
-pub mod Turns
+pub mod Rounds

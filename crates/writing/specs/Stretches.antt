@@ -9,7 +9,7 @@ abbrev pub stretch : ℕ → ℕ → List ℕ → List ℕ
 stretch a e ws = take (e - a) (drop a ws)
 
 -- They are within the words, and no place that they are written to is far.
-pub record Within (ws : List ℕ) (a e n : ℕ) : Type 0 where
+pub record StretchIn (ws : List ℕ) (a e n : ℕ) : Type 0 where
   pub few : length ws ≤ mostWords
   pub order : a ≤ e
   pub most : e ≤ length ws

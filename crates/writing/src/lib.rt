@@ -6,7 +6,7 @@ ghost use Prim.Native.Nat.{_+_, _-_, _<_, _≤_, _^_, min};
 ghost use lib.ListN.{length, take};
 ghost use Rattle.calculus.specs.File.{padded};
 ghost use Rattle.writing.specs.Wrote.{Wrote};
-ghost use Rattle.writing.specs.Stretches.{stretch, Within};
+ghost use Rattle.writing.specs.Stretches.{stretch, StretchIn};
 
 pub mod spans;
 pub mod substitution;
@@ -85,7 +85,7 @@ pub fn clear(buffer: &mut [u32], n: usize)
 
 // The words of src from a to e, from the place n on. Returns the place after them.
 pub fn stretch(src: &[u32], a: usize, e: usize, buf: &mut [u32], n: usize) -> usize
-    requires { ⌜ Within (now src) a e n ⌝ }
+    requires { ⌜ StretchIn (now src) a e n ⌝ }
     ensures { λ r. ⌜ Wrote (now (buf .entry)) n (stretch a e (now (src .entry))) r (now (buf .exit)) ⌝ }
 {
     copy_long(&src[a..e], buf, n)

@@ -3,7 +3,7 @@ use borrow.Author.Needs.{needs}
 use mathlib.Core.List.{[], _∷_}
 use native.Mathlib.Omega.{arith}
 use Rattle.writing.proofs.Stores.{then}
-use Rattle.lister.specs.Told.{nameOf}
+use Rattle.lister.specs.Numbered.{nameOf}
 use Rattle.lister.proofs.Fields.{no-field, one-field}
 use Rattle.lister.proofs.ended_line.Statement.{statement}
 use Rattle.lister.proofs.ended_line.Tie as tie

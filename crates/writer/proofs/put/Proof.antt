@@ -52,7 +52,7 @@ use Rattle.writer.proofs.Writer.Laws as T′
 use Rattle.writer.proofs.Held.{writer-spent, writer-spent-goes}
 use Rattle.writer.proofs.Again.{LentAgain, lends-again, comes-back}
 use Rattle.writing.specs.Wrote.{Wrote}
-use Rattle.writing.specs.Stretches.{stretch, Within}
+use Rattle.writing.specs.Stretches.{stretch, StretchIn}
 use Rattle.writing.proofs.stretch as stretched
 use Rattle.writing.proofs.stretch.Symbol as stretch-def
 use Rattle.writing.proofs.stretch.Symbol.{name as #writing·stretch}
@@ -126,7 +126,7 @@ module _ {M : Type 1} (𝓤 : URA M) (H : Heap 𝓤) (A : Atoms 𝓤) (W : Given
     tt,
   )
 
-  goes : (ν : ℕ) (δ : GName) → Within (z .now) i j n
+  goes : (ν : ℕ) (δ : GName) → StretchIn (z .now) i j n
       → ent 𝓤 (sep 𝓤 (A .lft κ′ q′)
       (sep 𝓤 (A .lft (ν ∷ []) fullShare) (sep 𝓤 (sem 𝓤 H A Oz) (sem 𝓤 H A (MutSlice (named 1) (ν ∷ []) u32 .own (x δ ys) (s ∷ []))))))
       (Stretch 𝓤 H A mem run .pre (to-stretch ν δ))
@@ -163,7 +163,7 @@ module _ {M : Type 1} (𝓤 : URA M) (H : Heap 𝓤) (A : Atoms 𝓤) (W : Given
       move ! (3 ∷ 0 ∷ []) $ fjoin ! $ move ! (1 ∷ 0 ∷ []) $ fjoin ! $ done !
 
   module _ (C : Calls 𝓤 H) (Λ : Loops 𝓤 H) (fm : FmC 𝓤 H (W .laws) C) (known : Triple 𝓤 (C #writing·stretch) (Stretch 𝓤 H A mem run)) where
-    walk : Is (T.the-row α) h (mach n ∷ []) → Room u32 (length ys) → Room u32 (length (z .now)) → Within (z .now) i j n
+    walk : Is (T.the-row α) h (mach n ∷ []) → Room u32 (length ys) → Room u32 (length (z .now)) → StretchIn (z .now) i j n
         → ent 𝓤 (onEntry 𝓤 H A put.signature κs (q, (q′, tt)) a vals)
         (WpFn 𝓤 H C Λ code.function (mach n ∷ zv ∷ vint w64 i ∷ vint w64 j ∷ []) Post)
     walk g room z-room within =
@@ -246,7 +246,7 @@ module _ {M : Type 1} (𝓤 : URA M) (H : Heap 𝓤) (A : Atoms 𝓤) (W : Given
         LL.tells (T.the-type (namedLft 2 0 tt κs)) (T′.the-laws (namedLft 2 0 tt κs)),
         (shr-slice-tells (named 1) (κs .1 .0) u32, (uint-tells w64, (uint-tells w64, tt))),
       ))
-      (λ κs qs bounds a g are. needs 𝓤 (Within (a .1 .0 .now) (a .1 .1 .0) (a .1 .1 .1 .0) (a .0 .at)) _ (λ within.
+      (λ κs qs bounds a g are. needs 𝓤 (StretchIn (a .1 .0 .now) (a .1 .1 .0) (a .1 .1 .1 .0) (a .0 .at)) _ (λ within.
       let fields = LL.owed (T.the-type (namedLft 2 0 tt κs)) (T′.the-laws (namedLft 2 0 tt κs)) (a .0) _ (are .0) in
       walk 𝓤 H A W mem run (κs .0) (κs .1 .0) (qs .0) (qs .1 .0) (a .0 .buf .ptr .0) (a .0 .buf .ptr .1) (a .0 .buf .name) (a .0 .buf .now) (a .0 .at)
       (a .1 .0) (a .1 .1 .0) (a .1 .1 .1 .0)

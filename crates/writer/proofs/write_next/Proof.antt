@@ -46,7 +46,7 @@ use denote.Triple.Walked.{ends-at, walked, walk-meets}
 use denote.Exit.{yes}
 use denote.Signature.{plain}
 use Rattle.writing.specs.Wrote.{Wrote}
-use Rattle.writing.specs.Stretches.{stretch, Within}
+use Rattle.writing.specs.Stretches.{stretch, StretchIn}
 use Rattle.writer.specs.Kept.{Put, Gap, Next}
 use Rattle.writer.specs.declared.Writer.{Writer}
 use Rattle.writer.proofs.Writer as T
@@ -82,10 +82,10 @@ stayed = (
 )
 
 -- what each stretch asks
-within₀ : {l : List ℕ} {p i j : ℕ} → Gap l p i j → Within l 0 p 0
+within₀ : {l : List ℕ} {p i j : ℕ} → Gap l p i j → StretchIn l 0 p 0
 within₀ h = record { few = h .few; order = zero-le; most = h .first; near = zero-le }
 
-within₁ : {l : List ℕ} {p i j : ℕ} → Gap l p i j → Within l j (length l) i
+within₁ : {l : List ℕ} {p i j : ℕ} → Gap l p i j → StretchIn l j (length l) i
 within₁ h = record { few = h .few; order = h .last; most = omega arith; near = h .near }
 
 module _ {M : Type 1} (𝓤 : URA M) (H : Heap 𝓤) (A : Atoms 𝓤) (mem : Memory → SProp 𝓤) (run : Routine → Fun 𝓤) where
@@ -169,7 +169,7 @@ module _ {M : Type 1} (𝓤 : URA M) (H : Heap 𝓤) (A : Atoms 𝓤) (W : Given
   abbrev to-put : Writer → Val → ℕ → ℕ → PutC 𝓤 H A mem run .Ghost
   to-put h w i j = ((κs, (q, (q′, tt)), tt, (h, (z, (i, (j, tt)))), (w ∷ [], (zv ∷ [], (vint w64 i ∷ [], (vint w64 j ∷ [], tt))))), tt)
 
-  goes-put : (h : Writer) (w : Val) (i j : ℕ) → i < 2 ^ 64 → j < 2 ^ 64 → Within (z .now) i j (h .at)
+  goes-put : (h : Writer) (w : Val) (i j : ℕ) → i < 2 ^ 64 → j < 2 ^ 64 → StretchIn (z .now) i j (h .at)
       → ent 𝓤 (sep 𝓤 (A .lft κ q) (sep 𝓤 (sep 𝓤 (A .lft κ′ q′) (sem 𝓤 H A ftrue)) (sep 𝓤 (sem 𝓤 H A (T.the-row α .own h (w ∷ []))) (sem 𝓤 H A Oz))))
       (PutC 𝓤 H A mem run .pre (to-put h w i j))
   goes-put h w i j i-fits j-fits within =

@@ -6,7 +6,7 @@ use lib.ListN.{length}
 use native.Mathlib.Omega.{arith}
 use Rattle.nodes.proofs.Ways.{part-length}
 use Rattle.writing.proofs.Lengths.{span-next}
-use Rattle.contraction.specs.Told.{PartIn}
+use Rattle.contraction.specs.Pieces.{PartIn}
 use Rattle.contraction.proofs.Parts.{rest-span, rest-form, rest-number}
 use Rattle.contraction.proofs.Choice.{ThreeParts, if-scheme, if-ml, if-zero, if-more}
 use Rattle.contraction.proofs.binary.of_if.Statement.{statement}

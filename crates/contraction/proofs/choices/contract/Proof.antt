@@ -8,7 +8,7 @@ use native.Mathlib.Omega.{arith}
 use Rattle.calculus.specs.Scope.{partCount}
 use Rattle.nodes.specs.Table.{rowOf}
 use Rattle.writing.proofs.Lengths.{partsBy, shape-parts}
-use Rattle.contraction.specs.Chosen.{Node}
+use Rattle.contraction.specs.Chosen.{NodeIn}
 use Rattle.contraction.proofs.Parts as parts
 use Rattle.contraction.proofs.Dispatch.{node-none, node-wrong, node-one, node-two, node-if, node-boundary, node-other}
 use Rattle.contraction.proofs.choices.contract.Statement.{statement}
@@ -26,7 +26,7 @@ module _ (c : tie.After-row-at) where
 
   -- The node, by the parts that its shape has.
   node : (shape n : ℕ) → c .row-at .result .shape ≡ shape → partsBy shape (partCount (getD ws 0 0)) ≡ n
-      → Node n (start .args .table .now) ws (start .args .end)
+      → NodeIn n (start .args .table .now) ws (start .args .end)
   node shape n e p =
       parts.node (start .pre .0) (omega (arith, c .before .before .if1 .left)) (start .pre .1)
       (shape-parts (getD ws 0 0) shape (sym shape-is ∙ e) n p)

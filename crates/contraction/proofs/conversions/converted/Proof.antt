@@ -9,7 +9,7 @@ use native.Mathlib.Omega.{arith}
 use Rattle.nodes.proofs.Ways.{part-length}
 use Rattle.writing.specs.Spans.{span}
 use Rattle.writing.proofs.Lengths.{span-next}
-use Rattle.contraction.specs.Chosen.{Value}
+use Rattle.contraction.specs.Chosen.{ValueAt}
 use Rattle.contraction.proofs.Parts.{rest-span, rest-form}
 use Rattle.contraction.proofs.CrossingFunctions.{at-N, at-L, at-list, at-function, boundary-none, boundary-no-value}
 use Rattle.contraction.proofs.conversions.converted.Statement.{statement}
@@ -40,7 +40,7 @@ module _ (c : tie.After-form-at) where
   abbrev at : tie.After-skip
   at = c .before .before .before .before
 
-  known : Value (ws at) (c .form-at .result) (value at) (start at .args .end)
+  known : ValueAt (ws at) (c .form-at .result) (value at) (start at .args .end)
   known =
       record {
         form-is = rest-form (ws at) (value at) (c .form-at .ensures);

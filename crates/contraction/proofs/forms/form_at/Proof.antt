@@ -7,7 +7,7 @@ use native.Mathlib.Omega.{arith}
 use Prim.Native.Nat.{ℕ}
 use mathlib.Core.List.{List}
 use Rattle.contraction.specs.Forms.{formBy, formAt}
-use Rattle.contraction.proofs.Views.{form-is, form-none, form-rest}
+use Rattle.contraction.proofs.ByForm.{form-is, form-none, form-rest}
 use Rattle.contraction.proofs.forms.form_at.Statement.{statement}
 use Rattle.contraction.proofs.forms.form_at.Tie as tie
 

@@ -5,7 +5,7 @@ use lib.ListN.{length}
 use native.Mathlib.Omega.{arith}
 use Rattle.writing.specs.Given.{mostPlace}
 use Rattle.contraction.specs.declared.became.Piece.{Piece}
-use Rattle.contraction.specs.Told.{PartIn, Placed}
+use Rattle.contraction.specs.Pieces.{PartIn, Placed}
 use Rattle.contraction.specs.Chosen.{Near}
 use Rattle.contraction.proofs.Dispatch.{stretch-length, words-write, known-piece}
 use Rattle.contraction.proofs.pieces.write.Statement.{statement}

@@ -8,7 +8,7 @@ use borrow.Rule.Slice.PartAt.{part-to-end}
 use native.Mathlib.Omega.{arith}
 use Rattle.nodes.proofs.Ways.{part-length}
 use Rattle.writing.specs.Spans.{span}
-use Rattle.contraction.specs.Told.{Within}
+use Rattle.contraction.specs.Pieces.{BecameIn}
 use Rattle.contraction.specs.Chosen.{OfNode}
 use Rattle.reducer.specs.declared.turns.Found.the-variants.{At}
 use Rattle.reducer.specs.Placed.{Spanned}
@@ -115,9 +115,9 @@ splice-requires c κs =
     let f = after-found′ after-contract in
     let e = c .before .before .became2 .given .1 in
     let l = part-length (s .args .source .now) (f .found .given .0 .0) in
-    let w = subst (λ (n : ℕ). Within n (after-contract .contract .result)) l (after-contract .contract .ensures .0) in (
+    let w = subst (λ (n : ℕ). BecameIn n (after-contract .contract .result)) l (after-contract .contract .ensures .0) in (
       s .pre .0,
-      record { inside = known f .0; ends = end-is f; told = subst (OfNode _) e (told after-contract); within = subst (Within _) e w },
+      record { inside = known f .0; ends = end-is f; told = subst (OfNode _) e (told after-contract); within = subst (BecameIn _) e w },
     )
 
 returns-2 : tie.Need-returns-2

@@ -10,7 +10,7 @@ use Rattle.nodes.specs.Table.{rowOf}
 use Rattle.nodes.specs.Walks.{sortsOf}
 use Rattle.nodes.proofs.Ways.{part-length}
 use Rattle.writing.proofs.Stores.{wrote-length}
-use Rattle.writing.proofs.Turns.{Begun, begins, ends, breaks, replaces, passes, enters, descends}
+use Rattle.writing.proofs.Rounds.{Begun, begins, ends, breaks, replaces, passes, enters, descends}
 use borrow.Fn.Kinds.{In}
 use borrow.Fn.PlainCycle.{Measures, is, falls, and}
 use Rattle.writing.proofs.substitution.substitute.Reads as substitute

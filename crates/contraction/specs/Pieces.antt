@@ -82,10 +82,10 @@ Placed n (IntoML s v e) = LambdaIn n s v e
 Placed n (IntoScheme s v e) = LambdaIn n s v e
 Placed n (Substituted x b a e) = BodyIn n x b a e
 
-abbrev pub Within : ℕ → Became → Type 0
-Within n Nothing = Unit {0}
-Within n (Raises c) = Unit {0}
-Within n (Becomes p) = Placed n p
+abbrev pub BecameIn : ℕ → Became → Type 0
+BecameIn n Nothing = Unit {0}
+BecameIn n (Raises c) = Unit {0}
+BecameIn n (Becomes p) = Placed n p
 
 -- What hangs on numbers alone, as code computes it, for Scheme or for ML: a value that no rule takes;
 abbrev pub amissIn : Bool → ℕ → Became

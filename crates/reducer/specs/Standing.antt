@@ -8,16 +8,16 @@ use Rattle.calculus.specs.Reduction.{isLump, isCons, Frame, under, first, secon
 use Rattle.calculus.specs.Evaluation.{Taken, Ready}
 
 -- The frames around an open place of a term, from the place outwards; and the term, with x there.
-pub data Around : Lang → Type 0 where
-  root : Around ml
-  inside : {m k : Lang} → Frame m k → Around k → Around m
+pub data Frames : Lang → Type 0 where
+  root : Frames ml
+  inside : {m k : Lang} → Frame m k → Frames k → Frames m
 
-abbrev pub whole : {m : Lang} → Around m → Term m → Term ml
+abbrev pub whole : {m : Lang} → Frames m → Term m → Term ml
 whole root x = x
 whole (inside f A) x = whole A (plug f x)
 
 -- Evaluation goes to the place.
-abbrev pub Reached : {m : Lang} → Around m → Type 0
+abbrev pub Reached : {m : Lang} → Frames m → Type 0
 Reached root = Unit {0}
 Reached (inside f A) = Taken f × Reached A
 
@@ -30,9 +30,9 @@ lengthBefore (tested b c) = 1
 lengthBefore (intoML t) = 1 + sizeTy t
 lengthBefore (intoScheme t) = 1 + sizeTy t
 
-abbrev pub lengthAround : {m : Lang} → Around m → ℕ
-lengthAround root = 0
-lengthAround (inside f A) = lengthAround A + lengthBefore f
+abbrev pub lengthFrames : {m : Lang} → Frames m → ℕ
+lengthFrames root = 0
+lengthFrames (inside f A) = lengthFrames A + lengthBefore f
 
 -- Whether a node waits for its parts to be values and has its turn then; else it is a value then.
 abbrev pub waitsFor : {m l : Lang} → Frame m l → Bool
@@ -52,18 +52,18 @@ follows (tested b c) = 0
 follows (intoML t) = 0
 follows (intoScheme t) = 0
 
-abbrev pub pending : {m : Lang} → Around m → ℕ
+abbrev pub pending : {m : Lang} → Frames m → ℕ
 pending root = 0
 pending (inside f A) = follows f + cond (waitsFor f) 0 (pending A)
 
 -- At the place i of the term e stands a part to which evaluation goes; with those that follow `due` parts are to be taken.
 pub record Standing (e : Term ml) (i due : ℕ) : Type 0 where
   pub lang : Lang
-  pub around : Around lang
+  pub around : Frames lang
   pub part : Term lang
   pub is : whole around part ≡ e
   pub reached : Reached around
-  pub place : i ≡ lengthAround around
+  pub place : i ≡ lengthFrames around
   pub due-is : due ≡ 1 + pending around
 
 -- The part that stands at the place i is the node whose turn it is; and whatever it becomes, a walk may begin at `back`, where `due` parts are to
