@@ -11,7 +11,7 @@ use Rattle.calculus.specs.Kinds.{term}
 use Rattle.calculus.specs.Reduction.{contract}
 use Rattle.calculus.proofs.Sizes.{tree-length}
 use Rattle.nodes.specs.Table.{rowOf}
-use Rattle.nodes.proofs.Terms.{Shaped, a-variable, a-number, a-lambda, one-part, two-parts, a-choice, a-nil, a-wrong, an-ms, an-sm, by-shape}
+use Rattle.nodes.proofs.Terms.{Shaped, a-variable, a-number, a-lambda, one-part, two-parts, an-if0, a-nil, a-wrong, an-ms, an-sm, by-shape}
 use Rattle.writing.specs.Wrote.{Wrote}
 use Rattle.writing.specs.Substituted as sub
 use Rattle.writing.proofs.Stores.{wrote-as}
@@ -54,7 +54,7 @@ module _ (ws : List ℕ) {shape : ℕ} (shape-is : shape ≡ rowOf (getD ws 0 0 
   node-two h g = record { of = λ l e k q. two-told g l e k q (shape-of l e k q 5 h) }
 
   if-told : {r : Became} → OfIf ws r → (l : Lang) (e : Term l) (k : List ℕ) → ws ≡ put e k → Shaped l 6 e → Tells ws r (contract e)
-  if-told g l e k q (a-choice a b c) = g .of l a b c k q
+  if-told g l e k q (an-if0 a b c) = g .of l a b c k q
 
   pub node-if : {r : Became} → shape ≡ 6 → OfIf ws r → OfNode ws r
   node-if h g = record { of = λ l e k q. if-told g l e k q (shape-of l e k q 6 h) }
@@ -75,7 +75,7 @@ module _ (ws : List ℕ) {shape : ℕ} (shape-is : shape ≡ rowOf (getD ws 0 0 
   other-told l e n a-lambda a b c d f = refl
   other-told l e n (one-part o x) a b c d f = absurd (b refl)
   other-told l e n (two-parts o x y) a b c d f = absurd (c refl)
-  other-told l e n (a-choice x y z) a b c d f = absurd (d refl)
+  other-told l e n (an-if0 x y z) a b c d f = absurd (d refl)
   other-told l e n a-nil a b c d f = refl
   other-told l e n (a-wrong x t) a b c d f = absurd (a refl)
   other-told l e n (an-ms t x) a b c d f = absurd (f refl)

@@ -32,13 +32,13 @@ fn operator(w: u32) -> u64
     if w == nodes::words::SCHEME_HD {
         return HD;
     }
-    if w == nodes::words::FIX {
+    if w == nodes::words::ML_FIX {
         return FIX;
     }
-    if w == nodes::words::IS_NULL {
+    if w == nodes::words::ML_NULL {
         return NULL;
     }
-    if w % 256 == nodes::words::TEST {
+    if w % 256 == nodes::words::SCHEME_TEST {
         return TEST;
     }
     1

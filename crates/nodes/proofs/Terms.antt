@@ -16,7 +16,7 @@ pub data Shaped : (l : Lang) → ℕ → Term l → Type 0 where
   a-lambda : {l : Lang} {t : Static l} {b : Term l} → Shaped l 3 (lam t b)
   one-part : {l : Lang} (o : Op1 l) (a : Term l) → Shaped l 4 (op1 o a)
   two-parts : {l : Lang} (o : Op2) (a b : Term l) → Shaped l 5 (op2 o a b)
-  a-choice : {l : Lang} (a b c : Term l) → Shaped l 6 (if0 a b c)
+  an-if0 : {l : Lang} (a b c : Term l) → Shaped l 6 (if0 a b c)
   a-nil : {l : Lang} {t : Static l} → Shaped l 7 (nil t)
   a-wrong : {l : Lang} (c : ℕ) (t : Static l) → Shaped l 8 (wrong c t)
   an-ms : (t : Ty) (a : Term sc) → Shaped ml 9 (ms t a)
@@ -28,7 +28,7 @@ shaped l (num n) = a-number
 shaped l (lam t b) = a-lambda
 shaped l (op1 o a) = one-part o a
 shaped l (op2 o a b) = two-parts o a b
-shaped l (if0 a b c) = a-choice a b c
+shaped l (if0 a b c) = an-if0 a b c
 shaped l (nil t) = a-nil
 shaped l (wrong c t) = a-wrong c t
 shaped ml (ms t a) = an-ms t a

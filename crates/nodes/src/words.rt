@@ -19,7 +19,7 @@ pub const ML_LAMBDA: u32 = 18;
 
 pub const ML_APPLICATION: u32 = 19;
 
-pub const FIX: u32 = 20;
+pub const ML_FIX: u32 = 20;
 
 pub const ML_ADD: u32 = 21;
 
@@ -31,7 +31,7 @@ pub const ML_HD: u32 = 26;
 
 pub const ML_TL: u32 = 27;
 
-pub const IS_NULL: u32 = 28;
+pub const ML_NULL: u32 = 28;
 
 const ML_WRONG: u32 = 29;
 
@@ -57,7 +57,7 @@ pub const SCHEME_CONS: u32 = 40;
 
 pub const SCHEME_HD: u32 = 41;
 
-pub const TEST: u32 = 43;
+pub const SCHEME_TEST: u32 = 43;
 
 const SCHEME_WRONG: u32 = 44;
 

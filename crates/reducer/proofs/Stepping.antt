@@ -1,6 +1,6 @@
 -- The ways out of a step, and the splice: the words before the node, what it becomes, and the words after it. Assumes nothing.
 use Prim.Native.Nat.{ℕ, _+_, _-_}
-use mathlib.Core.List.{List, [], _++_, append-nil, append-assoc}
+use mathlib.Core.List.{List, [], _++_, append-assoc}
 use mathlib.Core.Path.{_≡_, refl, sym, ap, _∙_, subst}
 use lib.ListN.{length, getD, take, drop}
 use lib.Seq.{take-at, drop-at, drop-drop, getD-drop}
@@ -13,7 +13,7 @@ use Rattle.calculus.specs.Kinds.{term}
 use Rattle.calculus.specs.Reduction.{becomes, raises, nothing, contract, Context, fill, turn, stepped, outcome, step}
 use Rattle.calculus.specs.Reduction as calculus
 use Rattle.calculus.proofs.Sizes.{put-append, tree-length, drop-tree}
-use Rattle.calculus.proofs.Splices.{put-fill}
+use Rattle.calculus.proofs.Splices.{put-fill, words-fill}
 use Rattle.calculus.specs.Splices.{wordsBefore, wordsAfter}
 use Rattle.calculus.proofs.Turns as turns
 use Rattle.writing.specs.Wrote.{Wrote}
@@ -97,9 +97,6 @@ pub at-any-rate : {ws : List ℕ} {from : From} {r : Found} → Turns ws from fr
     → Turns ws from beginning r
 at-any-rate {ws} {from} {r} t place end back q =
     record { of = λ e w s. subst (WalkTold e beginning) (sym q) (subst (WalkTold e from) q (t .of e w s)) }
-
-words-fill : {m l : Lang} (F : Context m l) (x : Term m) → words (fill F x) ≡ wordsBefore F ++ (words x ++ wordsAfter F)
-words-fill F x = put-fill F x [] ∙ rw (append-nil, put-append x [] (wordsAfter F))
 
 -- What becomes of the node, if it is nothing, or an error.
 module _ {m : Lang} (e : Term ml) (b ws : List ℕ) (r : Became) (F : Context m ml) where

@@ -18,7 +18,7 @@ use Rattle.writing.specs.Spans.{span}
 use Rattle.writing.proofs.Measures.{span-tree, span-none}
 use Rattle.writing.proofs.Lengths.{span-next, span-parts, shape-parts}
 use Rattle.contraction.specs.Forms.{formNumber, formAt}
-use Rattle.nodes.proofs.Terms.{Shaped, a-variable, a-number, a-lambda, one-part, two-parts, a-choice, a-nil, a-wrong, an-ms, an-sm, by-shape}
+use Rattle.nodes.proofs.Terms.{Shaped, a-variable, a-number, a-lambda, one-part, two-parts, an-if0, a-nil, a-wrong, an-ms, an-sm, by-shape}
 use Rattle.contraction.proofs.ByForm.{form-at}
 use Rattle.reducer.specs.Placed.{taking, Alone, Enters, Looked}
 
@@ -58,19 +58,19 @@ module _ (ws : List ℕ) (shape : ℕ) (shape-is : shape ≡ rowOf (getD ws 0 0 
       }
 
   -- if0: the other two parts are the rest.
-  choice-seen : (l : Lang) (e : Term l) → Shaped l 6 e → Alone (taking 1 1 2 true) e ⊎ Enters (taking 1 1 2 true) e
-  choice-seen l e (a-choice a b c) =
+  if0-seen : (l : Lang) (e : Term l) → Shaped l 6 e → Alone (taking 1 1 2 true) e ⊎ Enters (taking 1 1 2 true) e
+  if0-seen l e (an-if0 a b c) =
       inr (record { lang = l; frame = tested b c; part = a; is = refl; taken = tt; start = refl; takes = refl; own = refl })
 
-  pub look-choice : shape ≡ 6 → Looked ws (taking 1 1 2 true)
-  look-choice h =
+  pub look-if0 : shape ≡ 6 → Looked ws (taking 1 1 2 true)
+  look-if0 h =
       record {
         ends = sym (span-parts ws 3 some (shape-parts (getD ws 0 0) 6 (sym shape-is ∙ h) 3 refl));
         some = omega arith;
         within = some;
         few = omega arith;
         closed = λ g. absurd (subst T g tt);
-        of = λ l e k q. choice-seen l e (shape-of 6 h l e k q);
+        of = λ l e k q. if0-seen l e (shape-of 6 h l e k q);
       }
 
   module _ (form-number : ℕ) (form-is : form-number ≡ formAt ws) where
@@ -87,7 +87,7 @@ module _ (ws : List ℕ) (shape : ℕ) (shape-is : shape ≡ rowOf (getD ws 0 0 
     alone-kind e n a-lambda a b c d = inr (refl, lamV)
     alone-kind e n (one-part o x) a b c d = absurd (a refl)
     alone-kind e n (two-parts o x y) a b c d = absurd (b refl)
-    alone-kind e n (a-choice x y z) a b c d = absurd (c refl)
+    alone-kind e n (an-if0 x y z) a b c d = absurd (c refl)
     alone-kind e n a-nil a b c d = inr (refl, nilV)
     alone-kind e n (a-wrong x t) a b c d = inl (refl, tt)
     alone-kind e n (an-ms t x) a b c d = absurd (d refl)

@@ -157,7 +157,7 @@ module _ {l : Lang} {row : code.Row} {start : ℕ} {ls3 : List ℕ} {t u : Refer
       reached-3 = further (reached-2 A) K z
 
       by : (e : Term l) → Shaped l 6 e → Goal l w ls at scope ls4 r e
-      by i (node.a-choice a c e) Γ k d s =
+      by i (node.an-if0 a c e) Γ k d s =
           let y = past-word at _ w _ d in
           let g = first-good (A .one) (if0 a c e) k d refl (λ h. omega (arith, h)) a Γ (put c (put e k)) y s in
           let p = at + 1 + size a in

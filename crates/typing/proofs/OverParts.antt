@@ -248,7 +248,7 @@ module _ {l : Lang} {row : code.Row} {start : ℕ} {ls3 : List ℕ} {t u : Refer
   three-bad {ls4} {r3} K {b} z seen = bad-node reached-2 K z (λ e k d. by e (seen e k d))
     where
       by : (e : Term l) → Shaped l 6 e → Goal l w ls at scope ls4 r3 e
-      by e (node.a-choice a c f) Γ k d s =
+      by e (node.an-if0 a c f) Γ k d s =
           let y = past-word at _ w _ d in
           let g = first-good (A .one) (if0 a c f) k d refl (λ h. omega (arith, h)) a Γ (put c (put f k)) y s in
           let y′ = past-tree (term l) a (at + 1) w (put c (put f k)) y in

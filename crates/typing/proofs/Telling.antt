@@ -150,12 +150,12 @@ module _ {w : List ℕ} {at : ℕ} {row : code.Row} (R : Read w at row) where
           by e h (branch-one o a) = absurd (n4 h)
           by e h (branch-more s) = s
 
-      pub choice : (row .shape ≡ 5 → ⊥) → (l : Lang) → Of l w at (Shaped l 6)
-      choice n5 l e k d = by e (shape-told e k d) (several l e k d)
+      pub told-if0 : (row .shape ≡ 5 → ⊥) → (l : Lang) → Of l w at (Shaped l 6)
+      told-if0 n5 l e k d = by e (shape-told e k d) (several l e k d)
         where
           by : {l : Lang} (e : Term l) → row .shape ≡ shapeNumber (term l) e → Several l e → Shaped l 6 e
           by e h (several-two o a b) = absurd (n5 h)
-          by e h (several-three a b c) = node.a-choice a b c
+          by e h (several-three a b c) = node.an-if0 a b c
 
     -- In Scheme the parts' sorts tell as much.
     pub scheme-one : row .parts < 5 → (e : Term sc) (k : List ℕ) → drop at w ≡ put e k → Several sc e → ⊥
@@ -183,4 +183,4 @@ module _ {w : List ℕ} {at : ℕ} {row : code.Row} (R : Read w at row) where
         where
           by : (e : Term sc) → row .parts ≡ schemeParts (shapeNumber (term sc) e) → Several sc e → Shaped sc 6 e
           by e h (several-two o a b) = absurd (omega (arith, h))
-          by e h (several-three a b c) = node.a-choice a b c
+          by e h (several-three a b c) = node.an-if0 a b c

@@ -183,7 +183,7 @@ pub fn result_1(table: &Kinds, all: &[u32], link: &[u16], w: u32, at: usize, t: 
     requires { ⌜ Linked (now table) (now all) (now link) ⌝ }
     ensures { λ r. ⌜ Result1 (now (all .entry)) (now (link .entry)) w at t r ⌝ }
 {
-    if w == nodes::words::FIX {
+    if w == nodes::words::ML_FIX {
         return fix_type(table, all, link, t);
     }
     let e = element(table, all, t);

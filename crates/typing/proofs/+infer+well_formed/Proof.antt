@@ -15,7 +15,7 @@ use Rattle.nodes.specs.Table.{rowOf}
 use Rattle.nodes.proofs.Terms.{Shaped}
 use Rattle.typing.specs.Answers.{inferred, formed}
 use Rattle.typing.specs.Parts.{Begins, Read, PartsStart, Leaf}
-use Rattle.typing.proofs.Telling.{Several, Of, first-word, told, several, choice, scheme-one, scheme-several, scheme-two, scheme-three}
+use Rattle.typing.proofs.Telling.{Several, Of, first-word, told, several, told-if0, scheme-one, scheme-several, scheme-two, scheme-three}
 use Rattle.typing.proofs.Leaves.{no-words}
 use Rattle.typing.proofs.OverParts.{AtNode, ComeTo, further, links-at, hands-on, begun, a-boundary, Entering, reached, one-bad, One, one-of}
 use Rattle.typing.proofs.OverParts.{reached-1, two-bad, Two, two-of, reached-2, three-bad}
@@ -214,7 +214,7 @@ module _ {t : ℕ} where
   ml-if0 c =
       let h = ml-more (ml-second (ml-whole-2 c)) in
       let O = ml-one (ml-whole h) .entering in
-      choice (O .node .read) (O .many) (O .plain) (h .before .before .if4 .left) (h .if5 .left) (c .before .before .before .if6 .left) ml
+      told-if0 (O .node .read) (O .many) (O .plain) (h .before .before .if4 .left) (h .if5 .left) (c .before .before .before .if6 .left) ml
 
   ml-returns : Ml t i.Need-returns
   ml-returns c = no-words ml _ _ _ _ (sym (ap length (c .before .before .before .before .pre .1 .here)) ∙ c .if1 .taken)

@@ -9,7 +9,7 @@ use native.Mathlib.Omega.{arith}
 use Rattle.nodes.specs.Table.{rowOf}
 use Rattle.nodes.proofs.Ways.{part-length}
 use Rattle.writing.specs.Spans.{span}
-use Rattle.reducer.proofs.Turning.{look-number, look-one, look-choice, look-two, look-boundary, look-alone}
+use Rattle.reducer.proofs.Turning.{look-number, look-one, look-if0, look-two, look-boundary, look-alone}
 use Rattle.reducer.proofs.turns.look_at.Statement.{statement}
 use Rattle.reducer.proofs.turns.look_at.Tie as tie
 
@@ -80,7 +80,7 @@ returns-4 c =
     let then4 = c .before in
     let after-row-at = c .before .before .before .before .before in
     let start = c .before .before .before .before .before .before .before .before in
-    rw (c .taking4 .ensures) (look-choice _ _ (shape-is after-row-at) (start .pre .1) (then4 .if4 .taken))
+    rw (c .taking4 .ensures) (look-if0 _ _ (shape-is after-row-at) (start .pre .1) (then4 .if4 .taken))
 
 form-at-requires-2 : tie.Need-form-at-requires-2
 form-at-requires-2 c κs = search needs
