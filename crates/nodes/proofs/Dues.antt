@@ -14,7 +14,7 @@ use Rattle.calculus.specs.Kinds.{Sort, type, term, Row, table, rowIn, rowFor}
 use Rattle.nodes.specs.declared.kinds.Row as code
 use Rattle.nodes.specs.Table.{sortNumber, rowOf, rows, listed}
 use Rattle.nodes.specs.Walks.{sortThen, sortsOf, SortDigits, isDue}
-use Rattle.nodes.proofs.Table.{not-in, past, by-table, by-rows}
+use Rattle.nodes.proofs.Table.{not-in, past, every-kind, by-rows}
 
 -- What a walk needs of a row: its parts and its operand's range.
 abbrev Use : Type 0
@@ -29,11 +29,11 @@ use-in s r = cond (eqb (r .sort) (sortNumber s)) (some (sortsOf (r .parts), r .l
 -- The code's row tells it of every sort: one computed test for each.
 use-is : (s : Sort) (k : ℕ) → use-of (rowIn (table s) k) ≡ use-in s (rowOf k)
 unfolding rowOf sortsOf
-use-is type = by-table (λ k. use-of (rowIn (table type) k)) (λ k. use-in type (rowOf k)) refl (λ k h. rw (past k h, not-in (table type) tt k h))
+use-is type = every-kind (λ k. use-of (rowIn (table type) k)) (λ k. use-in type (rowOf k)) refl (λ k h. rw (past k h, not-in (table type) tt k h))
 use-is (term ml) =
-    by-table (λ k. use-of (rowIn (table (term ml)) k)) (λ k. use-in (term ml) (rowOf k)) refl (λ k h. rw (past k h, not-in (table (term ml)) tt k h))
+    every-kind (λ k. use-of (rowIn (table (term ml)) k)) (λ k. use-in (term ml) (rowOf k)) refl (λ k h. rw (past k h, not-in (table (term ml)) tt k h))
 use-is (term sc) =
-    by-table (λ k. use-of (rowIn (table (term sc)) k)) (λ k. use-in (term sc) (rowOf k)) refl (λ k h. rw (past k h, not-in (table (term sc)) tt k h))
+    every-kind (λ k. use-of (rowIn (table (term sc)) k)) (λ k. use-in (term sc) (rowOf k)) refl (λ k h. rw (past k h, not-in (table (term sc)) tt k h))
 
 -- A due word, by the code's row.
 module _ {B : Type 0} (x : B) (f : List Sort → B) (o : ℕ) where

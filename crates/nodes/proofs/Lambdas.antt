@@ -18,7 +18,7 @@ use Rattle.nodes.specs.declared.kinds.Row as code
 use Rattle.nodes.specs.Table.{rowOf, rows, listed}
 use Rattle.nodes.specs.Walks.{sortsOf}
 use Rattle.nodes.specs.Languages.{langOf, lambdasIn, WordIn, Entered}
-use Rattle.nodes.proofs.Table.{not-in, past, by-table, by-rows}
+use Rattle.nodes.proofs.Table.{not-in, past, every-kind, by-rows}
 
 -- What hangs on two kinds, ML's and Scheme's, hangs on the shape that they share and the sort.
 module _ {X : Type 0} (a b c : X) where
@@ -32,7 +32,7 @@ module _ {X : Type 0} (a b c : X) where
       → (k : ℕ) → by-kinds m s k ≡ by-shape h (rowOf k)
   unfolding by-kinds by-shape
   agree m s h hm hs hh e =
-      by-table (by-kinds m s) (λ k. by-shape h (rowOf k)) e
+      every-kind (by-kinds m s) (λ k. by-shape h (rowOf k)) e
       (λ k far. rw (past k far, ne-eqb k m (λ p. omega (arith, p)), ne-eqb k s (λ p. omega (arith, p)), ne-eqb 0 h (λ p. hh (sym p))))
 
   pub by-variable : (k : ℕ) → cond (eqb k 16) a (cond (eqb k 32) b c) ≡ cond (eqb (rowOf k .shape) 1) (cond (eqb (rowOf k .sort) 2) a b) c
@@ -47,7 +47,7 @@ module _ {X : Type 0} (a b c : X) where
 pub row-count : (w : ℕ) → rowOf (w % 256) .count ≡ partCount w
 unfolding rowOf
 row-count w =
-    by-table (λ k. rowOf k .count) (λ k. found (rowIn (table (sortOfKind k)) k) 0 (λ r. length (r .parts))) refl
+    every-kind (λ k. rowOf k .count) (λ k. found (rowIn (table (sortOfKind k)) k) 0 (λ r. length (r .parts))) refl
     (λ k h. rw (past k h, not-in (table type) tt k h, not-in (table (term ml)) tt k h, not-in (table (term sc)) tt k h)) (w % 256)
 
 pub count-few : (k : ℕ) → rowOf k .count ≤ 3
@@ -57,7 +57,7 @@ count-few k = leb-true (rowOf k .count) 3 (by-rows (λ r. leb (r .count) 3) (λ 
 pub part-count : (w : ℕ) → partCount w ≡ length (sortsOf (rowOf (w % 256) .parts))
 unfolding rowOf sortsOf
 part-count w =
-    by-table (λ k. found (rowIn (table (sortOfKind k)) k) 0 (λ r. length (r .parts))) (λ k. length (sortsOf (rowOf k .parts))) refl
+    every-kind (λ k. found (rowIn (table (sortOfKind k)) k) 0 (λ r. length (r .parts))) (λ k. length (sortsOf (rowOf k .parts))) refl
     (λ k h. rw (past k h, not-in (table type) tt k h, not-in (table (term ml)) tt k h, not-in (table (term sc)) tt k h)) (w % 256)
 
 -- The lambda with n others between, in the buffer.

@@ -61,8 +61,8 @@ unfolding rowOf
 past k h = rw (not-in (table type) tt k h, not-in (table (term ml)) tt k h, not-in (table (term sc)) tt k h)
 
 -- The one law of the table: what is computed alike at each row, and alike past the last, is alike at every kind.
-pub by-table : {X : Type 0} (f g : ℕ → X) → listed f 0 rows ≡ listed g 0 rows → ((k : ℕ) → rows ≤ k → f k ≡ g k) → (k : ℕ) → f k ≡ g k
-by-table f g e far k = by (ltb k rows) refl
+pub every-kind : {X : Type 0} (f g : ℕ → X) → listed f 0 rows ≡ listed g 0 rows → ((k : ℕ) → rows ≤ k → f k ≡ g k) → (k : ℕ) → f k ≡ g k
+every-kind f g e far k = by (ltb k rows) refl
   where
     by : (t : Bool) → ltb k rows ≡ t → f k ≡ g k
     by true h = same-list f g rows e k (ltb-true k rows h)
@@ -71,4 +71,4 @@ by-table f g e far k = by (ltb k rows) refl
 -- What hangs on a kind's row alone.
 pub by-rows : {X : Type 0} (f g : code.Row → X) → listed (λ k. f (rowOf k)) 0 rows ≡ listed (λ k. g (rowOf k)) 0 rows → f noEntry ≡ g noEntry
     → (k : ℕ) → f (rowOf k) ≡ g (rowOf k)
-by-rows f g e z = by-table (λ k. f (rowOf k)) (λ k. g (rowOf k)) e (λ k h. rw (past k h) z)
+by-rows f g e z = every-kind (λ k. f (rowOf k)) (λ k. g (rowOf k)) e (λ k h. rw (past k h) z)
