@@ -44,13 +44,16 @@ fn splice(
     requires { ⌜ Given (now table) (now source) × PieceFits (now source) place end piece ⌝ }
     ensures { λ r. ⌜ Spliced (now (source .entry)) place back (now (target .entry)) r (now (target .exit)) ⌝ }
 {
+    let word = source[place];
+    let stood = end - place;
     let after = write(table, &source[place..], piece, target, place);
     let size = write_next(target, source, place, after, end);
+    let stands = after - place;
     Change {
-        word: source[place],
+        word: word,
         place: place,
-        stood: end - place,
-        stands: after - place,
+        stood: stood,
+        stands: stands,
         size: size,
         back: back,
     }

@@ -25,85 +25,71 @@ module _ (c : tie.Start) where
   end-past : c .args .place ≤ c .args .end
   end-past = omega (arith, c .pre .1 .ends)
 
+-- The moments when the node's words have been written, and when the others have; and the start.
+module _ (c : tie.After-shared-slice-known2) where
+  abbrev start : tie.Start
+  start = c .before .before .before
+
+module _ (c : tie.After-write) where
+  abbrev read : tie.After-shared-slice-known2
+  read = c .before .before .before
+
+module _ (c : tie.After-slice-known3) where
+  abbrev after-next : tie.After-write-next
+  after-next = c .before .before
+
+  abbrev after-write : tie.After-write
+  after-write = after-next .before .before .before .before
+
+mul-word : tie.Need-mul-word
+mul-word c =
+    let s = c .before .before in
+    record { fits = omega (arith, s .pre .0 .few, s .pre .1 .inside) }
+
+shared-slice-read-word : tie.Need-shared-slice-read-word
+shared-slice-read-word c = start c .pre .1 .inside
+
 mul-write : tie.Need-mul-write
 mul-write c =
-    let start = c .before .before in
-    record { fits = omega (arith, start .pre .0 .few, start .pre .1 .inside) }
-
-sub-write : tie.Need-sub-write
-sub-write c = place-in (c .before .before)
-
-part-write-start : tie.Need-part-write-start
-part-write-start c = place-in (c .before .before)
-
-part-write-end : tie.Need-part-write-end
-part-write-end c = search needs
+    let s = start c in
+    record { fits = omega (arith, s .pre .0 .few, s .pre .1 .inside) }
 
 write-requires : tie.Need-write-requires
 write-requires c κs =
-    let start = c .before .before .before .before in
-    let s = start in
+    let s = start (c .before .before) in
     let l = part-length (s .args .source .now) (s .args .place) in
     let p = subst (λ (n : ℕ). Placed n (s .args .piece)) (sym l) (s .pre .1 .within) in
     ((record { table-is = s .pre .0 .table-is; few = omega (arith, l, s .pre .0 .few) }, omega (arith, s .pre .0 .few, s .pre .1 .inside)), p)
 
 write-next-requires : tie.Need-write-next-requires
 write-next-requires c κs =
-    let after-write = c .before .before .before in
-    let start = c .before .before .before .before .before .before .before .before in
-    let s = start in
+    let w = c .before .before .before in
+    let s = start (read w) in
     record {
       few = s .pre .0 .few;
       first = place-in s;
-      last = end-in s;
-      near = omega (arith, after-write .write .ensures .1 .1, s .pre .0 .few, s .pre .1 .inside);
+      last = omega (arith, end-in s, place-in s);
+      near = omega (arith, w .write .ensures .1 .1, s .pre .0 .few, s .pre .1 .inside);
     }
-
--- The moment when the node's words have been written, and the moment when the others have.
-module _ (c : tie.After-shared-slice-known2) where
-  abbrev after-next : tie.After-write-next
-  after-next = c .before .before .before
-
-  abbrev after-write : tie.After-write
-  after-write = after-next .before .before .before .before
-
-  abbrev begun : tie.Start
-  begun = after-write .before .before .before .before .before
-
-mul-t10 : tie.Need-mul-t10
-mul-t10 c =
-    let start = c .before .before .before .before .before .before .before .before .before .before .before in
-    record { fits = omega (arith, start .pre .0 .few, start .pre .1 .inside) }
-
-shared-slice-read-t20 : tie.Need-shared-slice-read-t20
-shared-slice-read-t20 c = begun c .pre .1 .inside
-
-sub-t12 : tie.Need-sub-t12
-sub-t12 c = end-past (begun c)
-
-sub-t21 : tie.Need-sub-t21
-sub-t21 c = after-write c .write .ensures .1 .0
-
-same-length : tie.Need-same-length
-same-length c = search needs
 
 returns : tie.Need-returns
 returns c =
-    spliced _ _ _ _ (begun c .pre .1) _ _ _ _ _ _ (after-write c .write .ensures .0) (after-next c .write-next .ensures)
+    let w = after-write c in
+    spliced _ _ _ _ (start (read w) .pre .1) _ _ _ _ _ _ (w .write .ensures .0) (after-next c .write-next .ensures)
 
 pub splice-spec : {M : Type 1} → statement M
 splice-spec =
     tie.close
     (tie.spec
+    mul-word
+    shared-slice-read-word
+    (λ c. end-past (start c))
     mul-write
-    sub-write
-    part-write-start
-    part-write-end
+    (λ c. place-in (start c))
+    (λ c. place-in (start c))
+    (λ c. search needs)
     write-requires
     write-next-requires
-    mul-t10
-    shared-slice-read-t20
-    sub-t12
-    sub-t21
-    same-length
+    (λ c. after-write c .write .ensures .1 .0)
+    (λ c. search needs)
     returns)
