@@ -42,7 +42,7 @@ module _ (c : tie.After-contract) where
   after-found′ = c .before .before .before
 
   abbrev start′ : tie.Start
-  start′ = c .before .before .before .before .before .before .before .before
+  start′ = start after-found′
 
   told : OfNode (drop (after-found′ .found .given .0 .0) (start′ .args .source .now)) (c .contract .result)
   told =
@@ -50,63 +50,31 @@ module _ (c : tie.After-contract) where
       subst (λ (v : List ℕ). OfNode v (c .contract .result)) p (c .contract .ensures .1)
 
 whose-requires : tie.Need-whose-requires
-whose-requires c κs =
-    let start = c .before .before in
-    start .pre
-
-enum-known-found : tie.Need-enum-known-found
-enum-known-found c = search needs
-
-enum-told : tie.Need-enum-told
-enum-told c = search needs
+whose-requires c κs = c .before .before .pre
 
 returns : tie.Need-returns
-returns c =
-    let after-whose = c .before .before in
-    (tt, step-value _ _ _ _ (after-whose .whose .ensures .1) (c .enum-told .given .1))
+returns c = (tt, step-value _ _ _ _ (c .before .before .whose .ensures .1) (c .enum-told .given .1))
 
 mul-contract : tie.Need-mul-contract
-mul-contract c =
-    let after-found = c .before in
-    let start = c .before .before .before .before .before .before in
-    record { fits = omega (arith, place-in after-found, start .pre .0 .few) }
+mul-contract c = record { fits = omega (arith, place-in (c .before), start (c .before) .pre .0 .few) }
 
 sub-contract : tie.Need-sub-contract
-sub-contract c =
-    let after-found = c .before in
-    place-in after-found
+sub-contract c = place-in (c .before)
 
 part-contract-start : tie.Need-part-contract-start
-part-contract-start c =
-    let after-found = c .before in
-    place-in after-found
-
-part-contract-end : tie.Need-part-contract-end
-part-contract-end c = search needs
+part-contract-start c = place-in (c .before)
 
 sub-contract-2 : tie.Need-sub-contract-2
-sub-contract-2 c =
-    let after-found = c .before .before in
-    omega (arith, end-is after-found)
+sub-contract-2 c = omega (arith, end-is (c .before .before))
 
 contract-requires : tie.Need-contract-requires
 contract-requires c κs =
     let after-found = c .before .before in
-    let start = c .before .before .before .before .before .before .before in
-    let s = start in
+    let s = start after-found in
     let p = after-found .found .given .0 .0 in
     let l = part-length (s .args .source .now) p in
     let e = ap (λ (v : List ℕ). span v 1) (part-to-end (s .args .source .now) p) in
     (record { table-is = s .pre .0 .table-is; few = omega (arith, l, s .pre .0 .few) }, omega (arith, e, end-is after-found))
-
-enum-told-2 : tie.Need-enum-told-2
-enum-told-2 c = search needs
-
-enum-known-became : tie.Need-enum-known-became
-enum-known-became c = search needs
-
-enum-known-became-2 : tie.Need-enum-known-became-2
-enum-known-became-2 c = search needs
 
 splice-requires : tie.Need-splice-requires
 splice-requires c κs =
@@ -132,9 +100,6 @@ returns-3 c =
     let f = after-found′ after-contract in
     (tt, step-raised _ _ _ _ (after-whose f .whose .ensures .1) _ _ _ (f .found .given .1) _ (told after-contract) _ (c .before .became .given .1))
 
-same-length : tie.Need-same-length
-same-length c = search needs
-
 returns-4 : tie.Need-returns-4
 returns-4 c =
     let after-piece = c .before .before .before .before .before in
@@ -151,20 +116,20 @@ step-spec =
     tie.close
     (tie.spec
     whose-requires
-    enum-known-found
-    enum-told
+    (λ c. search needs)
+    (λ c. search needs)
     returns
     mul-contract
     sub-contract
     part-contract-start
-    part-contract-end
+    (λ c. search needs)
     sub-contract-2
     contract-requires
-    enum-told-2
-    enum-known-became
-    enum-known-became-2
+    (λ c. search needs)
+    (λ c. search needs)
+    (λ c. search needs)
     splice-requires
     returns-2
     returns-3
-    same-length
+    (λ c. search needs)
     returns-4)

@@ -25,112 +25,73 @@ module _ (c : tie.After-look-at Inv-loop μ-loop) where
   at-loop = c .before .before .before .before
 
   abbrev start : tie.Start Inv-loop μ-loop
-  start = c .before .before .before .before .before .before
+  start = at-loop .before .before
 
   seen : Looked (drop (at-loop .loop .i) (start .args .words .now)) (c .look-at .result)
   seen = subst (λ (v : List ℕ). Looked v (c .look-at .result)) (part-to-end (start .args .words .now) (at-loop .loop .i)) (c .look-at .ensures)
 
 -- What is due, where the two ways meet.
 module _ (c : tie.Joined2 Inv-loop μ-loop) where
-  abbrev else1′ : tie.Else1 Inv-loop μ-loop
-  else1′ = c .before .before .before
-
   abbrev at-loop′ : tie.At-loop Inv-loop μ-loop
-  at-loop′ = c .before .before .before .before .before
+  at-loop′ = at-loop (c .before)
+
+  abbrev else1 : tie.Else1 Inv-loop μ-loop
+  else1 = c .before .before .before
 
   due-some : 1 ≤ c .if2 .due
-  due-some = ⊎-elim (λ w. omega (arith, w .2)) (λ w. omega (arith, w .1, else1′ .if1 .left)) (c .if2 .came)
+  due-some = ⊎-elim (λ w. omega (arith, w .2)) (λ w. omega (arith, w .1, else1 .if1 .left)) (c .if2 .came)
 
   due-few : c .if2 .due ≤ 1 + 3 * at-loop′ .loop .i
   due-few = ⊎-elim (λ w. omega (arith, w .2)) (λ w. omega (arith, w .1, at-loop′ .loop .inv .few)) (c .if2 .came)
 
   goes-on : let r = c .before .look-at .result in
-      Walking (c .before .before .before .before .before .before .before .args .words .now)
-      (c .before .before .before .before .before .before .before .args .from) (c .before .before .before .before .before .loop .i + r .start)
-      (c .if2 .due - 1 + r .takes) (c .if2 .rest) (c .if2 .node) (c .if2 .back) (c .if2 .waits)
+      let a = start (c .before) .args in
+      Walking (a .words .now) (a .from) (at-loop′ .loop .i + r .start) (c .if2 .due - 1 + r .takes) (c .if2 .rest) (c .if2 .node) (c .if2 .back)
+      (c .if2 .waits)
   goes-on =
-      let i = c .before .before .before .before .before .loop .inv in
+      let i = at-loop′ .loop .inv in
       let s = seen (c .before) in
-      let some = c .before .before .before .if1 .left in
-      let in-words = c .before .before .before .before .loop-test .taken in
+      let some = else1 .if1 .left in
+      let in-words = else1 .before .loop-test .taken in
       ⊎-elim
       (λ w. rw (w .2, w .3, w .4, w .5, w .6, w .1 .ensures) (walking-own i some in-words _ s (w .0 .taken)))
       (λ w. rw (w .1, w .2, w .3, w .4, w .5) (walking-value i some in-words _ s (w .0 .left)))
       (c .if2 .came)
 
 loop-holds : tie.Need-loop-holds Inv-loop μ-loop
-loop-holds c =
-    let start = c .before in
-    walking-start _ _ (start .pre .1)
+loop-holds c = walking-start _ _ (c .before .pre .1)
 
 finish-requires : tie.Need-finish-requires Inv-loop μ-loop
 finish-requires c κs =
     let at-loop = c .before .before in
-    let start = c .before .before .before .before in
-    let i = at-loop .loop .inv in (start .pre .0, λ b. i .waiting b .inside, i .small)
+    let i = at-loop .loop .inv in (at-loop .before .before .pre .0, λ b. i .waiting b .inside, i .small)
 
 returns : tie.Need-returns Inv-loop μ-loop
 returns c =
-    let then1 = c .before in
-    let at-loop = c .before .before .before in
-    let i = at-loop .loop .inv in
-    let o = inl (then1 .if1 .taken) in
+    let i = c .before .before .before .loop .inv in
+    let o = inl (c .before .if1 .taken) in
     (walk-spanned i _ (c .finish .ensures) o, walk-turns i _ (c .finish .ensures) o)
 
-mul-look-at : tie.Need-mul-look-at Inv-loop μ-loop
-mul-look-at c = search needs
-
-sub-look-at : tie.Need-sub-look-at Inv-loop μ-loop
-sub-look-at c = search needs
-
-part-look-at-start : tie.Need-part-look-at-start Inv-loop μ-loop
-part-look-at-start c = search needs
-
-part-look-at-end : tie.Need-part-look-at-end Inv-loop μ-loop
-part-look-at-end c = search needs
-
-look-at-requires : tie.Need-look-at-requires Inv-loop μ-loop
-look-at-requires c κs = search needs
-
-around-requires : tie.Need-around-requires Inv-loop μ-loop
-around-requires c κs = search needs
-
 sub-due : tie.Need-sub-due Inv-loop μ-loop
-sub-due c =
-    let joined2 = c .before in
-    due-some joined2
+sub-due c = due-some (c .before)
 
 add-due : tie.Need-add-due Inv-loop μ-loop
 add-due c =
-    let joined2 = c .before .before in
-    let after-look-at = c .before .before .before in
-    let in-loop = c .before .before .before .before .before .before in
-    let start = c .before .before .before .before .before .before .before .before .before in
-    omega (arith, due-few joined2, seen after-look-at .few, in-loop .loop-test .taken, start .pre .0 .few)
-
-add-i : tie.Need-add-i Inv-loop μ-loop
-add-i c = search needs
-
-loop-less : tie.Need-loop-less Inv-loop μ-loop
-loop-less c = search needs
+    let joined = c .before .before in
+    let looked = joined .before in
+    omega (arith, due-few joined, seen looked .few, else1 joined .before .loop-test .taken, start looked .pre .0 .few)
 
 loop-again : tie.Need-loop-again Inv-loop μ-loop
-loop-again c =
-    let joined2 = c .before .before .before in
-    goes-on joined2
+loop-again c = goes-on (c .before .before .before)
 
 finish-requires-2 : tie.Need-finish-requires-2 Inv-loop μ-loop
 finish-requires-2 c κs =
-    let at-loop = c .before in
-    let start = c .before .before .before in
-    let i = at-loop .loop .inv in (start .pre .0, λ b. i .waiting b .inside, i .small)
+    let i = c .before .loop .inv in (c .before .before .before .pre .0, λ b. i .waiting b .inside, i .small)
 
 returns-2 : tie.Need-returns-2 Inv-loop μ-loop
 returns-2 c =
-    let after-loop = c .before in
-    let at-loop = c .before .before in
-    let i = at-loop .loop .inv in
-    let o = inr (after-loop .loop-test .left) in
+    let i = c .before .before .loop .inv in
+    let o = inr (c .before .loop-test .left) in
     (walk-spanned i _ (c .finish2 .ensures) o, walk-turns i _ (c .finish2 .ensures) o)
 
 pub turn-spec : {M : Type 1} → statement M
@@ -142,16 +103,16 @@ turn-spec =
     loop-holds
     finish-requires
     returns
-    mul-look-at
-    sub-look-at
-    part-look-at-start
-    part-look-at-end
-    look-at-requires
-    around-requires
+    (λ c. search needs)
+    (λ c. search needs)
+    (λ c. search needs)
+    (λ c. search needs)
+    (λ c κs. search needs)
+    (λ c κs. search needs)
     sub-due
     add-due
-    add-i
-    loop-less
+    (λ c. search needs)
+    (λ c. search needs)
     loop-again
     finish-requires-2
     returns-2)
