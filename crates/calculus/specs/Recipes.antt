@@ -18,24 +18,24 @@ abbrev pub fileOf : List ℕ → List ℕ → List ℕ
 fileOf types terms = length types ∷ 4 ∷ length terms ∷ (4 + length types) ∷ types ++ terms
 
 -- What is lent: a limit of steps, and two buffers of one length.
-pub record Lent : Type 0 where
+pub record Allowed : Type 0 where
   pub limit : ℕ
   pub room : ℕ
 
-abbrev pub lent : ℕ → ℕ → Lent
-lent k n = record { limit = k; room = n }
+abbrev pub allowed : ℕ → ℕ → Allowed
+allowed k n = record { limit = k; room = n }
 
 -- "Steps plentiful unless given": what the listing lends.
-abbrev pub plenty : Lent
-plenty = lent 1000000 4096
+abbrev pub plenty : Allowed
+plenty = allowed 1000000 4096
 
 -- A file that is run, with what is lent, ends: with an end, a code, steps made, words left and words wanted.
-abbrev pub EndsAs : List ℕ → Lent → End → ℕ → ℕ → List ℕ → ℕ → Type 0
+abbrev pub EndsAs : List ℕ → Allowed → End → ℕ → ℕ → List ℕ → ℕ → Type 0
 EndsAs file x end code steps left wanted =
     operate (bytesOf file) (x .limit) (x .room) (x .room) ≡ passed (ended end code (record { steps = steps }) left wanted)
 
 -- A file is refused, with a number and a place.
-abbrev pub Refuses : List ℕ → Lent → ℕ → ℕ → Type 0
+abbrev pub Refuses : List ℕ → Allowed → ℕ → ℕ → Type 0
 Refuses file x number place = operate (bytesOf file) (x .limit) (x .room) (x .room) ≡ refused number place
 
 -- (ms (N to N) (fn v0)) applied to 7.
@@ -52,15 +52,15 @@ pub record Starred : Type 0 where
   pub no-number : EndsAs (fileOf (1 ∷ []) (30 ∷ 1 ∷ 34 ∷ 33 ∷ [])) plenty error 1 2 [] 0
   -- value 7, 5 steps; limit 4, spent; capacity 12 serves, 11 is full after 0 steps, wanting 12
   pub function : EndsAs (fileOf (1 ∷ []) convertedWords) plenty valued 0 5 (1809 ∷ []) 0
-  pub function-spent : EndsAs (fileOf (1 ∷ []) convertedWords) (lent 4 4096) spent 0 4 (30 ∷ 1 ∷ 1825 ∷ []) 0
-  pub function-served : EndsAs (fileOf (1 ∷ []) convertedWords) (lent 1000000 12) valued 0 5 (1809 ∷ []) 0
-  pub function-full : EndsAs (fileOf (1 ∷ []) convertedWords) (lent 1000000 11) full 0 0 convertedWords 12
+  pub function-spent : EndsAs (fileOf (1 ∷ []) convertedWords) (allowed 4 4096) spent 0 4 (30 ∷ 1 ∷ 1825 ∷ []) 0
+  pub function-served : EndsAs (fileOf (1 ∷ []) convertedWords) (allowed 1000000 12) valued 0 5 (1809 ∷ []) 0
+  pub function-full : EndsAs (fileOf (1 ∷ []) convertedWords) (allowed 1000000 11) full 0 0 convertedWords 12
   -- ms N (sm L (ms L 4)): 4, 2 steps
   pub unsealed : EndsAs (fileOf (1 ∷ []) (30 ∷ 1 ∷ 45 ∷ 2 ∷ 30 ∷ 2 ∷ 1057 ∷ [])) plenty valued 0 2 (1041 ∷ []) 0
   -- ms L (fn v0), limit 0: value, 0 steps
-  pub sealed : EndsAs (fileOf (2 ∷ []) (30 ∷ 2 ∷ 34 ∷ 32 ∷ [])) (lent 0 4096) valued 0 0 (30 ∷ 2 ∷ 34 ∷ 32 ∷ []) 0
+  pub sealed : EndsAs (fileOf (2 ∷ []) (30 ∷ 2 ∷ 34 ∷ 32 ∷ [])) (allowed 0 4096) valued 0 0 (30 ∷ 2 ∷ 34 ∷ 32 ∷ []) 0
   -- fix (fn N v0), under limit 3: spent with its own four words left
-  pub endless : EndsAs (fileOf (1 ∷ []) (20 ∷ 18 ∷ 1 ∷ 16 ∷ [])) (lent 3 4096) spent 0 3 (20 ∷ 18 ∷ 1 ∷ 16 ∷ []) 0
+  pub endless : EndsAs (fileOf (1 ∷ []) (20 ∷ 18 ∷ 1 ∷ 16 ∷ [])) (allowed 3 4096) spent 0 3 (20 ∷ 18 ∷ 1 ∷ 16 ∷ []) 0
   -- ms {N} (cons 1 2): error 3, 4 steps; hd (nil N): error 4, 2
   pub no-list : EndsAs (fileOf (3 ∷ 1 ∷ []) (30 ∷ 3 ∷ 1 ∷ 40 ∷ 289 ∷ 545 ∷ [])) plenty error 3 4 [] 0
   pub hd-of-nil : EndsAs (fileOf (1 ∷ []) (26 ∷ 24 ∷ 1 ∷ [])) plenty error 4 2 [] 0
@@ -77,6 +77,6 @@ pub record Refused : Type 0 where
   pub unbound : Refuses (1 ∷ 4 ∷ 1 ∷ 5 ∷ 1 ∷ 16 ∷ []) plenty 5 5
   pub untyped : Refuses (fileOf (1 ∷ []) (19 ∷ 17 ∷ 17 ∷ [])) plenty 6 0
   pub mistyped : Refuses (1 ∷ 4 ∷ 1 ∷ 5 ∷ 2 ∷ 17 ∷ []) plenty 7 0
-  pub no-room : Refuses (1 ∷ 4 ∷ 1 ∷ 5 ∷ 1 ∷ 17 ∷ []) (lent 1000000 0) 8 0
+  pub no-room : Refuses (1 ∷ 4 ∷ 1 ∷ 5 ∷ 1 ∷ 17 ∷ []) (allowed 1000000 0) 8 0
   pub other-language : Refuses (fileOf (4 ∷ 1 ∷ 1 ∷ []) (18 ∷ 1 ∷ 30 ∷ 1 ∷ 32 ∷ [])) plenty 5 11
   pub kind-first : Refuses (fileOf (1 ∷ []) (replicate 256 20 ++ 99 ∷ [])) plenty 3 261
