@@ -31,8 +31,14 @@ below t =
 abbrev calls : ℕ → lts.Claims
 calls t = (last-digit-reads.Asked, last-digit-reads.Learnt, put-reads.Asked, put-reads.Learnt, below t, put-decimal.Post)
 
-last-digit-requires : (t : ℕ) → lts.Need-last-digit-requires (calls t) (here t) put-decimal.Post
-last-digit-requires t c κs = search needs
+-- The moments when the last digit is known, and when the digits of the tenth have been put.
+module _ {t : ℕ} (c : lts.After-last-digit (calls t) (here t) put-decimal.Post) where
+  abbrev start : lts.Start (calls t) (here t) put-decimal.Post
+  start = c .before .before
+
+module _ {t : ℕ} (c : lts.After-put-decimal (calls t) (here t) put-decimal.Post) where
+  abbrev digit : lts.After-last-digit (calls t) (here t) put-decimal.Post
+  digit = c .before .before .before
 
 put-requires : (t : ℕ) → lts.Need-put-requires (calls t) (here t) put-decimal.Post
 put-requires t c κs = omega arith
@@ -42,36 +48,37 @@ same-length t c = wrote-length (c .before .before .put .ensures)
 
 returns : (t : ℕ) → lts.Need-returns (calls t) (here t) put-decimal.Post
 returns t c =
-    let a = c .before .before .before .before .before .before .before .args in
-    let d = c .before .before .before .before .before .last-digit .ensures in
-    wrote-as (ap (λ (x : ℕ). x ∷ []) d ∙ sym (decimal-small (a .number) (omega arith))) (c .before .before .put .ensures)
+    let d = c .before .before .before .before .before in
+    wrote-as (ap (λ (x : ℕ). x ∷ []) (d .last-digit .ensures) ∙ sym (decimal-small (start d .args .number) (omega arith)))
+    (c .before .before .put .ensures)
 
 put-decimal-requires : (t : ℕ) → lts.Need-put-decimal-requires (calls t) (here t) put-decimal.Post
 put-decimal-requires t c κs = (omega arith, omega arith)
 
 put-requires-2 : (t : ℕ) → lts.Need-put-requires-2 (calls t) (here t) put-decimal.Post
 put-requires-2 t c κs =
-    let a = c .before .before .before .before .before .before .before .before .args in
-    omega (arith, c .before .before .before .put-decimal .ensures .place, decimal-length 19 (a .number / 10) (omega arith))
+    let tenth = c .before .before .before in
+    omega (arith, tenth .put-decimal .ensures .place, decimal-length 19 (start (digit tenth) .args .number / 10) (omega arith))
 
 same-length-2 : (t : ℕ) → lts.Need-same-length-2 (calls t) (here t) put-decimal.Post
 same-length-2 t c =
-    wrote-length (c .before .before .put2 .ensures) ∙ wrote-length (c .before .before .before .before .before .before .put-decimal .ensures)
+    let e = c .before .before in
+    wrote-length (e .put2 .ensures) ∙ wrote-length (e .before .before .before .before .put-decimal .ensures)
 
 returns-2 : (t : ℕ) → lts.Need-returns-2 (calls t) (here t) put-decimal.Post
 returns-2 t c =
-    let s = c .before .before .before .before .before .before .before .before .before .before .before in
-    let d = c .before .before .before .before .before .before .before .before .before .last-digit .ensures in
-    let tenth = c .before .before .before .before .before .before .put-decimal .ensures in
-    wrote-as
-    (ap (λ (x : ℕ). decimal (s .args .number / 10) ++ x ∷ []) d ∙ sym (decimal-more (s .args .number) (omega arith)))
-    (then tenth (c .before .before .put2 .ensures))
+    let e = c .before .before in
+    let tenth = e .before .before .before .before in
+    let d = digit tenth in
+    let n = start d .args .number in
+    wrote-as (ap (λ (x : ℕ). decimal (n / 10) ++ x ∷ []) (d .last-digit .ensures) ∙ sym (decimal-more n (omega arith)))
+    (then (tenth .put-decimal .ensures) (e .put2 .ensures))
 
 pub +put-decimal-spec : {M : Type 1} → statement M
 +put-decimal-spec =
     close μ-put-decimal λ t.
     lts.spec (calls t) (here t) put-decimal.Post
-    (last-digit-requires t)
+    (λ c κs. search needs)
     (put-requires t)
     (same-length t)
     (returns t)

@@ -21,23 +21,16 @@ abbrev μ-loop : tie.MeasureT-loop
 loop-holds : tie.Need-loop-holds Inv-loop μ-loop
 loop-holds c = (omega arith, omega arith, wrote-none (c .before .before .args .text .now) (c .before .before .args .n))
 
-shared-slice-read-put : tie.Need-shared-slice-read-put Inv-loop μ-loop
-shared-slice-read-put c = search needs
-
 put-requires : tie.Need-put-requires Inv-loop μ-loop
 put-requires c κs = omega arith
 
-add-i : tie.Need-add-i Inv-loop μ-loop
-add-i c = search needs
-
-loop-less : tie.Need-loop-less Inv-loop μ-loop
-loop-less c = search needs
-
 loop-again : tie.Need-loop-again Inv-loop μ-loop
 loop-again c =
-    let l = c .before .before .before .before .before .before .loop in
-    let a = c .before .before .before .before .before .before .before .before .before .args in
-    let put = c .before .before .put .ensures in
+    let after-put = c .before .before in
+    let put = after-put .put .ensures in
+    let at-loop = after-put .before .before .before .before in
+    let l = at-loop .loop in
+    let a = at-loop .before .before .before .args in
     let h : l .i < length (a .source .now) = omega arith in
     let one : take (l .i) (a .source .now) ++ getD (a .source .now) (l .i) 0 ∷ [] ≡ take (l .i + 1) (a .source .now) =
     rw (add-one (l .i)) (sym (take-suc (a .source .now) (l .i) 0 h)) in
@@ -58,10 +51,10 @@ copy-spec =
     Inv-loop
     μ-loop
     loop-holds
-    shared-slice-read-put
+    (λ c. search needs)
     put-requires
-    add-i
-    loop-less
+    (λ c. search needs)
+    (λ c. search needs)
     loop-again
     same-length
     returns)
