@@ -1,5 +1,5 @@
 -- What substitution on words leaves.
-use Prim.Native.Nat.{ℕ, _+_}
+use Prim.Native.Nat.{ℕ, _+_, _*_, _<_, _≤_}
 use mathlib.Core.List.{List, [], _∷_}
 use mathlib.Core.Path.{_≡_}
 use lib.ListN.{length}
@@ -7,7 +7,18 @@ use Rattle.calculus.specs.Trees.{Lang, Term}
 use Rattle.calculus.specs.Words.{word, by, words}
 use Rattle.calculus.specs.Kinds.{Sort, type, term, Tree, Trees, putTrees, sizeTrees}
 use Rattle.calculus.specs.Reduction.{substitute}
+use Rattle.nodes.specs.Table.{kinds}
+use Rattle.writing.specs.Given.{mostWords, mostCount, halfCount}
 use Rattle.writing.specs.Wrote.{Wrote}
+
+-- What substitution takes as given: the table is that of the kinds, and neither the words, nor the value, nor the variable's word inside lambdas,
+-- nor the place after what is written, is too large.
+pub record SubstitutionFits (table words : List ℕ) (at x : ℕ) (value : List ℕ) (n : ℕ) : Type 0 where
+  pub table-is : table ≡ kinds
+  pub few : at + length words < mostCount
+  pub value-few : length value ≤ mostWords
+  pub variable : x + 256 * length words < 4294967040
+  pub room : n + mostWords * length words < halfCount
 
 -- Trees with v for the variable that has d lambdas between.
 abbrev pub inTree : {m : Lang} → Term m → ℕ → (s : Sort) → Tree s → Tree s

@@ -5,12 +5,10 @@ use crate::put;
 use nodes::kinds::Kinds;
 use nodes::kinds::part_count;
 use nodes::kinds::row_at;
-ghost use mathlib.Core.Path.{_≡_};
-ghost use Prim.Native.Nat.{_+_, _*_, _<_, _≤_};
+ghost use Prim.Native.Nat.{_+_, _*_, _≤_};
 ghost use lib.ListN.{length};
-ghost use Rattle.nodes.specs.Table.{kinds};
-ghost use Rattle.writing.specs.Given.{mostWords, mostCount, halfCount};
-ghost use Rattle.writing.specs.Substituted.{Substituted};
+ghost use Rattle.writing.specs.Given.{mostWords};
+ghost use Rattle.writing.specs.Substituted.{SubstitutionFits, Substituted};
 
 // How many words were read, and the place after the words written.
 pub struct Reached {
@@ -32,8 +30,7 @@ pub fn substitute(
     target: &mut [u32],
     n: usize,
 ) -> Reached
-    requires { ⌜ (now table ≡ kinds) × (at + length (now words) < mostCount) ⌝ }
-    requires { ⌜ (length (now value) ≤ mostWords) × (x + 256 * length (now words) < 4294967040) × (n + mostWords * length (now words) < halfCount) ⌝ }
+    requires { ⌜ SubstitutionFits (now table) (now words) at x (now value) n ⌝ }
     ensures within { λ r. ⌜ (at ≤ r .read) × (r .read ≤ at + length (now (words .entry))) ⌝ }
     ensures bound { λ r. ⌜ (n ≤ r .at) × (r .at + mostWords * at ≤ n + mostWords * r .read) ⌝ }
     ensures is { λ r. ⌜

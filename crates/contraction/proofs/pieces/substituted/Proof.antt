@@ -12,10 +12,14 @@ substitute-requires c κs =
     let g = s .pre .0 .0 in
     let p = s .pre .1 in
     let l = part-length (s .args .words .now) (s .args .body) in
-    let m = stretch-length (s .args .words .now) (s .args .a) (s .args .e) in (
-      (g .table-is, omega (arith, l, p .body, g .few)),
-      (omega (arith, m, g .few), omega (arith, l, p .variable, g .few), omega (arith, l, g .few, s .pre .0 .1)),
-    )
+    let m = stretch-length (s .args .words .now) (s .args .a) (s .args .e) in
+    record {
+      table-is = g .table-is;
+      few = omega (arith, l, p .body, g .few);
+      value-few = omega (arith, m, g .few);
+      variable = omega (arith, l, p .variable, g .few);
+      room = omega (arith, l, g .few, s .pre .0 .1);
+    }
 
 returns : tie.Need-returns
 returns c =

@@ -1,13 +1,12 @@
--- `writing::substitution::substitute` meets its contract: each turn of the loop, and each way out, is one law of Turns. The measure is the number of
+-- `writing::substitution::substitute` meets its contract: each turn of the loop, and each way out, is one law of Rounds. The measure is the number of
 -- words left. Assumes nothing.
 use borrow.Author.Needs.{needs}
 use lib.ListN.{length, getD}
-use mathlib.Core.Path.{_≡_, refl, sym, ap, _∙_}
+use mathlib.Core.Path.{_≡_, refl, ap, _∙_}
 use Prim.Native.Nat.{ℕ, _+_, _-_, _*_, _%_, _≤_, _<_}
 use native.Mathlib.Omega.{arith}
 use Rattle.calculus.specs.Scope.{partCount}
 use Rattle.nodes.specs.Table.{rowOf}
-use Rattle.nodes.specs.Walks.{sortsOf}
 use Rattle.nodes.proofs.Ways.{part-length}
 use Rattle.writing.proofs.Stores.{wrote-length}
 use Rattle.writing.proofs.Rounds.{Begun, begins, ends, breaks, replaces, passes, enters, descends}
@@ -56,30 +55,30 @@ Inv table words at due x value target₀ n left₀ i₀ k₀ y₀ target left i 
 abbrev μ-loop : lts.MeasureT-loop
 μ-loop table words at due x value target₀ n left₀ i₀ k₀ y₀ target left i k y = length words - i
 
--- Where a word that stays is written and its row is read: the loop, the start, and what the row says.
-abbrev Stayed : ℕ → Type 0
-Stayed t = lts.After-struct-known (calls t) (here t) substitute.Post Inv μ-loop
+-- Where a word has been read: the loop and the start. The word is one of the words.
+module _ {t : ℕ} (c : lts.After-shared-slice-known3 (calls t) (here t) substitute.Post Inv μ-loop) where
+  abbrev looped : lts.At-loop (calls t) (here t) substitute.Post Inv μ-loop
+  looped = c .before .before .before
 
-abbrev looped : {t : ℕ} (c : Stayed t) → lts.At-loop (calls t) (here t) substitute.Post Inv μ-loop
-looped c = c .before .before .before .before .before .before .before .before .before .before .before
+  abbrev started : lts.Start (calls t) (here t) substitute.Post Inv μ-loop
+  started = looped .before .before .before .before
 
-abbrev started : {t : ℕ} (c : Stayed t) → lts.Start (calls t) (here t) substitute.Post Inv μ-loop
-started c = looped c .before .before .before .before
+  one-read : looped .loop .i + 1 ≤ length (started .args .words .now)
+  one-read = omega arith
 
-counted : {t : ℕ} (c : Stayed t) → c .before .part-count .result ≡ partCount (getD (started c .args .words .now) (looped c .loop .i) 0)
-counted c =
-    c .before .part-count .ensures .0
+-- Where a word that stays is written and its row is read: what the row says.
+module _ {t : ℕ} (c : lts.After-struct-known (calls t) (here t) substitute.Post Inv μ-loop) where
+  abbrev written : lts.After-put (calls t) (here t) substitute.Post Inv μ-loop
+  written = c .before .before .before .before .before
 
-shaped : {t : ℕ} (c : Stayed t)
-    → c .before .before .row-at .result .shape ≡ rowOf (getD (started c .args .words .now) (looped c .loop .i) 0 % 256) .shape
-shaped c = ap (λ r. r .shape) (c .before .before .row-at .ensures)
+  abbrev word-read : lts.After-shared-slice-known3 (calls t) (here t) substitute.Post Inv μ-loop
+  word-read = written .before .before .before
 
-abbrev written : {t : ℕ} (c : Stayed t) → lts.After-put (calls t) (here t) substitute.Post Inv μ-loop
-written c = c .before .before .before .before .before
+  counted : c .before .part-count .result ≡ partCount (getD (started word-read .args .words .now) (looped word-read .loop .i) 0)
+  counted = c .before .part-count .ensures .0
 
--- The word read is one of the words.
-one-read : {t : ℕ} (c : Stayed t) → looped c .loop .i + 1 ≤ length (started c .args .words .now)
-one-read c = omega arith
+  shaped : c .before .before .row-at .result .shape ≡ rowOf (getD (started word-read .args .words .now) (looped word-read .loop .i) 0 % 256) .shape
+  shaped = ap (λ r. r .shape) (c .before .before .row-at .ensures)
 
 -- After the words that a call reads, fewer are left.
 fewer : (i words at read : ℕ) → i + 1 ≤ words → at + (i + 1) ≤ read → words - (read - at) < words - i
@@ -88,101 +87,62 @@ fewer i words at read one reads = omega arith
 substitute-loop-holds : (t : ℕ) → lts.Need-loop-holds (calls t) (here t) substitute.Post Inv μ-loop
 substitute-loop-holds t c = (omega arith, omega arith, omega arith, omega arith, refl, begins _ _ _ _ _ _ _)
 
-substitute-sub-if1 : (t : ℕ) → lts.Need-sub-if1 (calls t) (here t) substitute.Post Inv μ-loop
-substitute-sub-if1 t c = search needs
-
-substitute-add-t20 : (t : ℕ) → lts.Need-add-t20 (calls t) (here t) substitute.Post Inv μ-loop
-substitute-add-t20 t c = search needs
-
-substitute-same-length : (t : ℕ) → lts.Need-same-length (calls t) (here t) substitute.Post Inv μ-loop
-substitute-same-length t c = search needs
-
 substitute-returns : (t : ℕ) → lts.Need-returns (calls t) (here t) substitute.Post Inv μ-loop
 substitute-returns t c =
     let l = c .before .before .loop in
     let i = l .inv in
     ((omega arith, omega (arith, i .0)), ((i .1, omega (arith, i .2)), breaks (i .5) (c .if1 .taken)))
 
-substitute-mul-w : (t : ℕ) → lts.Need-mul-w (calls t) (here t) substitute.Post Inv μ-loop
-substitute-mul-w t c = search needs
-
-substitute-shared-slice-read-w : (t : ℕ) → lts.Need-shared-slice-read-w (calls t) (here t) substitute.Post Inv μ-loop
-substitute-shared-slice-read-w t c = search needs
-
-substitute-add-i : (t : ℕ) → lts.Need-add-i (calls t) (here t) substitute.Post Inv μ-loop
-substitute-add-i t c = search needs
-
-substitute-sub-left : (t : ℕ) → lts.Need-sub-left (calls t) (here t) substitute.Post Inv μ-loop
-substitute-sub-left t c = search needs
-
 substitute-copy-requires : (t : ℕ) → lts.Need-copy-requires (calls t) (here t) substitute.Post Inv μ-loop
 substitute-copy-requires t c κs =
-    let s = c .before .before .before .before .before .before .before .before .before in
-    let i = c .before .before .before .before .before .loop .inv in
-    omega (arith, s .pre .1 .1 .0, s .pre .1 .1 .2, i .0, i .2)
-
-substitute-loop-less : (t : ℕ) → lts.Need-loop-less (calls t) (here t) substitute.Post Inv μ-loop
-substitute-loop-less t c = search needs
+    let s = started (c .before .before) .pre .1 in
+    let i = looped (c .before .before) .loop .inv in
+    omega (arith, s .value-few, s .room, i .0, i .2)
 
 substitute-loop-again : (t : ℕ) → lts.Need-loop-again (calls t) (here t) substitute.Post Inv μ-loop
 substitute-loop-again t c =
-    let i = c .before .before .before .before .before .before .before .before .loop .inv in
     let w = c .before .before .copy .ensures in
-    let some = c .before .before .before .before .before .before .before .loop-test .taken in (
+    let then2 = c .before .before .before .before in
+    let r = then2 .before in
+    let i = looped r .loop .inv in (
       omega arith,
       omega (arith, i .1, w .place),
-      omega (arith, i .2, w .place, c .before .before .before .before .before .before .before .before .before .before .before .before .pre .1 .1 .0),
+      omega (arith, i .2, w .place, started r .pre .1 .value-few),
       omega (arith, i .3),
       wrote-length w ∙ i .4,
-      replaces (i .5) some _ _ (c .before .before .before .before .if2 .taken) w,
+      replaces (i .5) (r .before .before .loop-test .taken) _ _ (then2 .if2 .taken) w,
     )
 
 substitute-put-requires : (t : ℕ) → lts.Need-put-requires (calls t) (here t) substitute.Post Inv μ-loop
 substitute-put-requires t c κs =
-    let i = c .before .before .before .before .before .loop .inv in
-    omega (arith, c .before .before .before .before .before .before .before .before .before .pre .1 .1 .2, i .0, i .2)
-
-substitute-row-at-requires : (t : ℕ) → lts.Need-row-at-requires (calls t) (here t) substitute.Post Inv μ-loop
-substitute-row-at-requires t c κs = search needs
-
-substitute-part-count-requires : (t : ℕ) → lts.Need-part-count-requires (calls t) (here t) substitute.Post Inv μ-loop
-substitute-part-count-requires t c κs = search needs
-
-substitute-add-left : (t : ℕ) → lts.Need-add-left (calls t) (here t) substitute.Post Inv μ-loop
-substitute-add-left t c = search needs
-
-substitute-loop-less-2 : (t : ℕ) → lts.Need-loop-less-2 (calls t) (here t) substitute.Post Inv μ-loop
-substitute-loop-less-2 t c = search needs
+    let i = looped (c .before .before) .loop .inv in
+    omega (arith, started (c .before .before) .pre .1 .room, i .0, i .2)
 
 substitute-loop-again-2 : (t : ℕ) → lts.Need-loop-again-2 (calls t) (here t) substitute.Post Inv μ-loop
 substitute-loop-again-2 t c =
     let p = c .before in
-    let i = looped p .loop .inv in
+    let r = word-read p in
+    let i = looped r .loop .inv in
     let w = written p .put .ensures in
-    let some = p .before .before .before .before .before .before .before .before .before .before .loop-test .taken in (
-      one-read p,
+    let some = r .before .before .loop-test .taken in (
+      one-read r,
       omega (arith, i .1, w .place),
       omega (arith, i .2, w .place),
       omega (arith, i .3),
       wrote-length w ∙ i .4,
-      passes (i .5) some _ _ _ _ (p .before .before .before .before .before .before .before .if2 .left) w (counted p) (shaped p) (c .if3 .taken),
+      passes (i .5) some _ _ _ _ (written p .before .before .if2 .left) w (counted p) (shaped p) (c .if3 .taken),
     )
-
-substitute-add-y : (t : ℕ) → lts.Need-add-y (calls t) (here t) substitute.Post Inv μ-loop
-substitute-add-y t c = search needs
-
-substitute-loop-less-3 : (t : ℕ) → lts.Need-loop-less-3 (calls t) (here t) substitute.Post Inv μ-loop
-substitute-loop-less-3 t c = search needs
 
 substitute-loop-again-3 : (t : ℕ) → lts.Need-loop-again-3 (calls t) (here t) substitute.Post Inv μ-loop
 substitute-loop-again-3 t c =
     let p = c .before .before in
-    let i = looped p .loop .inv in
+    let r = word-read p in
+    let i = looped r .loop .inv in
     let w = written p .put .ensures in
-    let some = p .before .before .before .before .before .before .before .before .before .before .loop-test .taken in
-    let other = p .before .before .before .before .before .before .before .if2 .left in
+    let some = r .before .before .loop-test .taken in
+    let other = written p .before .before .if2 .left in
     let lambda = c .before .if3 .left in (
-      one-read p,
+      one-read r,
       omega (arith, i .1, w .place),
       omega (arith, i .2, w .place),
       omega (arith, i .3),
@@ -190,69 +150,51 @@ substitute-loop-again-3 t c =
       descends (i .5) some _ _ _ _ other w (counted p) (shaped p) lambda (c .if4 .taken),
     )
 
-substitute-mul-substitute : (t : ℕ) → lts.Need-mul-substitute (calls t) (here t) substitute.Post Inv μ-loop
-substitute-mul-substitute t c = search needs
-
-substitute-sub-substitute : (t : ℕ) → lts.Need-sub-substitute (calls t) (here t) substitute.Post Inv μ-loop
-substitute-sub-substitute t c = search needs
-
-substitute-part-substitute-start : (t : ℕ) → lts.Need-part-substitute-start (calls t) (here t) substitute.Post Inv μ-loop
-substitute-part-substitute-start t c = search needs
-
-substitute-part-substitute-end : (t : ℕ) → lts.Need-part-substitute-end (calls t) (here t) substitute.Post Inv μ-loop
-substitute-part-substitute-end t c = search needs
-
-substitute-add-substitute : (t : ℕ) → lts.Need-add-substitute (calls t) (here t) substitute.Post Inv μ-loop
-substitute-add-substitute t c = search needs
-
-substitute-add-substitute-2 : (t : ℕ) → lts.Need-add-substitute-2 (calls t) (here t) substitute.Post Inv μ-loop
-substitute-add-substitute-2 t c = search needs
-
 substitute-substitute-requires : (t : ℕ) → lts.Need-substitute-requires (calls t) (here t) substitute.Post Inv μ-loop
 substitute-substitute-requires t c κs =
-    let s = started (c .before .before .before .before) in
-    let l = looped (c .before .before .before .before) .loop in
-    let w = written (c .before .before .before .before) .put .ensures .place in
-    let p = part-length (s .args .words .now) (l .i + 1) in (
-      omega (arith, p, s .pre .0),
-      (
-        (s .pre .1 .0 .0, omega (arith, p, s .pre .1 .0 .1)),
-        (s .pre .1 .1 .0, omega (arith, p, l .inv .3, s .pre .1 .1 .1), omega (arith, p, w, l .inv .2, s .pre .1 .1 .2)),
-      ),
+    let p = c .before .before .before .before in
+    let r = word-read p in
+    let s = started r in
+    let f = s .pre .1 in
+    let l = looped r .loop in
+    let one = one-read r in
+    let rest = part-length (s .args .words .now) (l .i + 1) in (
+      omega (arith, rest, one, s .pre .0),
+      record {
+        table-is = f .table-is;
+        few = omega (arith, rest, one, f .few);
+        value-few = f .value-few;
+        variable = omega (arith, rest, one, l .inv .3, f .variable);
+        room = omega (arith, rest, one, written p .put .ensures .place, l .inv .2, f .room);
+      },
     )
-
-substitute-sub-i : (t : ℕ) → lts.Need-sub-i (calls t) (here t) substitute.Post Inv μ-loop
-substitute-sub-i t c = search needs
 
 substitute-loop-less-4 : (t : ℕ) → lts.Need-loop-less-4 (calls t) (here t) substitute.Post Inv μ-loop
 substitute-loop-less-4 t c =
-    let p = c .before .before .before .before .before .before .before .before in
-    fewer _ _ _ _ (one-read p) (c .before .before .before .substitute .ensures .0 .0)
+    let e = c .before .before .before in
+    let p = e .before .before .before .before .before in
+    fewer _ _ _ _ (one-read (word-read p)) (e .substitute .ensures .0 .0)
 
 substitute-loop-again-4 : (t : ℕ) → lts.Need-loop-again-4 (calls t) (here t) substitute.Post Inv μ-loop
 substitute-loop-again-4 t c =
-    let p = c .before .before .before .before .before .before .before .before in
-    let l = looped p .loop in
+    let e = c .before .before .before in
+    let else3 = e .before .before .before .before in
+    let p = else3 .before in
+    let r = word-read p in
+    let l = looped r .loop in
     let i = l .inv in
     let w = written p .put .ensures in
-    let r = c .before .before .before .substitute .ensures in
-    let rest = part-length (started p .args .words .now) (l .i + 1) in
-    let some = p .before .before .before .before .before .before .before .before .before .before .loop-test .taken in
-    let other = p .before .before .before .before .before .before .before .if2 .left in
-    let lambda = c .before .before .before .before .before .before .before .if3 .left in (
-      omega (arith, rest, r .0, one-read p),
-      omega (arith, i .1, w .place, r .1 .0),
-      omega (arith, i .2, w .place, r .0, r .1 .0),
-      omega (arith, i .3, r .0),
+    let o = e .substitute .ensures in
+    let rest = part-length (started r .args .words .now) (l .i + 1) in
+    let some = r .before .before .loop-test .taken in
+    let other = written p .before .before .if2 .left in (
+      omega (arith, rest, o .0, one-read r),
+      omega (arith, i .1, w .place, o .1 .0),
+      omega (arith, i .2, w .place, o .0, o .1 .0),
+      omega (arith, i .3, o .0),
       search needs,
-      enters (i .5) some _ _ _ _ other w (counted p) (shaped p) _ _ _ lambda (omega (arith, r .0)) (r .1 .1),
+      enters (i .5) some _ _ _ _ other w (counted p) (shaped p) _ _ _ (else3 .if3 .left) (omega (arith, o .0)) (o .1 .1),
     )
-
-substitute-add-t33 : (t : ℕ) → lts.Need-add-t33 (calls t) (here t) substitute.Post Inv μ-loop
-substitute-add-t33 t c = search needs
-
-substitute-same-length-2 : (t : ℕ) → lts.Need-same-length-2 (calls t) (here t) substitute.Post Inv μ-loop
-substitute-same-length-2 t c = search needs
 
 substitute-returns-2 : (t : ℕ) → lts.Need-returns-2 (calls t) (here t) substitute.Post Inv μ-loop
 substitute-returns-2 t c =
@@ -267,36 +209,36 @@ pub +substitute-spec : {M : Type 1} → statement M
     Inv
     μ-loop
     (substitute-loop-holds t)
-    (substitute-sub-if1 t)
-    (substitute-add-t20 t)
-    (substitute-same-length t)
+    (λ c. search needs)
+    (λ c. search needs)
+    (λ c. search needs)
     (substitute-returns t)
-    (substitute-mul-w t)
-    (substitute-shared-slice-read-w t)
-    (substitute-add-i t)
-    (substitute-sub-left t)
+    (λ c. search needs)
+    (λ c. search needs)
+    (λ c. search needs)
+    (λ c. search needs)
     (substitute-copy-requires t)
-    (substitute-loop-less t)
+    (λ c. search needs)
     (substitute-loop-again t)
     (substitute-put-requires t)
-    (substitute-row-at-requires t)
-    (substitute-part-count-requires t)
-    (substitute-add-left t)
-    (substitute-loop-less-2 t)
+    (λ c κs. search needs)
+    (λ c κs. search needs)
+    (λ c. search needs)
+    (λ c. search needs)
     (substitute-loop-again-2 t)
-    (substitute-add-y t)
-    (substitute-loop-less-3 t)
+    (λ c. search needs)
+    (λ c. search needs)
     (substitute-loop-again-3 t)
-    (substitute-mul-substitute t)
-    (substitute-sub-substitute t)
-    (substitute-part-substitute-start t)
-    (substitute-part-substitute-end t)
-    (substitute-add-substitute t)
-    (substitute-add-substitute-2 t)
+    (λ c. search needs)
+    (λ c. search needs)
+    (λ c. search needs)
+    (λ c. search needs)
+    (λ c. search needs)
+    (λ c. search needs)
     (substitute-substitute-requires t)
-    (substitute-sub-i t)
+    (λ c. search needs)
     (substitute-loop-less-4 t)
     (substitute-loop-again-4 t)
-    (substitute-add-t33 t)
-    (substitute-same-length-2 t)
+    (λ c. search needs)
+    (λ c. search needs)
     (substitute-returns-2 t)
