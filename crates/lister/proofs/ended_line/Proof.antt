@@ -8,30 +8,10 @@ use Rattle.lister.proofs.Fields.{no-field, one-field}
 use Rattle.lister.proofs.ended_line.Statement.{statement}
 use Rattle.lister.proofs.ended_line.Tie as tie
 
-end-name-requires : tie.Need-end-name-requires
-end-name-requires c κs = search needs
-
-field-requires : tie.Need-field-requires
-field-requires c κs = search needs
-
-field-requires-2 : tie.Need-field-requires-2
-field-requires-2 c κs = search needs
-
-field-requires-3 : tie.Need-field-requires-3
-field-requires-3 c κs = search needs
-
-field-requires-4 : tie.Need-field-requires-4
-field-requires-4 c κs = search needs
-
-put-requires : tie.Need-put-requires
-put-requires c κs = search needs
-
-same-length : tie.Need-same-length
-same-length c = search needs
-
 returns : tie.Need-returns
 returns c =
-    let wanted = c .before .before .before .before .before .before in
+    let put = c .before .before in
+    let wanted = put .before .before .before .before in
     let left = wanted .before .before .before .before in
     let steps = left .before .before .before .before in
     let code = steps .before .before .before .before in
@@ -42,17 +22,17 @@ returns c =
     let two = one-field end (x .code ∷ []) (x .steps) one (steps .field2 .ensures .0) in
     let three = one-field end (x .code ∷ x .steps ∷ []) (x .left) two (left .field3 .ensures .0) in
     let four = one-field end (x .code ∷ x .steps ∷ x .left ∷ []) (x .wanted) three (wanted .field4 .ensures .0) in
-    (then four (c .before .before .put .ensures), omega arith)
+    (then four (put .put .ensures), omega arith)
 
 pub ended-line-spec : {M : Type 1} → statement M
 ended-line-spec =
     tie.close
     (tie.spec
-    end-name-requires
-    field-requires
-    field-requires-2
-    field-requires-3
-    field-requires-4
-    put-requires
-    same-length
+    (λ c κs. search needs)
+    (λ c κs. search needs)
+    (λ c κs. search needs)
+    (λ c κs. search needs)
+    (λ c κs. search needs)
+    (λ c κs. search needs)
+    (λ c. search needs)
     returns)

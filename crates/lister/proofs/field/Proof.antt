@@ -5,21 +5,14 @@ use Rattle.lister.proofs.Fields.{digits-few, field-put}
 use Rattle.lister.proofs.field.Statement.{statement}
 use Rattle.lister.proofs.field.Tie as tie
 
-put-requires : tie.Need-put-requires
-put-requires c κs = search needs
-
-put-decimal-requires : tie.Need-put-decimal-requires
-put-decimal-requires c κs = search needs
-
-same-length : tie.Need-same-length
-same-length c = search needs
-
 returns : tie.Need-returns
 returns c =
-    let start = c .before .before .before .before .before .before .before .before .before in
-    let put = c .before .before .before .before .before .before .put .ensures in
-    let digits = c .before .before .put-decimal .ensures in
-    (field-put (start .args .number) put digits, omega (arith, put .place, digits .place, digits-few (start .args .number) (omega arith)))
+    let after-digits = c .before .before in
+    let after-put = after-digits .before .before .before .before in
+    let number = after-put .before .before .before .args .number in
+    let put = after-put .put .ensures in
+    let digits = after-digits .put-decimal .ensures in
+    (field-put number put digits, omega (arith, put .place, digits .place, digits-few number (omega arith)))
 
 pub field-spec : {M : Type 1} → statement M
-field-spec = tie.close (tie.spec put-requires put-decimal-requires same-length returns)
+field-spec = tie.close (tie.spec (λ c κs. search needs) (λ c κs. search needs) (λ c. search needs) returns)

@@ -10,59 +10,45 @@ use Rattle.lister.proofs.Texts.{left-within, left-held, text-is}
 use Rattle.lister.proofs.list.Statement.{statement}
 use Rattle.lister.proofs.list.Tie as tie
 
-slice-aggregate-recipe-run : tie.Need-slice-aggregate-recipe-run
-slice-aggregate-recipe-run c = search needs
-
-slice-aggregate-recipe-run-2 : tie.Need-slice-aggregate-recipe-run-2
-slice-aggregate-recipe-run-2 c = search needs
-
-recipe-run-requires : tie.Need-recipe-run-requires
-recipe-run-requires c κs = search needs
-
-cast-left : tie.Need-cast-left
-cast-left c = search needs
+-- The moment when the recipe has run.
+module _ (c : tie.After-struct-known) where
+  abbrev after-run : tie.After-recipe-run
+  after-run = c .before .before .before
 
 array-share-prefix-first : tie.Need-array-share-prefix-first
 array-share-prefix-first c =
-    let ran = c .before .before .before .recipe-run in
+    let ran = after-run c .recipe-run in
     left-held _ _ (ran .result) (ran .ensures .0) (ran .last .1 .1 .0) (ran .ensures .1 .0)
 
 slice-aggregate-lines : tie.Need-slice-aggregate-lines
-slice-aggregate-lines c =
-    let ran = c .before .before .before .before .recipe-run in
-    sym (length-take-le _ _ (left-held _ _ (ran .result) (ran .ensures .0) (ran .last .1 .1 .0) (ran .ensures .1 .0)))
+slice-aggregate-lines c = sym (length-take-le _ _ (array-share-prefix-first (c .before)))
 
 lines-requires : tie.Need-lines-requires
 lines-requires c κs =
-    let ran = c .before .before .before .before .before .recipe-run in
+    let ran = after-run (c .before .before) .recipe-run in
     let l = left-within _ _ (ran .result) (ran .ensures .0) in
     simp length-take (omega (arith, l))
 
-clear-requires : tie.Need-clear-requires
-clear-requires c κs = search needs
-
-same-length : tie.Need-same-length
-same-length c = search needs
-
 returns : tie.Need-returns
 returns c =
-    let text = c .before .before .before .before .before .before in
-    let ran = text .before .before .before .before .before .before .recipe-run in
+    let clear = c .before .before in
+    let text = clear .before .before .before .before in
+    let ran = after-run (text .before .before .before) .recipe-run in
     let is = text-is _ (ran .result) (ran .last .1 .1 .0) (ran .ensures .0) (ran .ensures .1 .0) in
     let put = wrote-as is (text .lines .ensures .0) in
-    (omega (arith, put .place), (c .before .before .clear .ensures ∙ cleared-after _ _ _ _ put, omega (arith, text .lines .ensures .1)))
+    (omega (arith, put .place), (clear .clear .ensures ∙ cleared-after _ _ _ _ put, omega (arith, text .lines .ensures .1)))
 
 pub list-spec : {M : Type 1} → statement M
 list-spec =
     tie.close
     (tie.spec
-    slice-aggregate-recipe-run
-    slice-aggregate-recipe-run-2
-    recipe-run-requires
-    cast-left
+    (λ c. search needs)
+    (λ c. search needs)
+    (λ c κs. search needs)
+    (λ c. search needs)
     array-share-prefix-first
     slice-aggregate-lines
     lines-requires
-    clear-requires
-    same-length
+    (λ c κs. search needs)
+    (λ c. search needs)
     returns)

@@ -23,29 +23,15 @@ abbrev μ-loop : tie.MeasureT-loop
 loop-holds : tie.Need-loop-holds Inv-loop μ-loop
 loop-holds c = (omega arith, omega arith, wrote-none (c .before .before .args .text .now) (c .before .before .args .n))
 
-mul-field : tie.Need-mul-field Inv-loop μ-loop
-mul-field c = search needs
-
-shared-slice-read-field : tie.Need-shared-slice-read-field Inv-loop μ-loop
-shared-slice-read-field c = search needs
-
-field-requires : tie.Need-field-requires Inv-loop μ-loop
-field-requires c κs = search needs
-
-add-i : tie.Need-add-i Inv-loop μ-loop
-add-i c = search needs
-
-loop-less : tie.Need-loop-less Inv-loop μ-loop
-loop-less c = search needs
-
 loop-again : tie.Need-loop-again Inv-loop μ-loop
 loop-again c =
-    let l = c .before .before .before .before .before .before .loop in
-    let ws = c .before .before .before .before .before .before .before .before .before .args .words .now in
-    let put = c .before .before .field .ensures in
+    let after-field = c .before .before in
+    let at-loop = after-field .before .before .before .before in
+    let l = at-loop .loop in
+    let ws = at-loop .before .before .before .args .words .now in
     let h : l .i < length ws = omega arith in
     let one : take (l .i) ws ++ getD ws (l .i) 0 ∷ [] ≡ take (l .i + 1) ws = rw (add-one (l .i)) (sym (take-suc ws (l .i) 0 h)) in
-    (omega arith, omega arith, wrote-as (ap fields one) (one-field [] (take (l .i) ws) (getD ws (l .i) 0) (l .inv .2) (put .0)))
+    (omega arith, omega arith, wrote-as (ap fields one) (one-field [] (take (l .i) ws) (getD ws (l .i) 0) (l .inv .2) (after-field .field .ensures .0)))
 
 same-length : tie.Need-same-length Inv-loop μ-loop
 same-length c = wrote-length (c .before .loop .inv .2)
@@ -63,11 +49,11 @@ more-words-spec =
     Inv-loop
     μ-loop
     loop-holds
-    mul-field
-    shared-slice-read-field
-    field-requires
-    add-i
-    loop-less
+    (λ c. search needs)
+    (λ c. search needs)
+    (λ c κs. search needs)
+    (λ c. search needs)
+    (λ c. search needs)
     loop-again
     same-length
     returns)
