@@ -31,7 +31,8 @@ loop-again c =
     let ws = at-loop .before .before .before .args .words .now in
     let h : l .i < length ws = omega arith in
     let one : take (l .i) ws ++ getD ws (l .i) 0 ∷ [] ≡ take (l .i + 1) ws = rw (add-one (l .i)) (sym (take-suc ws (l .i) 0 h)) in
-    (omega arith, omega arith, wrote-as (ap fields one) (one-field [] (take (l .i) ws) (getD ws (l .i) 0) (l .inv .2) (after-field .field .ensures .0)))
+    let put = one-field [] (take (l .i) ws) (getD ws (l .i) 0) (l .inv .2) (after-field .field .ensures .0) in
+    (omega arith, omega arith, wrote-as (ap fields one) put)
 
 same-length : tie.Need-same-length Inv-loop μ-loop
 same-length c = wrote-length (c .before .loop .inv .2)

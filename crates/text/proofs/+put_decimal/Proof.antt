@@ -6,7 +6,7 @@ use native.Mathlib.Omega.{arith}
 use borrow.Author.Needs.{needs}
 use borrow.Fn.Kinds.{In}
 use borrow.Fn.PlainCycle.{Measures, is, falls, and}
-use Rattle.writing.proofs.Stores.{then, wrote-as, wrote-length}
+use Rattle.writing.proofs.Stores.{then, wrote-as}
 use Rattle.text.specs.Decimal.{decimal}
 use Rattle.text.proofs.Decimals.{decimal-small, decimal-more, decimal-length}
 use Rattle.text.proofs.put_decimal.Reads as put-decimal
@@ -31,46 +31,24 @@ below t =
 abbrev calls : ℕ → lts.Claims
 calls t = (last-digit-reads.Asked, last-digit-reads.Learnt, put-reads.Asked, put-reads.Learnt, below t, put-decimal.Post)
 
--- The moments when the last digit is known, and when the digits of the tenth have been put.
-module _ {t : ℕ} (c : lts.After-last-digit (calls t) (here t) put-decimal.Post) where
-  abbrev start : lts.Start (calls t) (here t) put-decimal.Post
-  start = c .before .before
-
-module _ {t : ℕ} (c : lts.After-put-decimal (calls t) (here t) put-decimal.Post) where
-  abbrev digit : lts.After-last-digit (calls t) (here t) put-decimal.Post
-  digit = c .before .before .before
-
-put-requires : (t : ℕ) → lts.Need-put-requires (calls t) (here t) put-decimal.Post
-put-requires t c κs = omega arith
-
-same-length : (t : ℕ) → lts.Need-same-length (calls t) (here t) put-decimal.Post
-same-length t c = wrote-length (c .before .before .put .ensures)
-
 returns : (t : ℕ) → lts.Need-returns (calls t) (here t) put-decimal.Post
 returns t c =
     let d = c .before .before .before .before .before in
-    wrote-as (ap (λ (x : ℕ). x ∷ []) (d .last-digit .ensures) ∙ sym (decimal-small (start d .args .number) (omega arith)))
+    wrote-as (ap (λ (x : ℕ). x ∷ []) (d .last-digit .ensures) ∙ sym (decimal-small (d .before .before .args .number) (omega arith)))
     (c .before .before .put .ensures)
-
-put-decimal-requires : (t : ℕ) → lts.Need-put-decimal-requires (calls t) (here t) put-decimal.Post
-put-decimal-requires t c κs = (omega arith, omega arith)
 
 put-requires-2 : (t : ℕ) → lts.Need-put-requires-2 (calls t) (here t) put-decimal.Post
 put-requires-2 t c κs =
     let tenth = c .before .before .before in
-    omega (arith, tenth .put-decimal .ensures .place, decimal-length 19 (start (digit tenth) .args .number / 10) (omega arith))
-
-same-length-2 : (t : ℕ) → lts.Need-same-length-2 (calls t) (here t) put-decimal.Post
-same-length-2 t c =
-    let e = c .before .before in
-    wrote-length (e .put2 .ensures) ∙ wrote-length (e .before .before .before .before .put-decimal .ensures)
+    let number = tenth .before .before .before .before .before .args .number in
+    omega (arith, tenth .put-decimal .ensures .place, decimal-length 19 (number / 10) (omega arith))
 
 returns-2 : (t : ℕ) → lts.Need-returns-2 (calls t) (here t) put-decimal.Post
 returns-2 t c =
     let e = c .before .before in
     let tenth = e .before .before .before .before in
-    let d = digit tenth in
-    let n = start d .args .number in
+    let d = tenth .before .before .before in
+    let n = d .before .before .args .number in
     wrote-as (ap (λ (x : ℕ). decimal (n / 10) ++ x ∷ []) (d .last-digit .ensures) ∙ sym (decimal-more n (omega arith)))
     (then (tenth .put-decimal .ensures) (e .put2 .ensures))
 
@@ -79,10 +57,10 @@ pub +put-decimal-spec : {M : Type 1} → statement M
     close μ-put-decimal λ t.
     lts.spec (calls t) (here t) put-decimal.Post
     (λ c κs. search needs)
-    (put-requires t)
-    (same-length t)
+    (λ c κs. search needs)
+    (λ c. search needs)
     (returns t)
-    (put-decimal-requires t)
+    (λ c κs. search needs)
     (put-requires-2 t)
-    (same-length-2 t)
+    (λ c. search needs)
     (returns-2 t)

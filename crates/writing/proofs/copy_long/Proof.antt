@@ -23,9 +23,6 @@ module _ (c : tie.After-copy2) where
   abbrev after-uneven : tie.After-uneven
   after-uneven = c .before .before .before .before
 
-copy-requires : tie.Need-copy-requires
-copy-requires c κs = c .before .before .before .before .before .pre
-
 returns : tie.Need-returns
 returns c = c .before .before .copy .ensures
 
@@ -36,12 +33,6 @@ copy-requires-2 : tie.Need-copy-requires-2
 copy-requires-2 c κs =
     let u = c .before .before .before in
     omega (arith, first-length u, u .uneven .ensures, start u .pre)
-
-sub-copy : tie.Need-sub-copy
-sub-copy c = after-uneven (c .before .before) .uneven .ensures
-
-part-copy-start : tie.Need-part-copy-start
-part-copy-start c = after-uneven (c .before .before) .uneven .ensures
 
 copy-requires-3 : tie.Need-copy-requires-3
 copy-requires-3 c κs =
@@ -64,14 +55,14 @@ copy-long-spec =
     tie.close
     (tie.spec
     (λ c κs. search needs)
-    copy-requires
+    (λ c κs. search needs)
     (λ c. search needs)
     returns
     slice-aggregate-copy
     copy-requires-2
     (λ c. search needs)
-    sub-copy
-    part-copy-start
+    (λ c. search needs)
+    (λ c. search needs)
     (λ c. search needs)
     copy-requires-3
     (λ c. search needs)

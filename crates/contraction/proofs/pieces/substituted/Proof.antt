@@ -10,14 +10,12 @@ substitute-requires : tie.Need-substitute-requires
 substitute-requires c κs =
     let s = c .before .before .before .before .before in
     let g = s .pre .0 .0 in
-    let p = s .pre .1 in
     let l = part-length (s .args .words .now) (s .args .body) in
-    let m = stretch-length (s .args .words .now) (s .args .a) (s .args .e) in
     record {
       table-is = g .table-is;
-      few = omega (arith, l, p .body, g .few);
-      value-few = omega (arith, m, g .few);
-      variable = omega (arith, l, p .variable, g .few);
+      few = omega (arith, l, s .pre .1 .body, g .few);
+      value-few = omega (arith, stretch-length (s .args .words .now) (s .args .a) (s .args .e), g .few);
+      variable = omega (arith, l, s .pre .1 .variable, g .few);
       room = omega (arith, l, g .few, s .pre .0 .1);
     }
 
