@@ -39,18 +39,6 @@ module _ (c : tie.After-answer) where
   judged-file : accepting (judging (take count found) types) ≡ accepting (judging (wordsOf file) types)
   judged-file = ap (λ (ws : List ℕ). accepting (judging ws types)) (known .words-are)
 
-open-requires : tie.Need-open-requires
-open-requires c κs = search needs
-
-enum-known-answer : tie.Need-enum-known-answer
-enum-known-answer c = search needs
-
-enum-told : tie.Need-enum-told
-enum-told c = search needs
-
-same-length : tie.Need-same-length
-same-length c = search needs
-
 returns : tie.Need-returns
 returns c =
     let e = c .before .before .before .before .«open» .ensures in
@@ -66,23 +54,12 @@ slice-aggregate-judge c = let k = known (c .before .before) in rw (k .words-are)
 judge-requires : tie.Need-judge-requires
 judge-requires c κs = let k = known (c .before .before) in rw (k .words-are) (term-at k)
 
-enum-known-r : tie.Need-enum-known-r
-enum-known-r c = search needs
-
-enum-told-2 : tie.Need-enum-told-2
-enum-told-2 c = search needs
-
-same-length-2 : tie.Need-same-length-2
-same-length-2 c = search needs
-
 returns-2 : tie.Need-returns-2
 returns-2 c =
-    let f = c .before .before .before .before .before .before in
-    let j = ap checked (sym (c .before .r .given .1)) ∙ c .before .before .before .judge .ensures in
+    let after-judge = c .before .before .before in
+    let f = after-judge .before .before .before in
+    let j = ap checked (sym (c .before .r .given .1)) ∙ after-judge .judge .ensures in
     (judged-out (known f) (j ∙ judged-file f), after-open f .«open» .ensures .1)
-
-same-length-3 : tie.Need-same-length-3
-same-length-3 c = search needs
 
 returns-3 : tie.Need-returns-3
 returns-3 c =
@@ -94,17 +71,17 @@ pub admit-spec : {M : Type 1} → statement M
 admit-spec =
     tie.close
     (tie.spec
-    open-requires
-    enum-known-answer
-    enum-told
-    same-length
+    (λ c κs. search needs)
+    (λ c. search needs)
+    (λ c. search needs)
+    (λ c. search needs)
     returns
     slice-reshare-prefix-judge
     slice-aggregate-judge
     judge-requires
-    enum-known-r
-    enum-told-2
-    same-length-2
+    (λ c. search needs)
+    (λ c. search needs)
+    (λ c. search needs)
     returns-2
-    same-length-3
+    (λ c. search needs)
     returns-3)

@@ -7,18 +7,6 @@ use Rattle.checker.proofs.Deciding.{no-type, declared-one, other-one}
 use Rattle.checker.proofs.typed_by.Statement.{statement}
 use Rattle.checker.proofs.typed_by.Tie as tie
 
-mul-infer : tie.Need-mul-infer
-mul-infer c = search needs
-
-sub-infer : tie.Need-sub-infer
-sub-infer c = search needs
-
-part-infer-start : tie.Need-part-infer-start
-part-infer-start c = search needs
-
-part-infer-end : tie.Need-part-infer-end
-part-infer-end c = search needs
-
 infer-requires : tie.Need-infer-requires
 infer-requires c κs =
     let s = c .before .before .before .before in
@@ -31,55 +19,44 @@ infer-requires c κs =
       linked = s .pre .0 .linked;
     }
 
-enum-known-t : tie.Need-enum-known-t
-enum-known-t c = search needs
-
-enum-told : tie.Need-enum-told
-enum-told c = search needs
-
-same-length : tie.Need-same-length
-same-length c = search needs
-
 returns : tie.Need-returns
 returns c = no-type (c .before .before .before .before .infer .ensures) (ap inferred (c .enum-told .given .1))
 
+-- The moment when the type has been inferred.
+abbrev after-infer : tie.After-t → tie.After-infer
+after-infer c = c .before .before .before .before
+
 same-requires : tie.Need-same-requires
 same-requires c κs =
-    let i = c .before .before .before .before .before .before in
+    let i = after-infer (c .before .before) in
     let s = i .before .before .before .before .before in
     record { tabled = s .pre .0 .tabled; linked = i .infer .ensures .same ∙ s .pre .0 .linked }
 
-same-length-2 : tie.Need-same-length-2
-same-length-2 c = search needs
-
 returns-2 : tie.Need-returns-2
 returns-2 c =
-    declared-one (c .before .before .before .before .before .before .before .before .infer .ensures)
-    (ap inferred (c .before .before .before .before .t .given .1)) (c .before .same .result) (c .before .same .ensures) (c .if1 .taken)
-
-same-length-3 : tie.Need-same-length-3
-same-length-3 c = search needs
+    let t = c .before .before .before .before in
+    declared-one (after-infer t .infer .ensures) (ap inferred (t .t .given .1)) (c .before .same .result) (c .before .same .ensures) (c .if1 .taken)
 
 returns-3 : tie.Need-returns-3
 returns-3 c =
-    other-one (c .before .before .before .before .before .before .before .before .infer .ensures)
-    (ap inferred (c .before .before .before .before .t .given .1)) (c .before .same .result) (c .before .same .ensures) (c .if1 .left)
+    let t = c .before .before .before .before in
+    other-one (after-infer t .infer .ensures) (ap inferred (t .t .given .1)) (c .before .same .result) (c .before .same .ensures) (c .if1 .left)
 
 pub typed-by-spec : {M : Type 1} → statement M
 typed-by-spec =
     tie.close
     (tie.spec
-    mul-infer
-    sub-infer
-    part-infer-start
-    part-infer-end
+    (λ c. search needs)
+    (λ c. search needs)
+    (λ c. search needs)
+    (λ c. search needs)
     infer-requires
-    enum-known-t
-    enum-told
-    same-length
+    (λ c. search needs)
+    (λ c. search needs)
+    (λ c. search needs)
     returns
     same-requires
-    same-length-2
+    (λ c. search needs)
     returns-2
-    same-length-3
+    (λ c. search needs)
     returns-3)
