@@ -26,21 +26,6 @@ module _ (c : tie.After-type-count) where
   known : Admits (start .args .file .now) all (c .type-count .given .0 .0) (c .type-count .given .0 .1 .0)
   known = let e = after-admit .admit .ensures in admits _ _ (ap opened (sym (c .type-count .given .1)) ∙ e .0) (e .1)
 
-slice-aggregate-admit : tie.Need-slice-aggregate-admit
-slice-aggregate-admit c = search needs
-
-admit-requires : tie.Need-admit-requires
-admit-requires c κs = search needs
-
-enum-known-r : tie.Need-enum-known-r
-enum-known-r c = search needs
-
-refused-requires : tie.Need-refused-requires
-refused-requires c κs = search needs
-
-enum-known-type-count : tie.Need-enum-known-type-count
-enum-known-type-count c = search needs
-
 add-start : tie.Need-add-start
 add-start c = omega (arith, term-within (known (c .before)))
 
@@ -56,18 +41,15 @@ part-begin-start c = omega (arith, term-within (known (c .before .before)))
 part-begin-end : tie.Need-part-begin-end
 part-begin-end c = omega (arith, term-within (known (c .before .before)))
 
+abbrev accepted : tie.After-begin-arg3 → tie.After-type-count
+accepted c = c .before .before .before .before .before
+
 begin-requires : tie.Need-begin-requires
 begin-requires c κs =
-    let k = c .before .before .before .before .before in
+    let k = accepted c in
     let from = 4 + k .type-count .given .0 .0 in
     let w = term-within (known k) in
     omega (arith, w, length-take-le (k .type-count .given .0 .1 .0 - from) (drop from (all k)) (omega (arith, w, length-drop from (all k))))
-
-same-length : tie.Need-same-length
-same-length c = search needs
-
-same-length-2 : tie.Need-same-length-2
-same-length-2 c = search needs
 
 returns : tie.Need-returns
 returns c =
@@ -78,36 +60,30 @@ returns c =
     run-refused (s .args .file .now) (s .args .limit) (mid .r .given .0 .0)
     (not-admitted (s .args .file .now) (ap opened (sym (mid .r .given .1)) ∙ after-admit .admit .ensures .0)) (after-refused .refused .ensures)
 
-same-length-3 : tie.Need-same-length-3
-same-length-3 c = search needs
-
-same-length-4 : tie.Need-same-length-4
-same-length-4 c = search needs
-
 returns-2 : tie.Need-returns-2
 returns-2 c =
     let after-begin = c .before .before .before .before in
-    let k = after-begin .before .before .before .before .before .before in
+    let k = accepted (after-begin .before) in
     run-begun (start k .args .file .now) (start k .args .limit) (known k) (after-begin .begin .ensures)
 
 pub run-spec : {M : Type 1} → statement M
 run-spec =
     tie.close
     (tie.spec
-    slice-aggregate-admit
-    admit-requires
-    enum-known-r
-    refused-requires
-    enum-known-type-count
+    (λ c. search needs)
+    (λ c κs. search needs)
+    (λ c. search needs)
+    (λ c κs. search needs)
+    (λ c. search needs)
     add-start
     mul-begin
     sub-begin
     part-begin-start
     part-begin-end
     begin-requires
-    same-length
-    same-length-2
+    (λ c. search needs)
+    (λ c. search needs)
     returns
-    same-length-3
-    same-length-4
+    (λ c. search needs)
+    (λ c. search needs)
     returns-2)
