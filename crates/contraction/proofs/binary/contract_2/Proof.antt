@@ -68,6 +68,13 @@ module _ (c : tie.Else5) where
   second-is : c .before .form-at2 .result ≡ formAt (drop (middle (at (operator first))) (ws (at (operator first))))
   second-is = rest-form (ws (at (operator first))) (middle (at (operator first))) (c .before .form-at2 .ensures)
 
+module _ (c : tie.After-number-at2) where
+  abbrev after-number-at : tie.After-number-at
+  after-number-at = c .before .before
+
+  abbrev second : tie.Else5
+  second = after-number-at .before .before
+
 returns : tie.Need-returns
 returns c = (tt, two-none _ _ (middle-is (c .before)) (c .if1 .taken))
 
@@ -99,11 +106,11 @@ returns-5 c =
 
 returns-6 : tie.Need-returns-6
 returns-6 c =
-    let n = c .before .before .before .before .before .before in
+    let k = c .before .before in let n = second k in
     let f = first n in
     let o = operator f in
-    let a = c .before .before .before .before .number-at in
-    let b = c .before .before .number-at2 in (
+    let a = after-number-at k .number-at in
+    let b = k .number-at2 in (
       rw (c .sum .ensures) (sum-placed (length (ws (at o))) (scheme o) (a .result) (b .result)),
       rw (c .sum .ensures) (two-plus (known o) (o .operator .ensures) (f .before .before .if2 .left) (f .before .if3 .left) (f .if4 .left)
           (second-is n) (n .if5 .left) (rest-number (ws (at o)) 1 (a .ensures .0)) (rest-number (ws (at o)) (middle (at o)) (b .ensures .0))
@@ -112,11 +119,11 @@ returns-6 c =
 
 returns-7 : tie.Need-returns-7
 returns-7 c =
-    let n = c .before .before .before .before .before .before .before in
+    let k = c .before .before .before in let n = second k in
     let f = first n in
     let o = operator f in
-    let a = c .before .before .before .before .before .number-at in
-    let b = c .before .before .before .number-at2 in
+    let a = after-number-at k .number-at in
+    let b = k .number-at2 in
     let g = c .numbered .ensures in
     let d = c .before .difference .ensures in (
       rw (g, d) (number-placed (length (ws (at o))) (scheme o) (a .result - b .result) (omega (arith, a .ensures .1))),
@@ -139,10 +146,10 @@ part-form-at-start-2 : tie.Need-part-form-at-start-2
 part-form-at-start-2 c = middle-in (at (c .before .before .before))
 
 sub-number-at-2 : tie.Need-sub-number-at-2
-sub-number-at-2 c = let o = c .before .before .before .before .before .before .before .before in middle-in (at o)
+sub-number-at-2 c = middle-in (at (operator (first (c .before .before))))
 
 part-number-at-start-2 : tie.Need-part-number-at-start-2
-part-number-at-start-2 c = let o = c .before .before .before .before .before .before .before .before in middle-in (at o)
+part-number-at-start-2 c = middle-in (at (operator (first (c .before .before))))
 
 pub contract-2-spec : {M : Type 1} → statement M
 contract-2-spec =

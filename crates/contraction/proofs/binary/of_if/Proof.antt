@@ -14,21 +14,24 @@ use Rattle.contraction.proofs.binary.of_if.Tie as tie
 
 -- Where the parts start and end.
 module _ (c : tie.After-form-at) where
+  abbrev after-skip : tie.After-skip
+  after-skip = c .before .before .before .before
+
   abbrev start : tie.Start
-  start = c .before .before .before .before .before .before .before
+  start = after-skip .before .before .before
 
   abbrev ws : List ℕ
   ws = start .args .words .now
 
   abbrev x : ℕ
-  x = 1 + c .before .before .before .before .skip .result
+  x = 1 + after-skip .skip .result
 
   abbrev y : ℕ
   y = x + c .before .before .skip2 .result
 
   known : ThreeParts ws (c .form-at .result) x y (start .args .end)
   known =
-      let x-is = rest-span ws 1 (c .before .before .before .before .skip .ensures .1) in
+      let x-is = rest-span ws 1 (after-skip .skip .ensures .1) in
       let y-is = rest-span ws x (c .before .before .skip2 .ensures .1) in
       record {
         form-is = rest-form ws 1 (c .form-at .ensures);
@@ -39,8 +42,7 @@ module _ (c : tie.After-form-at) where
 
   second-part : PartIn (length ws) x y
   second-part =
-      let l = c .before .before .before .before .skip .ensures .0 in
-      let m = c .before .before .skip2 .ensures .0 in
+      let l = after-skip .skip .ensures .0 in let m = c .before .before .skip2 .ensures .0 in
       record { order = omega arith; most = omega (arith, l, m, part-length ws 1, part-length ws x, start .pre .some) }
 
   third-part : PartIn (length ws) y (start .args .end)

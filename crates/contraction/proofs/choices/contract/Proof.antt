@@ -61,7 +61,7 @@ converted-requires c κs = node (c .before .before .before .before .before) 9 2 
 returns-6 : tie.Need-returns-6
 returns-6 c =
     let g = c .converted .ensures in
-    let r = c .before .before .before .before .before .before in (g .0, node-boundary _ (shape-is r) (c .before .if6 .taken) (g .1))
+    let then = c .before in let r = then .before .before .before .before .before in (g .0, node-boundary _ (shape-is r) (then .if6 .taken) (g .1))
 
 returns-7 : tie.Need-returns-7
 returns-7 c =

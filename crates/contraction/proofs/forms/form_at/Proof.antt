@@ -13,13 +13,15 @@ use Rattle.contraction.proofs.forms.form_at.Tie as tie
 
 -- The first word's shape is none of the three that tell a form.
 module _ (c : tie.Else4) where
+  abbrev after-row : tie.After-row-at
+  after-row = c .before .before .before
+
   abbrev ws : List ℕ
-  ws = let start = c .before .before .before .before .before .before .before in start .args .words .now
+  ws = let start = after-row .before .before .before .before in start .args .words .now
 
   rest : (n : ℕ) → formBy 0 (getD ws 0 0) (getD ws 1 0) ≡ n → n ≡ formAt ws
   rest n q =
-      let r = c .before .before .before .row-at in
-      form-rest _ _ n (ap (λ r. r .shape) (r .ensures)) (c .before .before .if2 .left) (c .before .if3 .left) (c .if4 .left) q
+      form-rest _ _ n (ap (λ r. r .shape) (after-row .row-at .ensures)) (c .before .before .if2 .left) (c .before .if3 .left) (c .if4 .left) q
 
 returns : tie.Need-returns
 returns c = form-none _ (c .if1 .taken)
@@ -60,11 +62,10 @@ returns-8 c =
     rest e 0 (rw (c .before .if7 .left, List·getD-eq-default (ws e) 0 {n = 1} (omega arith)))
 
 returns-9 : tie.Need-returns-9
-returns-9 c = let e = c .before .before .before .before .before .before in rest e 5 (rw (c .before .before .before .if7 .left, c .if9 .taken))
+returns-9 c = let k = c .before .before .before in rest (k .before .before .before) 5 (rw (k .if7 .left, c .if9 .taken))
 
 returns-10 : tie.Need-returns-10
-returns-10 c =
-    let e = c .before .before .before .before .before .before in rest e 0 (rw (c .before .before .before .if7 .left, ne-eqb _ _ (c .if9 .left)))
+returns-10 c = let k = c .before .before .before in rest (k .before .before .before) 0 (rw (k .if7 .left, ne-eqb _ _ (c .if9 .left)))
 
 pub form-at-spec : {M : Type 1} → statement M
 form-at-spec =

@@ -54,7 +54,7 @@ put-requires c κs =
 
 returns : tie.Need-returns
 returns c =
-    let fourth = c .before .before .before .before .before .before in
+    let last = c .before .before in let fourth = last .before .before .before .before in
     let third = fourth .before .before .before .before in
     let second = third .before .before .before .before in
     let first = second .before .before .before .before in
@@ -62,7 +62,7 @@ returns c =
     let b = second .lead2 .ensures in
     let d = third .lead3 .ensures in
     let e = fourth .lead4 .ensures in
-    let f = c .before .before .put .ensures in (
+    let f = last .put .ensures in (
       then (a .0) (then (b .0) (then (d .0) (then (e .0) f))),
       (omega (arith, a .1, b .1, d .1, e .1, f .place), omega (arith, a .1, b .1, d .1, e .1, f .place)),
     )

@@ -48,7 +48,7 @@ put-requires-2 c κs =
 
 returns : tie.Need-returns
 returns c =
-    let third = c .before .before .before .before .before .before in
+    let last = c .before .before in let third = last .before .before .before .before in
     let second = third .before .before .before .before in
     let first = second .before .before .before .before in
     let put = first .before .before .before .before in
@@ -56,7 +56,7 @@ returns c =
     let b = first .lead .ensures in
     let d = second .lead2 .ensures in
     let e = third .lead3 .ensures in
-    let f = c .before .before .put2 .ensures in (
+    let f = last .put2 .ensures in (
       then a (then (b .0) (then (d .0) (then (e .0) f))),
       (omega (arith, a .place, b .1, d .1, e .1, f .place), omega (arith, a .place, b .1, d .1, e .1, f .place)),
     )

@@ -13,9 +13,9 @@ lead-requires c κs =
 
 returns : tie.Need-returns
 returns c =
-    let after-put = c .before .before .before .before .before .before in
-    let a = after-put .put .ensures in
-    let b = c .before .before .lead .ensures in
+    let after-lead = c .before .before in
+    let a = after-lead .before .before .before .before .put .ensures in
+    let b = after-lead .lead .ensures in
     (then a (b .0), (omega (arith, a .place, b .1), omega (arith, a .place, b .1)))
 
 pub lead-two-spec : {M : Type 1} → statement M

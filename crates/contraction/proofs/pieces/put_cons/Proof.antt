@@ -54,7 +54,7 @@ copy-requires-2 c κs =
 
 returns : tie.Need-returns
 returns c =
-    let lead′ = c .before .before .before .before .before .before .before in
+    let last = c .before .before in let lead′ = last .before .before .before .before .before in
     let copy = lead′ .before .before .before .before in
     let lead = copy .before .before .before .before .before in
     let put = lead .before .before .before .before in
@@ -65,7 +65,7 @@ returns c =
     let b = lead .lead .ensures in
     let d = copy .copy .ensures in
     let e = lead′ .lead2 .ensures in
-    let f = c .before .before .copy2 .ensures in (
+    let f = last .copy2 .ensures in (
       then a (then (b .0) (then d (then (e .0) f))),
       (omega (arith, a .place, b .1, d .place, e .1, f .place), omega (arith, l, m, a .place, b .1, d .place, e .1, f .place, s .pre .0)),
     )

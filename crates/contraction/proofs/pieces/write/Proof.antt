@@ -12,28 +12,31 @@ use Rattle.contraction.proofs.pieces.write.Statement.{statement}
 use Rattle.contraction.proofs.pieces.write.Tie as tie
 
 -- What is known of the words, and of the piece once it is told.
-module _ (s : tie.Start) where
-  near : Near (s .args .words .now) (s .args .n) mostPlace
-  near = record { few = s .pre .0 .0 .few; place = s .pre .0 .1 }
+module _ (c : tie.After-slice-known) where
+  abbrev start : tie.Start
+  start = c .before .before
 
-  placed : {p : Piece} → s .args .piece ≡ p → Placed (length (s .args .words .now)) p
-  placed e = subst (Placed (length (s .args .words .now))) e (s .pre .1)
+  near : Near (start .args .words .now) (start .args .n) mostPlace
+  near = record { few = start .pre .0 .0 .few; place = start .pre .0 .1 }
+
+  placed : {p : Piece} → start .args .piece ≡ p → Placed (length (start .args .words .now)) p
+  placed e = subst (Placed (length (start .args .words .now))) e (start .pre .1)
 
 put-number-requires : tie.Need-put-number-requires
 put-number-requires c κs =
-    let s = c .before .before .before .before .before .before in
-    (placed s (c .before .before .piece .given .1), omega (arith, s .pre .0 .1))
+    let s = c .before .before .before .before in
+    (placed s (c .before .before .piece .given .1), omega (arith, near s .place))
 
 -- A part of the words.
 module _ (c : tie.After-piece2) where
-  abbrev start : tie.Start
-  start = c .before .before .before .before
+  abbrev known : tie.After-slice-known
+  known = c .before .before
 
-  part : PartIn (length (start .args .words .now)) (c .piece2 .given .0 .0) (c .piece2 .given .0 .1 .0)
-  part = placed start (c .piece2 .given .1)
+  part : PartIn (length (start known .args .words .now)) (c .piece2 .given .0 .0) (c .piece2 .given .0 .1 .0)
+  part = placed known (c .piece2 .given .1)
 
 mul-copy : tie.Need-mul-copy
-mul-copy c = let p = part (c .before) in record { fits = omega (arith, p, start (c .before) .pre .0 .0 .few) }
+mul-copy c = let p = part (c .before) in record { fits = omega (arith, p, near (known (c .before)) .few) }
 
 sub-copy : tie.Need-sub-copy
 sub-copy c = let p = part (c .before) in omega (arith, p)
@@ -48,32 +51,32 @@ copy-requires : tie.Need-copy-requires
 copy-requires c κs =
     let k = c .before .before .before in
     let r = k .piece2 .given in
-    omega (arith, stretch-length (start k .args .words .now) (r .0 .0) (r .0 .1 .0), start k .pre .0)
+    omega (arith, stretch-length (start (known k) .args .words .now) (r .0 .0) (r .0 .1 .0), start (known k) .pre .0)
 
 lead-requires : tie.Need-lead-requires
 lead-requires c κs =
-    let s = c .before .before .before .before .before .before in
+    let s = c .before .before .before .before in
     (record { few = near s .few; place = omega (arith, near s .place) }, placed s (c .before .before .piece3 .given .1))
 
 lead-two-requires : tie.Need-lead-two-requires
 lead-two-requires c κs =
-    let s = c .before .before .before .before .before .before in (near s, placed s (c .before .before .piece4 .given .1))
+    let s = c .before .before .before .before in (near s, placed s (c .before .before .piece4 .given .1))
 
 put-cons-requires : tie.Need-put-cons-requires
 put-cons-requires c κs =
-    let s = c .before .before .before .before .before .before in (near s, placed s (c .before .before .piece5 .given .1))
+    let s = c .before .before .before .before in (near s, placed s (c .before .before .piece5 .given .1))
 
 into-ml-requires : tie.Need-into-ml-requires
 into-ml-requires c κs =
-    let s = c .before .before .before .before .before .before in (near s, placed s (c .before .before .piece6 .given .1))
+    let s = c .before .before .before .before in (near s, placed s (c .before .before .piece6 .given .1))
 
 into-scheme-requires : tie.Need-into-scheme-requires
 into-scheme-requires c κs =
-    let s = c .before .before .before .before .before .before in (near s, placed s (c .before .before .piece7 .given .1))
+    let s = c .before .before .before .before in (near s, placed s (c .before .before .piece7 .given .1))
 
 substituted-requires : tie.Need-substituted-requires
 substituted-requires c κs =
-    let s = c .before .before .before .before .before .before in (s .pre .0, placed s (c .before .before .piece8 .given .1))
+    let s = c .before .before .before .before in (start s .pre .0, placed s (c .before .before .piece8 .given .1))
 
 returns : tie.Need-returns
 returns c =
@@ -84,11 +87,12 @@ returns c =
 
 returns-2 : tie.Need-returns-2
 returns-2 c =
-    let w = c .before .before .copy .ensures in
-    let k = c .before .before .before .before .before .before in
+    let after-copy = c .before .before in
+    let w = after-copy .copy .ensures in
+    let k = after-copy .before .before .before .before in
     let r = k .piece2 .given in
-    let l = stretch-length (start k .args .words .now) (r .0 .0) (r .0 .1 .0) in
-    (known-piece (r .1) (words-write (λ l u g. g) w), (omega (arith, w .place), omega (arith, w .place, l, near (start k) .few)))
+    let l = stretch-length (start (known k) .args .words .now) (r .0 .0) (r .0 .1 .0) in
+    (known-piece (r .1) (words-write (λ l u g. g) w), (omega (arith, w .place), omega (arith, w .place, l, near (known k) .few)))
 
 returns-3 : tie.Need-returns-3
 returns-3 c =

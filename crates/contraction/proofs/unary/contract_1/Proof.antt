@@ -11,16 +11,19 @@ use Rattle.contraction.proofs.unary.contract_1.Tie as tie
 
 -- What is known of the part.
 module _ (c : tie.After-operator) where
-  abbrev start : tie.Start
-  start = c .before .before .before .before .before .before
+  abbrev after-form : tie.After-form-at
+  after-form = c .before .before
 
-  known : FirstPart (start .args .table .now) (start .args .words .now) (c .before .before .form-at .result) (start .args .end)
+  abbrev start : tie.Start
+  start = after-form .before .before .before .before
+
+  known : FirstPart (start .args .table .now) (start .args .words .now) (after-form .form-at .result) (start .args .end)
   known =
       record {
         given = start .pre .given;
-        form-is = rest-form (start .args .words .now) 1 (c .before .before .form-at .ensures);
+        form-is = rest-form (start .args .words .now) 1 (after-form .form-at .ensures);
         end-is = start .pre .end-is;
-        least = omega (arith, c .before .before .before .before .if1 .left);
+        least = omega (arith, after-form .before .before .if1 .left);
         most = start .pre .most;
       }
 
@@ -37,7 +40,7 @@ returns-2 c =
 returns-3 : tie.Need-returns-3
 returns-3 c =
     let o = c .before .before .before in (
-      rw (c .of-null .ensures) (null-placed (length (start o .args .words .now)) (o .before .before .form-at .result)),
+      rw (c .of-null .ensures) (null-placed (length (start o .args .words .now)) (after-form o .form-at .result)),
       rw (c .of-null .ensures) (one-null (known o) (o .operator .ensures) (c .before .if3 .taken)),
     )
 

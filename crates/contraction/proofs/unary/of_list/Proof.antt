@@ -27,16 +27,16 @@ returns c =
 
 returns-2 : tie.Need-returns-2
 returns-2 c =
-    let s = c .before .before .before .before .before .before in (
-      record { order = omega arith; most = omega (arith, s .pre .most, c .before .if2 .left) },
-      known-list (c .if3 .taken) refl (list-head (s .pre) (middle (c .before .before)) (c .before .before .before .before .if1 .taken)),
+    let k = c .before .before in (
+      record { order = omega arith; most = omega (arith, start k .pre .most, c .before .if2 .left) },
+      known-list (c .if3 .taken) refl (list-head (start k .pre) (middle k) (k .before .before .if1 .taken)),
     )
 
 returns-3 : tie.Need-returns-3
 returns-3 c =
-    let s = c .before .before .before .before .before .before in (
-      record { order = omega (arith, c .before .if2 .left); most = s .pre .most },
-      known-list (c .if3 .left) refl (list-tail (s .pre) (middle (c .before .before)) (c .before .before .before .before .if1 .taken)),
+    let k = c .before .before in (
+      record { order = omega (arith, c .before .if2 .left); most = start k .pre .most },
+      known-list (c .if3 .left) refl (list-tail (start k .pre) (middle k) (k .before .before .if1 .taken)),
     )
 
 returns-4 : tie.Need-returns-4
@@ -53,18 +53,18 @@ returns-5 c =
 
 returns-6 : tie.Need-returns-6
 returns-6 c =
-    let s = c .before .before .before .before .before .before in
+    let nil = c .before .before .before in let s = nil .before .before .before in
     rw (c .before .ml-wrong .ensures) (
       record { order = s .pre .least; most = s .pre .most },
-      known-list (c .if6 .taken) (c .before .before .if5 .left) (list-nil-head (s .pre) (c .before .before .before .if4 .left)),
+      known-list (c .if6 .taken) (c .before .before .if5 .left) (list-nil-head (s .pre) (nil .if4 .left)),
     )
 
 returns-7 : tie.Need-returns-7
 returns-7 c =
-    let s = c .before .before .before .before .before .before in
+    let nil = c .before .before .before in let s = nil .before .before .before in
     rw (c .before .ml-wrong .ensures) (
       record { order = s .pre .least; most = s .pre .most },
-      known-list (c .if6 .left) (c .before .before .if5 .left) (list-nil-tail (s .pre) (c .before .before .before .if4 .left)),
+      known-list (c .if6 .left) (c .before .before .if5 .left) (list-nil-tail (s .pre) (nil .if4 .left)),
     )
 
 pub of-list-spec : {M : Type 1} → statement M
