@@ -23,12 +23,6 @@ Inv-loop file out₀ n i₀ out i = Filled file (length out₀) n out i
 abbrev μ-loop : tie.MeasureT-loop
 μ-loop file out₀ n i₀ out i = n - i
 
-clear-requires : tie.Need-clear-requires Inv-loop μ-loop
-clear-requires c κs = search needs
-
-fewer-requires : tie.Need-fewer-requires Inv-loop μ-loop
-fewer-requires c κs = search needs
-
 -- The buffer that was cleared is as long as it was.
 cleared-length : (c : tie.After-clear Inv-loop μ-loop) → length (c .clear .last .0) ≡ length (c .before .before .before .before .args .out .now)
 cleared-length c = ap length (c .clear .ensures) ∙ padded-length _ _
@@ -42,60 +36,42 @@ loop-holds c =
       stands = after-clear .clear .ensures ∙ ap (λ (n : ℕ). padded n []) (sym (cleared-length after-clear));
     }
 
--- The start, and the file.
+-- The start, and the file; and the turn whose word has been read.
 module _ (c : tie.At-loop Inv-loop μ-loop) where
+  abbrev after-clear : tie.After-clear Inv-loop μ-loop
+  after-clear = c .before .before .before .before
+
   abbrev begun : tie.Start Inv-loop μ-loop
-  begun = c .before .before .before .before .before .before .before .before
+  begun = after-clear .before .before .before .before
 
   abbrev file : List ℕ
   file = begun .args .file .now
 
-mul-k : tie.Need-mul-k Inv-loop μ-loop
-mul-k c = search needs
+abbrev turn : tie.After-word Inv-loop μ-loop → tie.At-loop Inv-loop μ-loop
+turn c = let in-loop = c .before .before .before .before .before in in-loop .before
 
 shared-slice-read-word : tie.Need-shared-slice-read-word Inv-loop μ-loop
 shared-slice-read-word c = omega arith
 
-add-word : tie.Need-add-word Inv-loop μ-loop
-add-word c = search needs
-
 shared-slice-read-word-2 : tie.Need-shared-slice-read-word-2 Inv-loop μ-loop
 shared-slice-read-word-2 c = omega arith
-
-add-word-2 : tie.Need-add-word-2 Inv-loop μ-loop
-add-word-2 c = search needs
 
 shared-slice-read-word-3 : tie.Need-shared-slice-read-word-3 Inv-loop μ-loop
 shared-slice-read-word-3 c = omega arith
 
-add-word-3 : tie.Need-add-word-3 Inv-loop μ-loop
-add-word-3 c = search needs
-
 shared-slice-read-word-4 : tie.Need-shared-slice-read-word-4 Inv-loop μ-loop
 shared-slice-read-word-4 c = omega arith
 
-word-requires : tie.Need-word-requires Inv-loop μ-loop
-word-requires c κs = search needs
-
-mul-out : tie.Need-mul-out Inv-loop μ-loop
-mul-out c = search needs
-
 slice-write-out : tie.Need-slice-write-out Inv-loop μ-loop
 slice-write-out c =
-    let l = c .before .before .before .before .before .before .loop in
+    let l = turn c .loop in
     omega (arith, ap length (l .inv .stands) ∙ padded-length _ _, l .inv .due)
-
-add-i : tie.Need-add-i Inv-loop μ-loop
-add-i c = search needs
-
-loop-less : tie.Need-loop-less Inv-loop μ-loop
-loop-less c = search needs
 
 loop-again : tie.Need-loop-again Inv-loop μ-loop
 loop-again c =
-    let l = c .before .before .before .before .before .before in
+    let l = turn c in
     let f = file l in
-    let m = length (l .before .before .before .before .clear .last .0) in
+    let m = length (after-clear l .clear .last .0) in
     let i = l .loop .i in
     let e : c .word .result ≡ getD (wordsOf f) i 0 = c .word .ensures ∙ sym (word-at f i (omega arith)) in
     record {
@@ -107,14 +83,14 @@ loop-again c =
 same-length : tie.Need-same-length Inv-loop μ-loop
 same-length c =
     let l = c .before in
-    ap length (l .loop .inv .stands) ∙ padded-length _ _ ∙ cleared-length (l .before .before .before .before)
+    ap length (l .loop .inv .stands) ∙ padded-length _ _ ∙ cleared-length (after-clear l)
 
 returns : tie.Need-returns Inv-loop μ-loop
 returns c =
     let l = c .before in
     let f = file l in
     l .loop .inv .stands ∙ padded-cut _ (l .loop .i) (wordsOf f) (omega (arith, words-length f))
-    ∙ ap (λ (n : ℕ). padded n (wordsOf f)) (cleared-length (l .before .before .before .before))
+    ∙ ap (λ (n : ℕ). padded n (wordsOf f)) (cleared-length (after-clear l))
 
 pub words-spec : {M : Type 1} → statement M
 words-spec =
@@ -122,22 +98,22 @@ words-spec =
     (tie.spec
     Inv-loop
     μ-loop
-    clear-requires
-    fewer-requires
+    (λ c κs. search needs)
+    (λ c κs. search needs)
     loop-holds
-    mul-k
+    (λ c. search needs)
     shared-slice-read-word
-    add-word
+    (λ c. search needs)
     shared-slice-read-word-2
-    add-word-2
+    (λ c. search needs)
     shared-slice-read-word-3
-    add-word-3
+    (λ c. search needs)
     shared-slice-read-word-4
-    word-requires
-    mul-out
+    (λ c κs. search needs)
+    (λ c. search needs)
     slice-write-out
-    add-i
-    loop-less
+    (λ c. search needs)
+    (λ c. search needs)
     loop-again
     same-length
     returns)
