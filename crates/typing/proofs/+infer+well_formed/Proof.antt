@@ -136,10 +136,10 @@ module _ {t : ℕ} where
   -- Its moments, each by a later one: the row of the word is read; the first term among the parts is found; it is about to be inferred; it is
   -- inferred; it is whole; there are more; the second is inferred; it is whole; the third is inferred.
   abbrev ml-start : Ml t i.After-row-at → Ml t i.Start
-  ml-start c = c .before .before .before .before .before .before
+  ml-start c = let some = c .before .before in some .before .before .before .before
 
   abbrev ml-parts : Ml t i.After-scope-within → Ml t i.After-parts-start
-  ml-parts c = c .before .before .before .before .before .before
+  ml-parts c = let many = c .before .before .before .before in many .before .before
 
   abbrev ml-enters : Ml t i.After-infer → Ml t i.After-scope-within
   ml-enters c = c .before .before .before .before .before
@@ -160,7 +160,7 @@ module _ {t : ℕ} where
   ml-whole-2 c = c .before .before .before .before .before
 
   abbrev ml-third : Ml t i.After-result-3-arg → Ml t i.After-infer3
-  ml-third c = c .before .before .before .before .before .before
+  ml-third c = let three = c .before .before in three .before .before .before .before
 
   abbrev ml-found : Ml t i.After-known-told → Ml t i.After-parts-start
   ml-found c = ml-parts (ml-enters (ml-first c))
@@ -228,7 +228,8 @@ module _ {t : ℕ} where
 
   ml-well-formed-requires : Ml t i.Need-well-formed-requires
   ml-well-formed-requires c κs =
-      let p = c .before .before .before .before .before .before in hands-on (ml-start (p .before) .pre) (begun (ml-node p) _)
+      let then = c .before .before in let p = then .before .before .before .before in
+      hands-on (ml-start (p .before) .pre) (begun (ml-node p) _)
 
   ml-returns-3 : Ml t i.Need-returns-3
   ml-returns-3 c =
@@ -334,10 +335,10 @@ Sc t M = M (in-well-formed t) (well-formed-at t) well-formed.Post
 module _ {t : ℕ} where
   -- Its moments, the same.
   abbrev sc-start : Sc t f.After-row-at → Sc t f.Start
-  sc-start c = c .before .before .before .before .before .before
+  sc-start c = let some = c .before .before in some .before .before .before .before
 
   abbrev sc-parts : Sc t f.After-scope-within → Sc t f.After-parts-start
-  sc-parts c = c .before .before .before .before .before .before
+  sc-parts c = let many = c .before .before .before .before in many .before .before
 
   abbrev sc-enters : Sc t f.After-well-formed → Sc t f.After-scope-within
   sc-enters c = c .before .before .before .before .before
@@ -410,7 +411,8 @@ module _ {t : ℕ} where
 
   sc-infer-requires : Sc t f.Need-infer-requires
   sc-infer-requires c κs =
-      let p = c .before .before .before .before .before .before in hands-on (sc-start (p .before) .pre) (begun (sc-node p) _)
+      let then = c .before .before in let p = then .before .before .before .before in
+      hands-on (sc-start (p .before) .pre) (begun (sc-node p) _)
 
   sc-at-sm-requires : Sc t f.Need-at-sm-requires
   sc-at-sm-requires c κs =

@@ -6,8 +6,8 @@ use Rattle.typing.proofs.parts.scheme_leaf.Tie as tie
 
 returns : tie.Need-returns
 returns c =
-    let start = c .before .before .before .before .before .before in
-    at-variable (start .pre) _ (c .before .before .if1 .taken) (c .scheme-variable .ensures)
+    let then = c .before .before in
+    at-variable (then .before .before .before .before .pre) _ (then .if1 .taken) (c .scheme-variable .ensures)
 
 returns-2 : tie.Need-returns-2
 returns-2 c = in-scheme (c .before .before .before .before .pre) _ (c .if1 .left)
