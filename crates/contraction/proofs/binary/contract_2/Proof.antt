@@ -68,13 +68,6 @@ module _ (c : tie.Else5) where
   second-is : c .before .form-at2 .result ≡ formAt (drop (middle (at (operator first))) (ws (at (operator first))))
   second-is = rest-form (ws (at (operator first))) (middle (at (operator first))) (c .before .form-at2 .ensures)
 
-module _ (c : tie.After-number-at2) where
-  abbrev after-number-at : tie.After-number-at
-  after-number-at = c .before .before
-
-  abbrev second : tie.Else5
-  second = after-number-at .before .before
-
 returns : tie.Need-returns
 returns c = (tt, two-none _ _ (middle-is (c .before)) (c .if1 .taken))
 
@@ -106,10 +99,10 @@ returns-5 c =
 
 returns-6 : tie.Need-returns-6
 returns-6 c =
-    let k = c .before .before in let n = second k in
+    let k = c .before .before in let n = k .before .before .before .before in
     let f = first n in
     let o = operator f in
-    let a = after-number-at k .number-at in
+    let a = k .before .before .number-at in
     let b = k .number-at2 in (
       rw (c .sum .ensures) (sum-placed (length (ws (at o))) (scheme o) (a .result) (b .result)),
       rw (c .sum .ensures) (two-plus (known o) (o .operator .ensures) (f .before .before .if2 .left) (f .before .if3 .left) (f .if4 .left)
@@ -119,10 +112,10 @@ returns-6 c =
 
 returns-7 : tie.Need-returns-7
 returns-7 c =
-    let k = c .before .before .before in let n = second k in
+    let k = c .before .before .before in let n = k .before .before .before .before in
     let f = first n in
     let o = operator f in
-    let a = after-number-at k .number-at in
+    let a = k .before .before .number-at in
     let b = k .number-at2 in
     let g = c .numbered .ensures in
     let d = c .before .difference .ensures in (

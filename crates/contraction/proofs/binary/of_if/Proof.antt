@@ -31,8 +31,7 @@ module _ (c : tie.After-form-at) where
 
   known : ThreeParts ws (c .form-at .result) x y (start .args .end)
   known =
-      let x-is = rest-span ws 1 (after-skip .skip .ensures .1) in
-      let y-is = rest-span ws x (c .before .before .skip2 .ensures .1) in
+      let x-is = rest-span ws 1 (after-skip .skip .ensures .1) in let y-is = rest-span ws x (c .before .before .skip2 .ensures .1) in
       record {
         form-is = rest-form ws 1 (c .form-at .ensures);
         x-is = x-is;

@@ -87,8 +87,7 @@ at-list-requires c κs = let f = c .before .before .before .before .before in (s
 
 returns-5 : tie.Need-returns-5
 returns-5 c =
-    let g = c .at-list .ensures in
-    let other = c .before .before .before in
+    let g = c .at-list .ensures in let other = c .before .before .before in
     let f = other .before .before .before in (g .0, at-list _ (sym (getD-drop 1 (ws (at f)) 0 0)) (c .before .if5 .taken) (g .1))
 
 at-function-requires : tie.Need-at-function-requires
@@ -97,8 +96,7 @@ at-function-requires c κs = let f = c .before .before .before .before .before i
 returns-6 : tie.Need-returns-6
 returns-6 c =
     let g = c .at-function .ensures in
-    let other = c .before .before .before in
-    let f = other .before .before .before in
+    let other = c .before .before .before in let f = other .before .before .before in
     let e = sym (getD-drop 1 (ws (at f)) 0 0) in
     (g .0, at-function _ e (other .if3 .left) (c .before .before .if4 .left) (c .before .if5 .left) (g .1))
 

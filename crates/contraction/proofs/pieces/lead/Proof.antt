@@ -8,15 +8,13 @@ use Rattle.contraction.proofs.pieces.lead.Tie as tie
 
 copy-requires : tie.Need-copy-requires
 copy-requires c κs =
-    let after-put = c .before .before .before .before in
-    let s = after-put .before .before .before .before in
+    let after-put = c .before .before .before .before in let s = after-put .before .before .before .before in
     let l = stretch-length (s .args .words .now) (s .args .a) (s .args .e) in
     omega (arith, l, after-put .put .ensures .place, s .pre .0)
 
 returns : tie.Need-returns
 returns c =
-    let after-copy = c .before .before in
-    let after-put = after-copy .before .before .before .before .before in
+    let after-copy = c .before .before in let after-put = after-copy .before .before .before .before .before in
     let s = after-put .before .before .before .before in
     let p = after-put .put .ensures in
     let q = after-copy .copy .ensures in

@@ -38,15 +38,6 @@ module _ (c : tie.After-piece2) where
 mul-copy : tie.Need-mul-copy
 mul-copy c = let p = part (c .before) in record { fits = omega (arith, p, near (known (c .before)) .few) }
 
-sub-copy : tie.Need-sub-copy
-sub-copy c = let p = part (c .before) in omega (arith, p)
-
-part-copy-start : tie.Need-part-copy-start
-part-copy-start c = let p = part (c .before) in omega (arith, p)
-
-part-copy-end : tie.Need-part-copy-end
-part-copy-end c = let p = part (c .before) in omega (arith, p)
-
 copy-requires : tie.Need-copy-requires
 copy-requires c κs =
     let k = c .before .before .before in
@@ -59,24 +50,19 @@ lead-requires c κs =
     (record { few = near s .few; place = omega (arith, near s .place) }, placed s (c .before .before .piece3 .given .1))
 
 lead-two-requires : tie.Need-lead-two-requires
-lead-two-requires c κs =
-    let s = c .before .before .before .before in (near s, placed s (c .before .before .piece4 .given .1))
+lead-two-requires c κs = let s = c .before .before .before .before in (near s, placed s (c .before .before .piece4 .given .1))
 
 put-cons-requires : tie.Need-put-cons-requires
-put-cons-requires c κs =
-    let s = c .before .before .before .before in (near s, placed s (c .before .before .piece5 .given .1))
+put-cons-requires c κs = let s = c .before .before .before .before in (near s, placed s (c .before .before .piece5 .given .1))
 
 into-ml-requires : tie.Need-into-ml-requires
-into-ml-requires c κs =
-    let s = c .before .before .before .before in (near s, placed s (c .before .before .piece6 .given .1))
+into-ml-requires c κs = let s = c .before .before .before .before in (near s, placed s (c .before .before .piece6 .given .1))
 
 into-scheme-requires : tie.Need-into-scheme-requires
-into-scheme-requires c κs =
-    let s = c .before .before .before .before in (near s, placed s (c .before .before .piece7 .given .1))
+into-scheme-requires c κs = let s = c .before .before .before .before in (near s, placed s (c .before .before .piece7 .given .1))
 
 substituted-requires : tie.Need-substituted-requires
-substituted-requires c κs =
-    let s = c .before .before .before .before in (start s .pre .0, placed s (c .before .before .piece8 .given .1))
+substituted-requires c κs = let s = c .before .before .before .before in (start s .pre .0, placed s (c .before .before .piece8 .given .1))
 
 returns : tie.Need-returns
 returns c =
@@ -87,8 +73,7 @@ returns c =
 
 returns-2 : tie.Need-returns-2
 returns-2 c =
-    let after-copy = c .before .before in
-    let w = after-copy .copy .ensures in
+    let after-copy = c .before .before in let w = after-copy .copy .ensures in
     let k = after-copy .before .before .before .before in
     let r = k .piece2 .given in
     let l = stretch-length (start (known k) .args .words .now) (r .0 .0) (r .0 .1 .0) in
@@ -132,9 +117,9 @@ write-spec =
     put-number-requires
     (λ c. search needs)
     mul-copy
-    sub-copy
-    part-copy-start
-    part-copy-end
+    (λ c. omega (arith, part (c .before)))
+    (λ c. omega (arith, part (c .before)))
+    (λ c. omega (arith, part (c .before)))
     copy-requires
     (λ c. search needs)
     lead-requires

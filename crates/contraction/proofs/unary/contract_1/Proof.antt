@@ -30,9 +30,6 @@ module _ (c : tie.After-operator) where
 returns : tie.Need-returns
 returns c = (tt, one-none _ _ (c .before .before .pre .end-is) (c .if1 .taken))
 
-of-fix-requires : tie.Need-of-fix-requires
-of-fix-requires c κs = known (c .before)
-
 returns-2 : tie.Need-returns-2
 returns-2 c =
     let o = c .before .before in (c .of-fix .ensures .0, one-fix (known o) (o .operator .ensures) (c .before .if2 .taken) (c .of-fix .ensures .1))
@@ -49,9 +46,6 @@ returns-4 c =
     let g = c .answer .ensures in
     let o = c .before .before .before .before in
     (record { kind = omega arith; small = omega (arith, g .1) }, rw (g .0) (one-test (known o) (o .operator .ensures) (c .before .if4 .taken)))
-
-of-list-requires : tie.Need-of-list-requires
-of-list-requires c κs = known (c .before .before .before)
 
 returns-5 : tie.Need-returns-5
 returns-5 c =
@@ -71,11 +65,11 @@ contract-1-spec =
     (λ c κs. search needs)
     (λ c. search needs)
     (λ c κs. search needs)
-    of-fix-requires
+    (λ c κs. known (c .before))
     returns-2
     (λ c κs. search needs)
     returns-3
     (λ c κs. search needs)
     returns-4
-    of-list-requires
+    (λ c κs. known (c .before .before .before))
     returns-5)
