@@ -228,8 +228,7 @@ module _ {t : ℕ} where
 
   ml-well-formed-requires : Ml t i.Need-well-formed-requires
   ml-well-formed-requires c κs =
-      let then = c .before .before in let p = then .before .before .before .before in
-      hands-on (ml-start (p .before) .pre) (begun (ml-node p) _)
+      let then = c .before .before in let p = then .before .before .before .before in hands-on (ml-start (p .before) .pre) (begun (ml-node p) _)
 
   ml-returns-3 : Ml t i.Need-returns-3
   ml-returns-3 c =
@@ -411,8 +410,7 @@ module _ {t : ℕ} where
 
   sc-infer-requires : Sc t f.Need-infer-requires
   sc-infer-requires c κs =
-      let then = c .before .before in let p = then .before .before .before .before in
-      hands-on (sc-start (p .before) .pre) (begun (sc-node p) _)
+      let then = c .before .before in let p = then .before .before .before .before in hands-on (sc-start (p .before) .pre) (begun (sc-node p) _)
 
   sc-at-sm-requires : Sc t f.Need-at-sm-requires
   sc-at-sm-requires c κs =

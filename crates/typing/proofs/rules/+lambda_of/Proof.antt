@@ -42,8 +42,7 @@ module _ (t : ℕ) where
 
   cast-out : lts.Need-cast-out (calls t) (asked t) lambda-of.Post
   cast-out c =
-      let at-else1 = c .before .before .before in
-      let start = at-else1 .before .before .before in
+      let at-else1 = c .before .before .before in let start = at-else1 .before .before .before in
       omega (arith, c .shared-slice-known4 .given (start .args .scope))
 
   outer-one : lts.Need-returns-5 (calls t) (asked t) lambda-of.Post
