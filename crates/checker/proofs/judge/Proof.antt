@@ -11,11 +11,11 @@ abbrev start : tie.After-ordered → tie.Start
 start c = c .before .before .before .before
 
 module _ (c : tie.After-scoped) where
-  abbrev told : tie.After-enum-told
-  told = c .before .before
+  abbrev after-told : tie.After-enum-told
+  after-told = c .before .before
 
   abbrev after-ordered : tie.After-ordered
-  after-ordered = told .before .before
+  after-ordered = after-told .before .before
 
 returns : tie.Need-returns
 returns c =
@@ -26,7 +26,7 @@ returns c =
 returns-2 : tie.Need-returns-2
 returns-2 c =
     let k = c .before .before .before in let r = after-ordered k in let s = start r in
-    let o = told k .enum-told .given in
+    let o = after-told k .enum-told .given in
     let g = c .before .closed .given in
     not-closed (s .args .words .now) (s .args .n) (s .pre .within) (o .0 .0) (g .0 .0)
     (ordered-is (s .args .words .now) (s .args .n) (s .pre .within) _ (ap walked (sym (o .1)) ∙ r .ordered .ensures))
@@ -35,7 +35,7 @@ returns-2 c =
 returns-3 : tie.Need-returns-3
 returns-3 c =
     let k = c .before .before .before in let r = after-ordered k in let s = start r in
-    let o = told k .enum-told .given in
+    let o = after-told k .enum-told .given in
     let g = c .before .enum-told2 .given in
     decided (s .args .words .now) (s .args .n) (s .pre .within) (o .0 .0) (g .0 .0) (c .typed .result)
     (ordered-is (s .args .words .now) (s .args .n) (s .pre .within) _ (ap walked (sym (o .1)) ∙ r .ordered .ensures))

@@ -19,8 +19,8 @@ module _ (c : tie.After-wide3) where
   small : (i : ℕ) → getD ws i 0 < 2 ^ 32
   small i = omega (arith, after-wide .before .shared-slice-known2 .given i)
 
-abbrev wide : tie.Else3 → tie.After-wide3
-wide c = c .before .before .before
+abbrev after-wide3 : tie.Else3 → tie.After-wide3
+after-wide3 c = c .before .before .before
 
 returns : tie.Need-returns
 returns c = header-refused (c .before .before .args .words .now) (λ f. omega arith)
@@ -32,23 +32,23 @@ returns-3 : tie.Need-returns-3
 returns-3 c = header-refused (ws (c .before .before .before)) (λ f. omega arith)
 
 returns-4 : tie.Need-returns-4
-returns-4 c = header-refused (ws (wide (c .before))) (λ f. omega arith)
+returns-4 c = header-refused (ws (after-wide3 (c .before))) (λ f. omega arith)
 
 add-if5 : tie.Need-add-if5
-add-if5 c = omega (arith, small (wide (c .before)) 0)
+add-if5 c = omega (arith, small (after-wide3 (c .before)) 0)
 
 returns-5 : tie.Need-returns-5
-returns-5 c = header-refused (ws (wide (c .before .before))) (λ f. omega arith)
+returns-5 c = header-refused (ws (after-wide3 (c .before .before))) (λ f. omega arith)
 
 add-if6 : tie.Need-add-if6
-add-if6 c = let w = wide (c .before .before) in omega (arith, small w 2, small w 3)
+add-if6 c = let w = after-wide3 (c .before .before) in omega (arith, small w 2, small w 3)
 
 returns-6 : tie.Need-returns-6
-returns-6 c = header-refused (ws (wide (c .before .before .before))) (λ f. omega arith)
+returns-6 c = header-refused (ws (after-wide3 (c .before .before .before))) (λ f. omega arith)
 
 returns-7 : tie.Need-returns-7
 returns-7 c =
-    let w = wide (c .before .before .before) in
+    let w = after-wide3 (c .before .before .before) in
     rw (after-wide w .wide .ensures)
     (header-passed (ws w)
     (record { types = omega arith; types-from = omega arith; terms = omega arith; terms-from = omega arith; ends = omega arith }))

@@ -18,9 +18,8 @@ module _ (c : tie.After-report) where
 run-term-requires : tie.Need-run-term-requires
 unfolding kinds rowOf
 run-term-requires c κs =
-    let after-capacity = c .before .before .before in
-    let s = after-capacity .before .before .before in
-    let e = after-capacity .capacity .ensures in
+    let cap = c .before .before .before in let s = cap .before .before .before in
+    let e = cap .capacity .ensures in
     (refl, record { in-first = omega (arith, e); in-second = omega (arith, e); few = omega (arith, e) }, omega (arith, e, s .pre))
 
 settle-requires : tie.Need-settle-requires

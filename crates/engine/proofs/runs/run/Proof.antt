@@ -41,12 +41,12 @@ part-begin-start c = omega (arith, term-within (known (c .before .before)))
 part-begin-end : tie.Need-part-begin-end
 part-begin-end c = omega (arith, term-within (known (c .before .before)))
 
-abbrev accepted : tie.After-begin-arg3 → tie.After-type-count
-accepted c = c .before .before .before .before .before
+abbrev after-count : tie.After-begin-arg3 → tie.After-type-count
+after-count c = c .before .before .before .before .before
 
 begin-requires : tie.Need-begin-requires
 begin-requires c κs =
-    let k = accepted c in
+    let k = after-count c in
     let from = 4 + k .type-count .given .0 .0 in
     let w = term-within (known k) in
     omega (arith, w, length-take-le (k .type-count .given .0 .1 .0 - from) (drop from (all k)) (omega (arith, w, length-drop from (all k))))
@@ -63,7 +63,7 @@ returns c =
 returns-2 : tie.Need-returns-2
 returns-2 c =
     let after-begin = c .before .before .before .before in
-    let k = accepted (after-begin .before) in
+    let k = after-count (after-begin .before) in
     run-begun (start k .args .file .now) (start k .args .limit) (known k) (after-begin .begin .ensures)
 
 pub run-spec : {M : Type 1} → statement M
