@@ -29,20 +29,20 @@ put-number-requires c κs =
 
 -- A part of the words.
 module _ (c : tie.After-piece2) where
-  abbrev known : tie.After-slice-known
-  known = c .before .before
+  abbrev after-known : tie.After-slice-known
+  after-known = c .before .before
 
-  part : PartIn (length (start known .args .words .now)) (c .piece2 .given .0 .0) (c .piece2 .given .0 .1 .0)
-  part = placed known (c .piece2 .given .1)
+  part : PartIn (length (start after-known .args .words .now)) (c .piece2 .given .0 .0) (c .piece2 .given .0 .1 .0)
+  part = placed after-known (c .piece2 .given .1)
 
 mul-copy : tie.Need-mul-copy
-mul-copy c = let p = part (c .before) in record { fits = omega (arith, p, near (known (c .before)) .few) }
+mul-copy c = let p = part (c .before) in record { fits = omega (arith, p, near (after-known (c .before)) .few) }
 
 copy-requires : tie.Need-copy-requires
 copy-requires c κs =
     let k = c .before .before .before in
     let r = k .piece2 .given in
-    omega (arith, stretch-length (start (known k) .args .words .now) (r .0 .0) (r .0 .1 .0), start (known k) .pre .0)
+    omega (arith, stretch-length (start (after-known k) .args .words .now) (r .0 .0) (r .0 .1 .0), start (after-known k) .pre .0)
 
 lead-requires : tie.Need-lead-requires
 lead-requires c κs =
@@ -76,8 +76,8 @@ returns-2 c =
     let after-copy = c .before .before in let w = after-copy .copy .ensures in
     let k = after-copy .before .before .before .before in
     let r = k .piece2 .given in
-    let l = stretch-length (start (known k) .args .words .now) (r .0 .0) (r .0 .1 .0) in
-    (known-piece (r .1) (words-write (λ l u g. g) w), (omega (arith, w .place), omega (arith, w .place, l, near (known k) .few)))
+    let l = stretch-length (start (after-known k) .args .words .now) (r .0 .0) (r .0 .1 .0) in
+    (known-piece (r .1) (words-write (λ l u g. g) w), (omega (arith, w .place), omega (arith, w .place, l, near (after-known k) .few)))
 
 returns-3 : tie.Need-returns-3
 returns-3 c =
