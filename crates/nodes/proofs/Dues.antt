@@ -31,9 +31,11 @@ use-is : (s : Sort) (k : ℕ) → use-of (rowIn (table s) k) ≡ use-in s (rowOf
 unfolding rowOf sortsOf
 use-is type = every-kind (λ k. use-of (rowIn (table type) k)) (λ k. use-in type (rowOf k)) refl (λ k h. rw (past k h, not-in (table type) tt k h))
 use-is (term ml) =
-    every-kind (λ k. use-of (rowIn (table (term ml)) k)) (λ k. use-in (term ml) (rowOf k)) refl (λ k h. rw (past k h, not-in (table (term ml)) tt k h))
+    every-kind (λ k. use-of (rowIn (table (term ml)) k)) (λ k. use-in (term ml) (rowOf k)) refl
+    (λ k h. rw (past k h, not-in (table (term ml)) tt k h))
 use-is (term sc) =
-    every-kind (λ k. use-of (rowIn (table (term sc)) k)) (λ k. use-in (term sc) (rowOf k)) refl (λ k h. rw (past k h, not-in (table (term sc)) tt k h))
+    every-kind (λ k. use-of (rowIn (table (term sc)) k)) (λ k. use-in (term sc) (rowOf k)) refl
+    (λ k h. rw (past k h, not-in (table (term sc)) tt k h))
 
 -- A due word, by the code's row.
 module _ {B : Type 0} (x : B) (f : List Sort → B) (o : ℕ) where
