@@ -77,7 +77,7 @@ pub fn amiss(scheme: bool, code: u32) -> Became
 }
 
 // A number of Scheme, or of ML.
-pub fn numbered(scheme: bool, n: u32) -> Became
+pub fn number_in(scheme: bool, n: u32) -> Became
     ensures { λ r. ⌜ r ≡ numberIn scheme n ⌝ }
 {
     if scheme {

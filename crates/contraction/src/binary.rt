@@ -3,7 +3,7 @@
 use crate::became::Became;
 use crate::became::Piece;
 use crate::became::amiss;
-use crate::became::numbered;
+use crate::became::number_in;
 use crate::forms::form_at;
 use crate::numbers::number_at;
 use nodes::kinds::Kinds;
@@ -53,7 +53,7 @@ fn sum(scheme: bool, a: u32, b: u32) -> Became
     ensures { λ r. ⌜ r ≡ sumIn scheme a b ⌝ }
 {
     if a + b <= crate::codes::LARGEST {
-        return numbered(scheme, a + b);
+        return number_in(scheme, a + b);
     }
     if scheme {
         return amiss(scheme, crate::codes::OVER);
@@ -140,7 +140,7 @@ pub fn contract_2(table: &Kinds, words: &[u32], end: usize) -> Became
     if op == ADD {
         return sum(scheme, a, b);
     }
-    numbered(scheme, difference(a, b))
+    number_in(scheme, difference(a, b))
 }
 
 // if0. The node's words end at `end`.

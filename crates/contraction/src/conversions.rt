@@ -2,7 +2,7 @@
 
 use crate::became::Became;
 use crate::became::Piece;
-use crate::became::numbered;
+use crate::became::number_in;
 use crate::forms::form_at;
 use crate::numbers::number_at;
 use nodes::kinds::Kinds;
@@ -40,7 +40,7 @@ fn at_number(words: &[u32], scheme: bool, form: u64, value: usize, end: usize) -
     if form != crate::forms::NUMBER {
         return misfit(scheme, crate::codes::NO_NUMBER, value);
     }
-    numbered(scheme, number_at(&words[value..]))
+    number_in(scheme, number_at(&words[value..]))
 }
 
 // At the type L: nothing is opened on its way into ML.

@@ -27,7 +27,7 @@ use Rattle.engine.specs.declared.ends.Choice.the-variants.{Stop, Go}
 use Rattle.engine.specs.declared.reductions.Halt.{Halt}
 use Rattle.calculus.specs.File.{padded}
 use Rattle.engine.specs.Buffered.{Room, held, Settled}
-use Rattle.engine.specs.Decided.{chosen}
+use Rattle.engine.specs.Decided.{decide}
 use Rattle.engine.specs.Ran.{Good, Advanced, Ran, Reduced}
 use Rattle.engine.specs.Results.{lineOf, countsOf, told}
 use Rattle.engine.proofs.Bridge.{moved}
@@ -107,7 +107,7 @@ module _ {first₀ second₀ first second first′ second′ : List ℕ} {count 
     outcome : Moved (step (a .term)) (held (not front) first second) r (held (not front) first′ second′)
     outcome = moved (s .stepped) (a .term) (a .words-are) (a .standing)
 
-    at-next : (y : Change) (more : Counts) → chosen r n cap made limit ≡ Go y more
+    at-next : (y : Change) (more : Counts) → decide r n cap made limit ≡ Go y more
         → At whole limit cap more (y .size) (y .back) (held (not front) first′ second′)
     at-next y more q =
         let g = goes (a .term) n cap limit made size-of (i .left) (limit - made .steps) (step (a .term)) _ _ r y more refl outcome q in
@@ -120,11 +120,11 @@ module _ {first₀ second₀ first second first′ second′ : List ℕ} {count 
           words-are = ap (take (y .size)) (g .put ∙ sets-eq (words u) (held (not front) first second) 0 (omega (arith, other-long, f .1, l)))
               ∙ take-at (words u) (drop (0 + length (words u)) (held (not front) first second)) (y .size) (sym l);
           same = a .same ∙ run-by (limit - made .steps) cap (countsOf made) (a .term) ∙ g .same
-              ∙ ap (λ (c : Counts). spec.run (limit - c .steps) cap (countsOf c) u) (sym (g .counted));
+              ∙ ap (λ (c : Counts). spec.run (limit - c .steps) cap (countsOf c) u) (sym (g .counted-is));
           standing = g .standing;
         }
 
-    at-end : (x : Report) → chosen r n cap made limit ≡ Stop x
+    at-end : (x : Report) → decide r n cap made limit ≡ Stop x
         → (told x ≡ lineOf whole) × (take (x .left) (held front first′ second′) ≡ whole .left)
     at-end x q =
         let f = stops (a .term) n cap limit made size-of (i .left) (limit - made .steps) (step (a .term)) _ _ r x refl outcome q in
@@ -136,7 +136,7 @@ module _ {first₀ second₀ first second first′ second′ : List ℕ} {count 
               ∙ f .left-is ∙ ap (λ (y : spec.Result). y .left) w,
         )
 
-  pub running-next : (y : Change) (more : Counts) → chosen r n cap made limit ≡ Go y more → length first′ ≡ length first
+  pub running-next : (y : Change) (more : Counts) → decide r n cap made limit ≡ Go y more → length first′ ≡ length first
       → length second′ ≡ length second → Running first₀ second₀ count cap limit first′ second′ (y .size) more (not front) (y .back)
   running-next y more q p o =
       let f = go-fits n cap limit made (i .left) r y more q in
@@ -149,7 +149,7 @@ module _ {first₀ second₀ first second first′ second′ : List ℕ} {count 
         few = subst Few (f .0) (s .few);
       }
 
-  pub running-end : (x : Report) → chosen r n cap made limit ≡ Stop x
+  pub running-end : (x : Report) → decide r n cap made limit ≡ Stop x
       → Ran limit cap (take count first₀) (record { report = x; front = front }) first′ second′
   running-end x q =
       record {

@@ -23,7 +23,7 @@ use Rattle.engine.specs.declared.ends.End.{End}
 use Rattle.engine.specs.declared.ends.End.the-variants as ends
 use Rattle.engine.specs.declared.ends.Report.{Report}
 use Rattle.engine.specs.declared.ends.Choice.the-variants.{Stop, Go}
-use Rattle.engine.specs.Decided.{stopped, oneMore, chosen}
+use Rattle.engine.specs.Decided.{stop, counted, decide}
 use Rattle.engine.specs.Results.{lineOf, endOf, countsOf, told}
 
 -- A move is that of an outcome; the next term is put into the buffer b, which is b′ then, and the next walk may begin where it is said to.
@@ -45,8 +45,8 @@ pub record Going (r : spec.Result) (o : Outcome ml) (b b′ : List ℕ) (cap lim
   pub outcome-is : o ≡ next term
   pub size-is : x .size ≡ size term
   pub put : b′ ≡ sets b 0 (words term)
-  pub counted : more ≡ oneMore made
-  pub same : r ≡ spec.run (limit - (made .steps + 1)) cap (countsOf (oneMore made)) term
+  pub counted-is : more ≡ counted made
+  pub same : r ≡ spec.run (limit - (made .steps + 1)) cap (countsOf (counted made)) term
   pub standing : Standing term (x .back .place) (x .back .due)
 
 no-both : {y : Change} {more : Counts} {x : Report} → Go y more ≡ Stop x → ⊥
@@ -64,33 +64,33 @@ run-by (suc k) cap made e = refl
 
 module _ (e : Term ml) (n cap limit : ℕ) (made : Counts) (size-is : n ≡ length (words e)) (le : made .steps ≤ limit) where
   -- a report that leaves the term
-  leaves : (x : End) (w : ℕ) (y : Report) → stopped x 0 made n w ≡ Stop y → Finished (spec.ended (endOf x) 0 (countsOf made) (words e) w) (words e) y
+  leaves : (x : End) (w : ℕ) (y : Report) → stop x 0 made n w ≡ Stop y → Finished (spec.ended (endOf x) 0 (countsOf made) (words e) w) (words e) y
   leaves x w y q =
       let z : record { end = x; code = 0; made = made; left = n; wanted = w } ≡ y = cc in
       subst (Finished (spec.ended (endOf x) 0 (countsOf made) (words e) w) (words e)) z
       (record { told-is = rw size-is; left-is = take-all n (words e) (omega arith); short = omega arith })
 
-  errs : (c : ℕ) (y : Report) → stopped ends.Error c (oneMore made) 0 0 ≡ Stop y
+  errs : (c : ℕ) (y : Report) → stop ends.Error c (counted made) 0 0 ≡ Stop y
       → Finished (spec.ended spec.error c (spec.counted (countsOf made)) [] 0) (words e) y
   errs c y q =
-      let z : record { end = ends.Error; code = c; made = oneMore made; left = 0; wanted = 0 } ≡ y = cc in
+      let z : record { end = ends.Error; code = c; made = counted made; left = 0; wanted = 0 } ≡ y = cc in
       subst (Finished (spec.ended spec.error c (spec.counted (countsOf made)) [] 0) (words e)) z
       (record { told-is = rw (add-one (made .steps)); left-is = refl; short = omega arith })
 
   fills : (b : Bool) (u : Term ml) (g : Term ml → spec.Result) (x : Change) (y : Report)
-      → cond b (Go x (oneMore made)) (stopped ends.Full 0 made n (size u))
+      → cond b (Go x (counted made)) (stop ends.Full 0 made n (size u))
       ≡ Stop y → Finished (spec.ifFits b (countsOf made) e u g) (words e) y
   fills true u g x y q = absurd (no-both q)
   fills false u g x y q = leaves ends.Full (size u) y q
 
   fills-by : (u : Term ml) (g : Term ml → spec.Result) (x : Change) (k : ℕ) (y : Report) → k ≡ size u
-      → cond (leb k cap) (Go x (oneMore made)) (stopped ends.Full 0 made n k) ≡ Stop y
+      → cond (leb k cap) (Go x (counted made)) (stop ends.Full 0 made n k) ≡ Stop y
       → Finished (spec.ifFits (leb (size u) cap) (countsOf made) e u g) (words e) y
   fills-by u g x k y h q = fills (leb (size u) cap) u g x y (rw h at q)
 
   -- the run ends here
   pub stops : (k : ℕ) (o : Outcome ml) (b b′ : List ℕ) (r : Move) (x : Report) → k ≡ limit - made .steps → Moved o b r b′
-      → chosen r n cap made limit ≡ Stop x
+      → decide r n cap made limit ≡ Stop x
       → Finished (by-outcome k cap (countsOf made) e o) (words e) x
   stops zero value b b′ r x i h q = leaves ends.Value 0 x (rw h at q)
   stops (suc k) value b b′ r x i h q = leaves ends.Value 0 x (rw h at q)
@@ -104,19 +104,19 @@ module _ (e : Term ml) (n cap limit : ℕ) (made : Counts) (size-is : n ≡ leng
   stops (suc k) stuck b b′ r x i h q = leaves ends.Spent 0 x (rw h at q)
 
   fits : (b : Bool) (u : Term ml) (g : Term ml → spec.Result) (x y : Change) (more : Counts)
-      → cond b (Go x (oneMore made)) (stopped ends.Full 0 made n (size u)) ≡ Go y more
-      → (spec.ifFits b (countsOf made) e u g ≡ g u) × (x ≡ y) × (more ≡ oneMore made)
+      → cond b (Go x (counted made)) (stop ends.Full 0 made n (size u)) ≡ Go y more
+      → (spec.ifFits b (countsOf made) e u g ≡ g u) × (x ≡ y) × (more ≡ counted made)
   fits true u g x y more q = (refl, cc, cc)
   fits false u g x y more q = absurd (no-both (sym q))
 
   fits-by : (u : Term ml) (g : Term ml → spec.Result) (x y : Change) (k : ℕ) (more : Counts) → k ≡ size u
-      → cond (leb k cap) (Go x (oneMore made)) (stopped ends.Full 0 made n k) ≡ Go y more
-      → (spec.ifFits (leb (size u) cap) (countsOf made) e u g ≡ g u) × (x ≡ y) × (more ≡ oneMore made)
+      → cond (leb k cap) (Go x (counted made)) (stop ends.Full 0 made n k) ≡ Go y more
+      → (spec.ifFits (leb (size u) cap) (countsOf made) e u g ≡ g u) × (x ≡ y) × (more ≡ counted made)
   fits-by u g x y k more h q = fits (leb (size u) cap) u g x y more (rw h at q)
 
   -- the run goes on
   pub goes : (k : ℕ) (o : Outcome ml) (b b′ : List ℕ) (r : Move) (y : Change) (more : Counts) → k ≡ limit - made .steps → Moved o b r b′
-      → chosen r n cap made limit ≡ Go y more → Going (by-outcome k cap (countsOf made) e o) o b b′ cap limit made y more
+      → decide r n cap made limit ≡ Go y more → Going (by-outcome k cap (countsOf made) e o) o b b′ cap limit made y more
   goes zero value b b′ r y more i h q = absurd (no-both (sym (rw h at q)))
   goes (suc k) value b b′ r y more i h q = absurd (no-both (sym (rw h at q)))
   goes zero (raised c) b b′ r y more i h q = absurd (no-both (sym (rw (h, eq-eqb (made .steps) limit (omega arith)) at q)))
@@ -131,7 +131,7 @@ module _ (e : Term ml) (n cap limit : ℕ) (made : Counts) (size-is : n ≡ leng
         outcome-is = refl;
         size-is = ap (λ (x : Change). x .size) (sym (f .1)) ∙ h .2;
         put = h .3;
-        counted = f .2;
+        counted-is = f .2;
         same = f .0 ∙ ap (λ (i : ℕ). spec.run i cap (spec.counted (countsOf made)) u) d ∙ rw (add-one (made .steps));
         standing = subst (λ (x : Change). Standing u (x .back .place) (x .back .due)) (f .1) (h .4);
       }
@@ -144,22 +144,22 @@ module _ (n cap limit : ℕ) (made : Counts) (le : made .steps ≤ limit) where
   abbrev Made : Move → Change → Counts → Type 0
   Made r y more = (r ≡ m.Next y) × (y .size ≤ cap) × (made .steps < limit) × (more .steps ≡ made .steps + 1)
 
-  pub go-fits : (r : Move) (y : Change) (more : Counts) → chosen r n cap made limit ≡ Go y more → Made r y more
+  pub go-fits : (r : Move) (y : Change) (more : Counts) → decide r n cap made limit ≡ Go y more → Made r y more
   go-fits m.Value y more q = absurd (no-both (sym q))
   go-fits (m.Raised c) y more q = by (eqb (made .steps) limit) q
     where
-      by : (b : Bool) → cond b (stopped ends.Spent 0 made n 0) (stopped ends.Error c (oneMore made) 0 0) ≡ Go y more → Made (m.Raised c) y more
+      by : (b : Bool) → cond b (stop ends.Spent 0 made n 0) (stop ends.Error c (counted made) 0 0) ≡ Go y more → Made (m.Raised c) y more
       by true g = absurd (no-both (sym g))
       by false g = absurd (no-both (sym g))
   go-fits (m.Next x) y more q = by (eqb (made .steps) limit) refl (leb (x .size) cap) refl q
     where
       by : (b : Bool) → eqb (made .steps) limit ≡ b → (d : Bool) → leb (x .size) cap ≡ d
-          → cond b (stopped ends.Spent 0 made n 0) (cond d (Go x (oneMore made)) (stopped ends.Full 0 made n (x .size))) ≡ Go y more
+          → cond b (stop ends.Spent 0 made n 0) (cond d (Go x (counted made)) (stop ends.Full 0 made n (x .size))) ≡ Go y more
           → Made (m.Next x) y more
       by true e d f g = absurd (no-both (sym g))
       by false e true f g =
           let i : x ≡ y = cc in
-          let k : oneMore made ≡ more = cc in
+          let k : counted made ≡ more = cc in
           let l = eqb-false (made .steps) limit e in (
             ap m.Next i,
             subst (λ (z : Change). z .size ≤ cap) i (leb-true (x .size) cap f),
@@ -172,16 +172,16 @@ module _ (n cap limit : ℕ) (made : Counts) (le : made .steps ≤ limit) where
   left-by : (x y : Report) → Stop x ≡ Stop y → x .left ≤ n → y .left ≤ n
   left-by x y q h = let z : x ≡ y = cc in subst (λ (r : Report). r .left ≤ n) z h
 
-  pub end-short : (r : Move) (y : Report) → chosen r n cap made limit ≡ Stop y → y .left ≤ n
+  pub end-short : (r : Move) (y : Report) → decide r n cap made limit ≡ Stop y → y .left ≤ n
   end-short m.Value y q = left-by _ y q (omega arith)
   end-short (m.Raised c) y q = by (eqb (made .steps) limit) q
     where
-      by : (b : Bool) → cond b (stopped ends.Spent 0 made n 0) (stopped ends.Error c (oneMore made) 0 0) ≡ Stop y → y .left ≤ n
+      by : (b : Bool) → cond b (stop ends.Spent 0 made n 0) (stop ends.Error c (counted made) 0 0) ≡ Stop y → y .left ≤ n
       by true g = left-by _ y g (omega arith)
       by false g = left-by _ y g (omega arith)
   end-short (m.Next x) y q = by (eqb (made .steps) limit) (leb (x .size) cap) q
     where
-      by : (b d : Bool) → cond b (stopped ends.Spent 0 made n 0) (cond d (Go x (oneMore made)) (stopped ends.Full 0 made n (x .size)))
+      by : (b d : Bool) → cond b (stop ends.Spent 0 made n 0) (cond d (Go x (counted made)) (stop ends.Full 0 made n (x .size)))
           ≡ Stop y → y .left ≤ n
       by true d g = left-by _ y g (omega arith)
       by false true g = absurd (no-both g)

@@ -11,26 +11,26 @@ use Rattle.engine.specs.declared.ends.End.the-variants as e
 use Rattle.engine.specs.declared.ends.Choice.{Choice}
 use Rattle.engine.specs.declared.ends.Choice.the-variants.{Stop, Go}
 
-abbrev pub stopped : End → ℕ → Counts → ℕ → ℕ → Choice
-stopped x code made n wanted = Stop (record { end = x; code = code; made = made; left = n; wanted = wanted })
+abbrev pub stop : End → ℕ → Counts → ℕ → ℕ → Choice
+stop x code made n wanted = Stop (record { end = x; code = code; made = made; left = n; wanted = wanted })
 
 -- One step more.
-abbrev pub oneMore : Counts → Counts
-oneMore made = record { steps = made .steps + 1 }
+abbrev pub counted : Counts → Counts
+counted made = record { steps = made .steps + 1 }
 
 -- "steps made equal to the limit, as spent; a wrong whose turn it is, as error".
-abbrev pub raising : ℕ → ℕ → Counts → ℕ → Choice
-raising c n made limit = cond (eqb (made .steps) limit) (stopped e.Spent 0 made n 0) (stopped e.Error c (oneMore made) 0 0)
+abbrev pub raise : ℕ → ℕ → Counts → ℕ → Choice
+raise c n made limit = cond (eqb (made .steps) limit) (stop e.Spent 0 made n 0) (stop e.Error c (counted made) 0 0)
 
 -- "steps made equal to the limit, as spent; a next term of more words than capacity, as full; else the step is made".
-abbrev pub going : Change → ℕ → ℕ → Counts → ℕ → Choice
-going x n cap made limit =
-    cond (eqb (made .steps) limit) (stopped e.Spent 0 made n 0)
-    (cond (leb (x .size) cap) (Go x (oneMore made)) (stopped e.Full 0 made n (x .size)))
+abbrev pub go : Change → ℕ → ℕ → Counts → ℕ → Choice
+go x n cap made limit =
+    cond (eqb (made .steps) limit) (stop e.Spent 0 made n 0)
+    (cond (leb (x .size) cap) (Go x (counted made)) (stop e.Full 0 made n (x .size)))
 
 -- "a value ends as value", and the rest in its order. No accepted recipe comes to a term that is stuck.
-abbrev pub chosen : Move → ℕ → ℕ → Counts → ℕ → Choice
-chosen m.Value n cap made limit = stopped e.Value 0 made n 0
-chosen (m.Raised c) n cap made limit = raising c n made limit
-chosen (m.Next x) n cap made limit = going x n cap made limit
-chosen m.Stuck n cap made limit = stopped e.Spent 0 made n 0
+abbrev pub decide : Move → ℕ → ℕ → Counts → ℕ → Choice
+decide m.Value n cap made limit = stop e.Value 0 made n 0
+decide (m.Raised c) n cap made limit = raise c n made limit
+decide (m.Next x) n cap made limit = go x n cap made limit
+decide m.Stuck n cap made limit = stop e.Spent 0 made n 0

@@ -6,7 +6,7 @@ ghost use mathlib.Core.Path.{_≡_};
 ghost use Prim.Native.Nat.{_≤_, _<_};
 ghost use Rattle.calculus.specs.Run.{capacity};
 ghost use Rattle.engine.specs.Results.{endNumber};
-ghost use Rattle.engine.specs.Decided.{stopped, oneMore, raising, going, chosen};
+ghost use Rattle.engine.specs.Decided.{stop, counted, raise, go, decide};
 
 pub enum End {
     Value,
@@ -50,7 +50,7 @@ pub enum Choice {
 // One step more, where the limit is not reached.
 fn counted(made: Counts, limit: u32) -> Counts
     requires { ⌜ made .steps < limit ⌝ }
-    ensures { λ r. ⌜ r ≡ oneMore made ⌝ }
+    ensures { λ r. ⌜ r ≡ counted made ⌝ }
 {
     let more = made.steps + 1;
     Counts { steps: more }
@@ -58,7 +58,7 @@ fn counted(made: Counts, limit: u32) -> Counts
 
 // The run ends, with so many words left.
 fn stop(end: End, code: u32, made: Counts, left: usize, wanted: usize) -> Choice
-    ensures { λ r. ⌜ r ≡ stopped end code made left wanted ⌝ }
+    ensures { λ r. ⌜ r ≡ stop end code made left wanted ⌝ }
 {
     Choice::Stop(Report {
         end: end,
@@ -72,7 +72,7 @@ fn stop(end: End, code: u32, made: Counts, left: usize, wanted: usize) -> Choice
 // "steps made equal to the limit, as spent; a wrong whose turn it is, as error": in one step of its own.
 fn raise(code: u32, made: Counts, left: usize, limit: u32) -> Choice
     requires { ⌜ made .steps ≤ limit ⌝ }
-    ensures { λ r. ⌜ r ≡ raising code left made limit ⌝ }
+    ensures { λ r. ⌜ r ≡ raise code left made limit ⌝ }
 {
     if made.steps == limit {
         return stop(End::Spent, 0, made, left, 0);
@@ -84,7 +84,7 @@ fn raise(code: u32, made: Counts, left: usize, limit: u32) -> Choice
 // "steps made equal to the limit, as spent; a next term of more words than capacity, as full; else the step is made".
 fn go(change: Change, made: Counts, n: usize, cap: usize, limit: u32) -> Choice
     requires { ⌜ made .steps ≤ limit ⌝ }
-    ensures { λ r. ⌜ r ≡ going change n cap made limit ⌝ }
+    ensures { λ r. ⌜ r ≡ go change n cap made limit ⌝ }
 {
     if limit == made.steps {
         return stop(End::Spent, 0, made, n, 0);
@@ -99,7 +99,7 @@ fn go(change: Change, made: Counts, n: usize, cap: usize, limit: u32) -> Choice
 // "a value ends as value", and the rest in its order: what follows a move of the term of n words.
 pub fn decide(moved: Move, n: usize, cap: usize, made: Counts, limit: u32) -> Choice
     requires { ⌜ made .steps ≤ limit ⌝ }
-    ensures { λ r. ⌜ r ≡ chosen moved n cap made limit ⌝ }
+    ensures { λ r. ⌜ r ≡ decide moved n cap made limit ⌝ }
 {
     match moved {
         Move::Value => stop(End::Value, 0, made, n, 0),

@@ -9,13 +9,14 @@ ghost use mathlib.Core.Path.{_≡_};
 ghost use Prim.Native.Nat.{_+_, _*_, _≤_};
 ghost use lib.ListN.{length};
 ghost use Rattle.calculus.specs.File.{padded};
+ghost use Rattle.writing.specs.Given.{mostPlace};
 ghost use Rattle.writing.specs.Wrote.{Wrote};
 ghost use Rattle.lister.specs.Listing.{field, fields, wordsLine, listing};
 ghost use Rattle.lister.specs.Numbered.{nameOf, refusedLine, endedLine, textBy};
 
 // A blank and a number, from the place n on. Returns the place after it, as each function here does.
 fn field(text: &mut [u8], n: usize, number: u32) -> usize
-    requires { ⌜ n ≤ 1048576 ⌝ }
+    requires { ⌜ n ≤ mostPlace ⌝ }
     ensures { λ r. ⌜ Wrote (now (text .entry)) n (field number) r (now (text .exit)) ⌝ }
     ensures bound { λ r. ⌜ r ≤ n + 11 ⌝ }
 {

@@ -2,15 +2,16 @@
 
 ghost use mathlib.Core.Path.{_≡_};
 ghost use mathlib.Core.List.{[], _∷_};
-ghost use Prim.Native.Nat.{_+_, _%_, _<_, _^_};
+ghost use Prim.Native.Nat.{_+_, _%_, _<_};
 ghost use lib.ListN.{length, take};
 ghost use Rattle.calculus.specs.File.{padded};
+ghost use Rattle.writing.specs.Given.{mostCount, halfCount};
 ghost use Rattle.writing.specs.Wrote.{Wrote};
 ghost use Rattle.text.specs.Decimal.{digit, decimal};
 
 // One byte at the place n. Returns the place after it.
 pub fn put(text: &mut [u8], n: usize, byte: u8) -> usize
-    requires { ⌜ n < 2 ^ 62 ⌝ }
+    requires { ⌜ n < mostCount ⌝ }
     ensures { λ r. ⌜ Wrote (now (text .entry)) n (byte ∷ []) r (now (text .exit)) ⌝ }
 {
     if n < text.len() {
@@ -21,7 +22,7 @@ pub fn put(text: &mut [u8], n: usize, byte: u8) -> usize
 
 // All the bytes of the source, from the place n on. Returns the place after them.
 pub fn copy(source: &[u8], text: &mut [u8], n: usize) -> usize
-    requires { ⌜ n + length (now source) < 2 ^ 62 ⌝ }
+    requires { ⌜ n + length (now source) < mostCount ⌝ }
     ensures { λ r. ⌜ Wrote (now (text .entry)) n (now (source .entry)) r (now (text .exit)) ⌝ }
 {
     let mut i = 0;
@@ -42,7 +43,7 @@ fn last_digit(number: u64) -> u8
 
 // A number in decimal, from the place n on. Returns the place after it.
 pub fn put_decimal(text: &mut [u8], n: usize, number: u64) -> usize
-    requires { ⌜ n < 2 ^ 61 ⌝ }
+    requires { ⌜ n < halfCount ⌝ }
     ensures { λ r. ⌜ Wrote (now (text .entry)) n (decimal number) r (now (text .exit)) ⌝ }
 {
     let last = last_digit(number);

@@ -27,6 +27,10 @@ mostCount = 4611686018427387904
 abbrev pub halfCount : ℕ
 halfCount = 2305843009213693952
 
+-- A variable's word inside lambdas, 2^32 less 256: the word of one lambda more is a word too.
+abbrev pub mostVariable : ℕ
+mostVariable = 4294967040
+
 -- The table is that of the kinds, and the words are not too many.
 pub record Given (table words : List ℕ) : Type 0 where
   pub table-is : table ≡ kinds

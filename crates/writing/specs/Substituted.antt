@@ -8,7 +8,7 @@ use Rattle.calculus.specs.Words.{word, by, words}
 use Rattle.calculus.specs.Kinds.{Sort, type, term, Tree, Trees, putTrees, sizeTrees}
 use Rattle.calculus.specs.Reduction.{substitute}
 use Rattle.nodes.specs.Table.{kinds}
-use Rattle.writing.specs.Given.{mostWords, mostCount, halfCount}
+use Rattle.writing.specs.Given.{mostWords, mostCount, halfCount, mostVariable}
 use Rattle.writing.specs.Wrote.{Wrote}
 
 -- What substitution takes as given: the table is that of the kinds, and neither the words, nor the value, nor the variable's word inside lambdas,
@@ -17,7 +17,7 @@ pub record SubstitutionFits (table words : List ℕ) (at x : ℕ) (value : List 
   pub table-is : table ≡ kinds
   pub few : at + length words < mostCount
   pub value-few : length value ≤ mostWords
-  pub variable : x + 256 * length words < 4294967040
+  pub variable : x + 256 * length words < mostVariable
   pub room : n + mostWords * length words < halfCount
 
 -- Trees with v for the variable that has d lambdas between.

@@ -2,9 +2,10 @@
 
 ghost use mathlib.Core.Path.{_≡_};
 ghost use mathlib.Core.List.{[], _∷_};
-ghost use Prim.Native.Nat.{_+_, _-_, _<_, _≤_, _^_, min};
+ghost use Prim.Native.Nat.{_+_, _-_, _<_, _≤_, min};
 ghost use lib.ListN.{length, take};
 ghost use Rattle.calculus.specs.File.{padded};
+ghost use Rattle.writing.specs.Given.{mostCount};
 ghost use Rattle.writing.specs.Wrote.{Wrote};
 ghost use Rattle.writing.specs.Stretches.{stretch, StretchIn};
 
@@ -13,7 +14,7 @@ pub mod substitution;
 
 // One word at the place n. Returns the place after it.
 pub fn put(target: &mut [u32], n: usize, w: u32) -> usize
-    requires { ⌜ n < 2 ^ 62 ⌝ }
+    requires { ⌜ n < mostCount ⌝ }
     ensures { λ r. ⌜ Wrote (now (target .entry)) n (w ∷ []) r (now (target .exit)) ⌝ }
 {
     if n < target.len() {
@@ -37,7 +38,7 @@ fn fitting(room: usize, n: usize, count: usize) -> usize
 
 // All the words of the source, from the place n on. Returns the place after them.
 pub fn copy(source: &[u32], target: &mut [u32], n: usize) -> usize
-    requires { ⌜ n + length (now source) < 2 ^ 62 ⌝ }
+    requires { ⌜ n + length (now source) < mostCount ⌝ }
     ensures { λ r. ⌜ Wrote (now (target .entry)) n (now (source .entry)) r (now (target .exit)) ⌝ }
 {
     let m = fitting(target.len(), n, source.len());
@@ -61,7 +62,7 @@ fn uneven(n: usize, count: usize) -> usize
 
 // The same as copy, for a long stretch: a few words first, so that the stores after them straddle no line of the cache.
 fn copy_long(source: &[u32], target: &mut [u32], n: usize) -> usize
-    requires { ⌜ n + length (now source) < 2 ^ 62 ⌝ }
+    requires { ⌜ n + length (now source) < mostCount ⌝ }
     ensures { λ r. ⌜ Wrote (now (target .entry)) n (now (source .entry)) r (now (target .exit)) ⌝ }
 {
     let k = uneven(n, source.len());

@@ -117,7 +117,7 @@ returns-7 c =
     let o = operator f in
     let a = k .before .before .number-at in
     let b = k .number-at2 in
-    let g = c .numbered .ensures in
+    let g = c .number-in .ensures in
     let d = c .before .difference .ensures in (
       rw (g, d) (number-placed (length (ws (at o))) (scheme o) (a .result - b .result) (omega (arith, a .ensures .1))),
       rw (g, d) (two-minus (known o) (o .operator .ensures) (f .before .before .if2 .left) (f .before .if3 .left) (f .if4 .left) (second-is n)

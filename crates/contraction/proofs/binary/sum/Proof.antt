@@ -7,7 +7,7 @@ use Rattle.contraction.proofs.binary.sum.Statement.{statement}
 use Rattle.contraction.proofs.binary.sum.Tie as tie
 
 returns : tie.Need-returns
-returns c = let a = c .before .before .args in c .numbered .ensures ∙ rw (le-leb (a .a + a .b) 16777215 (c .before .if1 .taken))
+returns c = let a = c .before .before .args in c .number-in .ensures ∙ rw (le-leb (a .a + a .b) 16777215 (c .before .if1 .taken))
 
 returns-2 : tie.Need-returns-2
 returns-2 c =

@@ -22,7 +22,7 @@ returns-2 : tie.Need-returns-2
 returns-2 c =
     let s = c .before .before .before .before .before in
     let n = c .before .number-at in
-    let g = c .numbered .ensures in (
+    let g = c .number-in .ensures in (
       rw g (number-placed (length (s .args .words .now)) (s .args .scheme) (n .result) (n .ensures .1)),
       rw g (number-number (s .pre) (rest-number (s .args .words .now) (s .args .value) (n .ensures .0)) (c .before .before .before .if1 .left)),
     )
