@@ -9,6 +9,8 @@
  * Stack. See RECIPE_STACK_BYTES.
  *
  * Places are counted in words of 4 bytes from 0, the file's first word being at place 0.
+ *
+ * Later archives may append fields to a struct: compile with the header that comes with the archive.
  */
 #ifndef RECIPE_H
 #define RECIPE_H
@@ -72,6 +74,11 @@ typedef struct {
     uint32_t steps;   /* steps made; the one in which an error ends the run is counted */
     uint32_t left;    /* words of the term that stands first in the first buffer; 0 after an error */
     uint32_t wanted;  /* words of the next term, where it was too large: RECIPE_FULL, at most 268,435,456; else 0 */
+
+    /* Where the steps went: the three add up to `steps`. The node that a step is made on counts, whatever it becomes. */
+    uint32_t calls;       /* steps on an application or a fix */
+    uint32_t conversions; /* steps on an ms or an sm */
+    uint32_t others;      /* all other steps; the one in which an error ends the run is among them */
 } RecipeRun;
 
 /* Checks a file and runs it for at most `limit` steps.

@@ -1,10 +1,12 @@
-//! Demand 3 as a test of terms and runs: what the proofs say of the definitions, tried on the definitions here.
+//! Demand 3 and the law of the counts as tests of terms and runs: what the proofs say of the definitions, tried on the
+//! definitions here.
 
 use crate::check::Recipe;
-use crate::node::Node;
+use crate::class::{Class, ClassCounts};
+use crate::node::{ml_words, Node};
 use crate::run::{End, Ended, Run};
 use crate::scope::unbound;
-use crate::step::{step, Step};
+use crate::step::{step, turn, Step};
 use crate::tree::{Ml, Type};
 use crate::typing::type_of;
 use crate::values::is_ml_value;
@@ -46,6 +48,40 @@ pub fn ends_alike(first: &Run, second: &Run) -> bool {
     match &first.result {
         Ok(ended) if is_final(ended) => second.result == first.result && left(first) == left(second),
         _ => true,
+    }
+}
+
+/// "For every run the three add up to the steps made, each equal to a count over the reduction."
+pub fn try_counts(recipe: &Recipe, ended: &Ended) -> Result<(), String> {
+    if ended.classes.sum() != ended.steps {
+        return Err(format!("{:?} do not add up to {} steps", ended.classes, ended.steps));
+    }
+    match over_the_reduction(recipe, ended.steps) {
+        Some(counted) if counted == ended.classes => Ok(()),
+        counted => Err(format!("{:?}, but over the reduction {counted:?}", ended.classes)),
+    }
+}
+
+/// The steps of a recipe's reduction counted by the words at which they happen; none where it has not so many.
+fn over_the_reduction(recipe: &Recipe, steps: u32) -> Option<ClassCounts> {
+    let mut term = recipe.term.clone();
+    let mut counted = ClassCounts::default();
+    for _ in 0..steps {
+        let turn = turn(&term)?;
+        counted.count(class_at(ml_words(&term)[turn.place()]));
+        if let Step::Next(_, next) = turn.step() {
+            term = next;
+        }
+    }
+    Some(counted)
+}
+
+/// By the kind of the word: 19 and 35 are applications, 20 is fix, 30 ms and 45 sm.
+fn class_at(word: u32) -> Class {
+    match word % 256 {
+        19 | 20 | 35 => Class::Call,
+        30 | 45 => Class::Conversion,
+        _ => Class::Other,
     }
 }
 

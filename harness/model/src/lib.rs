@@ -1,4 +1,4 @@
-//! Recipes on trees, written from document 01 alone and apart from the engine.
+//! Recipes on trees, written from documents 01 and 02 alone and apart from the engine.
 //!
 //! `check` answers a file with a recipe or a refusal; `run` reduces it to one of the four ends.
 //! Trees nest as deep as they have words: call both within `on_large_stack`.
@@ -7,6 +7,7 @@
 
 pub mod build;
 pub mod check;
+pub mod class;
 pub mod file;
 pub mod kinds;
 pub mod laws;
@@ -25,6 +26,7 @@ pub mod untyped;
 pub mod values;
 
 pub use check::{check, Recipe, Refusal};
+pub use class::{Class, ClassCounts};
 pub use run::{run, End, Ended, Run};
 pub use stack::on_large_stack;
 pub use tree::{Ml, Scheme, Test, Type};

@@ -1,9 +1,10 @@
 //! A run and its ends, with every word of the two lent buffers.
 
 use crate::check::{check, Refusal};
+use crate::class::ClassCounts;
 use crate::node::{ml_words, Node};
 use crate::rules::RuleCounts;
-use crate::step::{step, Step};
+use crate::step::{turn, Step};
 use crate::tree::Ml;
 use std::rc::Rc;
 
@@ -33,6 +34,8 @@ pub struct Ended {
     pub steps: u32,
     pub left: u32,
     pub wanted: u32,
+    /// Where the steps went.
+    pub classes: ClassCounts,
 }
 
 /// What a run answers, both buffers after it, and the rules of the steps that it made.
@@ -71,36 +74,34 @@ fn start(bytes: &[u8], capacity: usize) -> Result<Rc<Ml>, Refusal> {
 /// Reduces a term to one of the four ends; the words that the run leaves come second.
 pub fn reduce(term: Rc<Ml>, limit: u32, capacity: usize, rules: &mut RuleCounts) -> (Ended, Vec<u32>) {
     let mut term = term;
-    let mut steps = 0;
+    let mut made = Ended { end: End::Value, code: 0, steps: 0, left: 0, wanted: 0, classes: ClassCounts::default() };
     loop {
-        let found = step(&term);
-        if let Step::Value = found {
-            return keep(End::Value, steps, &term, 0);
+        let Some(turn) = turn(&term) else { return keep(Ended { end: End::Value, ..made }, &term) };
+        if made.steps == limit {
+            return keep(Ended { end: End::Spent, ..made }, &term);
         }
-        if steps == limit {
-            return keep(End::Spent, steps, &term, 0);
-        }
-        match found {
-            Step::Raised(code) => {
-                let ended = Ended { end: End::Error, code, steps: steps + 1, left: 0, wanted: 0 };
-                return (ended, Vec::new());
+        let step = turn.step();
+        if let Step::Next(_, next) = &step {
+            let wanted = Node::Ml(next).size();
+            if wanted > capacity {
+                return keep(Ended { end: End::Full, wanted: wanted as u32, ..made }, &term);
             }
+        }
+        made.steps += 1;
+        made.classes.count(turn.class());
+        match step {
+            Step::Raised(code) => return (Ended { end: End::Error, code, ..made }, Vec::new()),
             Step::Next(rule, next) => {
-                let wanted = Node::Ml(&next).size();
-                if wanted > capacity {
-                    return keep(End::Full, steps, &term, wanted);
-                }
                 rules.count(rule);
                 term = next;
-                steps += 1;
             }
             Step::Value | Step::Stuck => panic!("stuck, against demand 3: {:?}", ml_words(&term)),
         }
     }
 }
 
-fn keep(end: End, steps: u32, term: &Rc<Ml>, wanted: usize) -> (Ended, Vec<u32>) {
+/// The end with the words of the term that it leaves.
+fn keep(ended: Ended, term: &Rc<Ml>) -> (Ended, Vec<u32>) {
     let words = ml_words(term);
-    let ended = Ended { end, code: 0, steps, left: words.len() as u32, wanted: wanted as u32 };
-    (ended, words)
+    (Ended { left: words.len() as u32, ..ended }, words)
 }

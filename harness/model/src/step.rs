@@ -1,5 +1,6 @@
 //! One step: a term is a value, or an evaluation context around the node whose turn it is.
 
+use crate::class::Class;
 use crate::node::{Node, Tree};
 use crate::rules::{ml_rule, scheme_rule, Rule};
 use crate::tree::{Ml, Scheme, Type};
@@ -26,6 +27,23 @@ impl Turn {
             1 + parts[..frame.part].iter().flatten().map(|part| part.size()).sum::<usize>()
         };
         self.context.iter().map(before).sum()
+    }
+
+    /// What a step on the node is counted as.
+    pub fn class(&self) -> Class {
+        Class::of(self.node.node())
+    }
+
+    /// The step on the node.
+    pub fn step(&self) -> Step {
+        if let Some(code) = raised(&self.node) {
+            return Step::Raised(code);
+        }
+        let Some((rule, replaced)) = contract(&self.node) else { return Step::Stuck };
+        match self.context.iter().rev().fold(replaced, plug) {
+            Tree::Ml(next) => Step::Next(rule, next),
+            _ => unreachable!("a term of ML stays one"),
+        }
     }
 }
 
@@ -94,15 +112,7 @@ fn is_value_node(node: Node<'_>) -> bool {
 }
 
 pub fn step(term: &Rc<Ml>) -> Step {
-    let Some(turn) = turn(term) else { return Step::Value };
-    if let Some(code) = raised(&turn.node) {
-        return Step::Raised(code);
-    }
-    let Some((rule, replaced)) = contract(&turn.node) else { return Step::Stuck };
-    match turn.context.iter().rev().fold(replaced, plug) {
-        Tree::Ml(next) => Step::Next(rule, next),
-        _ => unreachable!("a term of ML stays one"),
-    }
+    turn(term).map_or(Step::Value, |turn| turn.step())
 }
 
 fn raised(node: &Tree) -> Option<u32> {

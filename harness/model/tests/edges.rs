@@ -32,7 +32,7 @@ fn words_wanted_by_the_million() {
     let body = balanced(21, 16, 2_044);
     let term = [&[20, 18, 1][..], &body].concat();
     let run = plenty(&[1], &term);
-    leaves(&run, ended(End::Full, 0, 0, 4_090, 8_362_003), &term);
+    leaves(&run, ended(End::Full, 0, 0, 4_090, 8_362_003, [0, 0, 0]), &term);
 }
 
 #[test]
@@ -40,7 +40,7 @@ fn terms_nested_as_deep_as_the_words_allow() {
     let term = [20, 18, 3, 1, 27, 16];
     let run = lent(&[3, 1], &term, 1_000_000, 2_000);
     let deep = chain(&[27], 1_994, &term);
-    assert_eq!(run.result, ended(End::Full, 0, 1_994, 2_000, 2_001));
+    assert_eq!(run.result, ended(End::Full, 0, 1_994, 2_000, 2_001, [1_994, 0, 0]));
     assert!(run.first == deep);
 }
 
@@ -51,6 +51,6 @@ fn the_deepest_terms_of_16384_words() {
         let deep = read_ml(&chain(&[27], 16_370, &term), 0, usize::MAX).expect("words in order");
         reduce(deep, u32::MAX, 16_384, &mut RuleCounts::default())
     });
-    assert_eq!(Ok(result), ended(End::Full, 0, 8, 16_384, 16_385));
+    assert_eq!(Ok(result), ended(End::Full, 0, 8, 16_384, 16_385, [8, 0, 0]));
     assert!(left == chain(&[27], 16_378, &term));
 }

@@ -92,24 +92,24 @@ fn sm_rules() {
 #[test]
 fn order_of_evaluation() {
     // The head of a list is converted before its tail is looked at.
-    error(&[3, 1], &[30, 3, 1, 40, 39, SEVEN], 1, 3);
+    error(&[3, 1], &[30, 3, 1, 40, 39, SEVEN], 1, 3, [0, 2, 1]);
     // A wrong in the second operand goes before the first operand's fault.
-    error(&[1], &[30, 1, 35, 39, w(44, 300)], 300, 1);
-    error(&[1], &[30, 1, 37, 39, w(44, 301)], 301, 1);
+    error(&[1], &[30, 1, 35, 39, w(44, 300)], 300, 1, [0, 0, 1]);
+    error(&[1], &[30, 1, 37, 39, w(44, 301)], 301, 1, [0, 0, 1]);
     // A wrong in the first part goes before one in the second.
-    error(&[1], &[21, w(29, 7), 1, w(29, 8), 1], 7, 1);
+    error(&[1], &[21, w(29, 7), 1, w(29, 8), 1], 7, 1, [0, 0, 1]);
     // Neither a branch not taken nor a lambda's body is evaluated.
-    value(&[1], &[23, 17, w(17, 3), w(29, 8), 1], 1, &[w(17, 3)]);
-    value(&[4, 1, 1], &[18, 1, w(29, 8), 1], 0, &[18, 1, w(29, 8), 1]);
+    value(&[1], &[23, 17, w(17, 3), w(29, 8), 1], 1, [0, 0, 1], &[w(17, 3)]);
+    value(&[4, 1, 1], &[18, 1, w(29, 8), 1], 0, [0, 0, 0], &[18, 1, w(29, 8), 1]);
 }
 
 #[test]
 fn spent_goes_before_error_and_full() {
-    leaves(&lent(&[1], &[26, 24, 1], 1, 3), ended(End::Spent, 0, 1, 2, 0), &[w(29, 4), 1]);
+    leaves(&lent(&[1], &[26, 24, 1], 1, 3), ended(End::Spent, 0, 1, 2, 0, [0, 0, 1]), &[w(29, 4), 1]);
     let grows = [20, 18, 1, 21, 16, 16];
-    leaves(&lent(&[1], &grows, 0, 6), ended(End::Spent, 0, 0, 6, 0), &grows);
-    leaves(&lent(&[1], &grows, 1, 6), ended(End::Full, 0, 0, 6, 13), &grows);
-    leaves(&lent(&[1], &[w(29, 7), 1], 0, 2), ended(End::Spent, 0, 0, 2, 0), &[w(29, 7), 1]);
+    leaves(&lent(&[1], &grows, 0, 6), ended(End::Spent, 0, 0, 6, 0, [0, 0, 0]), &grows);
+    leaves(&lent(&[1], &grows, 1, 6), ended(End::Full, 0, 0, 6, 13, [0, 0, 0]), &grows);
+    leaves(&lent(&[1], &[w(29, 7), 1], 0, 2), ended(End::Spent, 0, 0, 2, 0, [0, 0, 0]), &[w(29, 7), 1]);
 }
 
 #[test]

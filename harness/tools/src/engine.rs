@@ -14,6 +14,9 @@ pub struct RecipeRun {
     pub steps: u32,
     pub left: u32,
     pub wanted: u32,
+    pub calls: u32,
+    pub conversions: u32,
+    pub others: u32,
 }
 
 /// The check of a file: 0 for accepted, else number + 256 x place.

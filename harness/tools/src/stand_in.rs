@@ -2,7 +2,7 @@
 
 use crate::engine::RecipeRun;
 use model::check::answer;
-use model::{Ended, Refusal};
+use model::{Class, Ended, Refusal};
 
 /// The model's check: 0 for accepted, else number + 256 x place.
 pub fn check(file: &[u8]) -> u64 {
@@ -21,8 +21,9 @@ pub fn run(file: &[u8], limit: u32, first: &mut [u32], second: &mut [u32]) -> Re
 pub fn told(result: &Result<Ended, Refusal>) -> RecipeRun {
     match *result {
         Err(Refusal { number, place }) => RecipeRun { refusal: number, place, ..RecipeRun::default() },
-        Ok(Ended { end, code, steps, left, wanted }) => {
-            RecipeRun { refusal: 0, place: 0, end: end as u32, code, steps, left, wanted }
+        Ok(Ended { end, code, steps, left, wanted, classes }) => {
+            let [calls, conversions, others] = Class::ALL.map(|class| classes.of(class));
+            RecipeRun { refusal: 0, place: 0, end: end as u32, code, steps, left, wanted, calls, conversions, others }
         }
     }
 }

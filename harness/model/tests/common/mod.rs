@@ -2,7 +2,7 @@
 #![allow(dead_code)]
 
 use model::file::file;
-use model::{on_large_stack, run, End, Ended, Refusal, Run};
+use model::{on_large_stack, run, ClassCounts, End, Ended, Refusal, Run};
 
 /// A word: kind + 256 x operand.
 pub const fn w(kind: u32, operand: u32) -> u32 {
@@ -21,8 +21,15 @@ pub fn lent(declared: &[u32], term: &[u32], limit: u32, capacity: usize) -> Run 
     run
 }
 
-pub fn ended(end: End, code: u32, steps: u32, left: u32, wanted: u32) -> Result<Ended, Refusal> {
-    Ok(Ended { end, code, steps, left, wanted })
+/// Calls, conversions and others.
+pub type Went = [u32; 3];
+
+pub fn ended(end: End, code: u32, steps: u32, left: u32, wanted: u32, went: Went) -> Result<Ended, Refusal> {
+    Ok(Ended { end, code, steps, left, wanted, classes: counts(went) })
+}
+
+pub fn counts([calls, conversions, others]: Went) -> ClassCounts {
+    ClassCounts::new(calls, conversions, others)
 }
 
 /// The run ends as said, with these words first in the first buffer and zeros behind them.
@@ -32,13 +39,13 @@ pub fn leaves(run: &Run, result: Result<Ended, Refusal>, words: &[u32]) {
     assert!(run.first[words.len()..].iter().all(|&word| word == 0));
 }
 
-pub fn value(declared: &[u32], term: &[u32], steps: u32, words: &[u32]) {
+pub fn value(declared: &[u32], term: &[u32], steps: u32, went: Went, words: &[u32]) {
     let count = words.len() as u32;
-    leaves(&plenty(declared, term), ended(End::Value, 0, steps, count, 0), words);
+    leaves(&plenty(declared, term), ended(End::Value, 0, steps, count, 0, went), words);
 }
 
-pub fn error(declared: &[u32], term: &[u32], code: u32, steps: u32) {
-    leaves(&plenty(declared, term), ended(End::Error, code, steps, 0, 0), &[]);
+pub fn error(declared: &[u32], term: &[u32], code: u32, steps: u32, went: Went) {
+    leaves(&plenty(declared, term), ended(End::Error, code, steps, 0, 0, went), &[]);
 }
 
 /// The refusal of a file given as words.

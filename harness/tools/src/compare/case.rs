@@ -149,14 +149,15 @@ fn seen_of(run: &model::Run) -> Seen {
 
 impl Seen {
     fn show(&self, text: &mut String) {
-        let RecipeRun { refusal, place, end, code, steps, left, wanted } = self.result;
+        let RecipeRun { refusal, place, end, code, steps, left, wanted, calls, conversions, others } = self.result;
         let name = ["value", "spent", "error", "full"].get(end as usize).unwrap_or(&"no end");
+        let counts = format!("calls {calls}, conversions {conversions}, others {others}");
         let _ = match refusal {
             0 => writeln!(
                 text,
-                "  {name} (end {end}), code {code}, steps {steps}, left {left}, wanted {wanted}, place {place}"
+                "  {name} (end {end}), code {code}, steps {steps}, left {left}, wanted {wanted}, place {place}\n  {counts}"
             ),
-            _ => writeln!(text, "  refused {refusal} at place {place}; {end} {code} {steps} {left} {wanted}"),
+            _ => writeln!(text, "  refused {refusal} at place {place}; {end} {code} {steps} {left} {wanted}; {counts}"),
         };
         let _ = writeln!(text, "  first:  {}", list(&self.first));
         let _ = writeln!(text, "  second: {}", list(&self.second));

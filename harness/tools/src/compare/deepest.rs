@@ -43,7 +43,7 @@ const GROWING: [Growing; 8] = [
 ];
 
 impl Growing {
-    /// The run ends where the next words do not fit.
+    /// It is always the fix's turn, and the run ends where the next words do not fit.
     fn known(&self) -> Known {
         let steps = (MOST_WORDS - self.term.len()) / self.grows;
         let left = self.left(steps);
@@ -60,9 +60,10 @@ impl Growing {
     }
 }
 
-/// The answer of a run that ends as full.
+/// The answer of a run that ends as full, each of its steps being a call.
 fn full(steps: usize, left: usize, wanted: usize) -> RecipeRun {
-    RecipeRun { end: 3, steps: steps as u32, left: left as u32, wanted: wanted as u32, ..RecipeRun::default() }
+    let (steps, left, wanted) = (steps as u32, left as u32, wanted as u32);
+    RecipeRun { end: 3, steps, left, wanted, calls: steps, ..RecipeRun::default() }
 }
 
 /// What a round puts around a value: words before it and after it. Its lambda is the last of its node, or it is not.
@@ -99,7 +100,7 @@ impl Wrap {
         let one_later = |rounds: usize| waits(rounds).len() - pair.len() + becomes.len();
         let rounds = (MOST_WORDS - one_later(0)) / (self.before.len() + self.after.len()) + 1;
         let left = waits(rounds);
-        // One step to the lambda at first, three in each round, and one in the round that does not end.
+        // One call to the lambda at first, three in each round, and one in the round that does not end.
         let answer = full(2 + 3 * rounds, left.len(), one_later(rounds));
         Known { name: self.name, file: file(&[2], &term), answer, left }
     }
@@ -108,7 +109,7 @@ impl Wrap {
 /// if0 1 0 (if0 1 0 ..), 256 levels deep: the check's walks go to the third part at each level, by three calls.
 fn nested_choices() -> Known {
     let term = [[23, 17 + 256, 17].repeat(255), vec![17]].concat();
-    let answer = RecipeRun { steps: 255, left: 1, ..RecipeRun::default() };
+    let answer = RecipeRun { steps: 255, left: 1, others: 255, ..RecipeRun::default() };
     Known { name: "a file of if0 nested 256 deep in the third part", file: file(&[1], &term), answer, left: vec![17] }
 }
 
@@ -116,6 +117,6 @@ fn nested_choices() -> Known {
 fn nested_types() -> Known {
     let declared = [[4, 1].repeat(254), vec![1]].concat();
     let term = [&[29 + 256 * 7][..], &declared].concat();
-    let answer = RecipeRun { end: 2, code: 7, steps: 1, ..RecipeRun::default() };
+    let answer = RecipeRun { end: 2, code: 7, steps: 1, others: 1, ..RecipeRun::default() };
     Known { name: "a file of types nested 256 deep", file: file(&declared, &term), answer, left: vec![] }
 }
