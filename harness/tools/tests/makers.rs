@@ -1,6 +1,6 @@
 //! The makers make what they promise, and reach every rule, end and refusal.
 
-use model::laws::try_reduction;
+use model::laws::{try_counts, try_reduction};
 use model::rules::{Rule, RuleCounts};
 use model::{check, on_large_stack, run};
 use tools::make::*;
@@ -49,6 +49,23 @@ fn reductions_keep_demand_3() {
                 try_reduction(&recipe, 60, 4_000).expect("the laws hold");
             }
         }
+    });
+}
+
+#[test]
+fn counts_add_up_and_are_counts_over_the_reduction() {
+    on_large_stack(|| {
+        let mut steps = 0;
+        for index in 0..FILES {
+            let mut random = Random::new(4, index);
+            let file = well_typed_file(&mut random);
+            let (limit, capacity) = (random.below(120) as u32, 40 + random.below(400));
+            if let (Ok(recipe), Ok(ended)) = (check(&file), run(&file, limit, capacity, capacity).result) {
+                try_counts(&recipe, &ended).unwrap_or_else(|law| panic!("file {index}: {law}"));
+                steps += ended.steps;
+            }
+        }
+        assert!(steps > 10_000, "{steps}");
     });
 }
 

@@ -25,7 +25,8 @@ list         files at the edges, two long recipes, and those of N random files (
 stack        the deepest runs of 16,384 words, and the deepest files, on a stack of K KiB (2048)
 --seed S     random files depend on the seed (1) and their index alone
 --start I    begin with random file I; the files that are the same every time are left out unless I is 0
---all-reached  fail if a rule, an end or a refusal was never reached
+--all-reached  fail if a rule, an end, a class of steps before an end (call, conversion, other) or a refusal was never
+             reached
 
 Status 0: no difference; 1: a difference, shrunk and shown; 2: not understood, or built without the engine.
 ";

@@ -1,7 +1,7 @@
-//! What a comparison has reached: the outcomes of the rules, the ends, the refusals.
+//! What a comparison has reached: the outcomes of the rules, the ends and where the steps to them went, the refusals.
 
 use model::rules::{Rule, RuleCounts};
-use model::{End, Ended, Refusal};
+use model::{Class, End, Ended, Refusal};
 use std::fmt::Write;
 
 #[derive(Default)]
@@ -12,6 +12,8 @@ pub struct Counts {
     pub accepted: u64,
     refusals: [u64; 8],
     ends: [u64; 4],
+    /// Runs with a step of the class, for each end.
+    classes: [[u64; 3]; 4],
     rules: RuleCounts,
 }
 
@@ -22,6 +24,9 @@ impl Counts {
 
     pub fn ended(&mut self, ended: &Ended) {
         self.ends[ended.end as usize] += 1;
+        for class in Class::ALL {
+            self.classes[ended.end as usize][class as usize] += u64::from(has(ended, class));
+        }
     }
 
     pub fn rules(&mut self, rules: &RuleCounts) {
@@ -35,23 +40,43 @@ impl Counts {
         rows
     }
 
-    /// The table of a comparison of listings: 4 ends, and the refusals that a listing can show.
+    /// The table of a comparison of listings: 4 ends, 3 classes of steps to each, and the refusals that a listing can
+    /// show.
     pub fn of_listings(&self) -> Vec<(String, u64)> {
-        self.end_rows().chain(self.refusal_rows(7)).collect()
+        self.end_rows().chain(self.class_rows()).chain(self.refusal_rows(7)).collect()
     }
 
-    /// The table of a comparison of runs: 48 outcomes of rules, 4 ends, 8 refusals.
+    /// The table of a comparison of runs: 48 outcomes of rules, 4 ends, 3 classes of steps to each, 8 refusals.
     pub fn of_runs(&self) -> Vec<(String, u64)> {
         let rules = Rule::ALL.iter().map(|rule| (rule.name().to_string(), self.rules.of(*rule)));
-        rules.chain(self.end_rows()).chain(self.refusal_rows(8)).collect()
+        rules.chain(self.end_rows()).chain(self.class_rows()).chain(self.refusal_rows(8)).collect()
     }
 
     fn end_rows(&self) -> impl Iterator<Item = (String, u64)> + '_ {
         End::ALL.iter().map(|end| (format!("end: {}", end.name()), self.ends[*end as usize]))
     }
 
+    fn class_rows(&self) -> Vec<(String, u64)> {
+        let both = End::ALL.iter().flat_map(|end| Class::ALL.map(|class| (*end, class)));
+        both.map(|(end, class)| (class_row(end, class), self.classes[end as usize][class as usize])).collect()
+    }
+
     fn refusal_rows(&self, last: usize) -> Vec<(String, u64)> {
         (1..=last).map(|number| (format!("refusal {number}"), self.refusals[number - 1])).collect()
+    }
+}
+
+/// Whether a run has made a step of the class. Every error has an other, its own step, which says nothing.
+fn has(ended: &Ended, class: Class) -> bool {
+    let own = u32::from((ended.end, class) == (End::Error, Class::Other));
+    ended.classes.of(class) > own
+}
+
+fn class_row(end: End, class: Class) -> String {
+    match (end, class) {
+        (End::Error, Class::Other) => "end: error, with an other before the error's own".into(),
+        (end, Class::Other) => format!("end: {}, with an other", end.name()),
+        (end, class) => format!("end: {}, with a {}", end.name(), class.name()),
     }
 }
 

@@ -1,4 +1,5 @@
-//! The run compared: result and every word of both buffers, under many limits and capacities, with demand 3's laws.
+//! The run compared: result and every word of both buffers, under many limits and capacities, with demand 3's laws and
+//! the law of the counts.
 
 use super::case::Case;
 use super::lent::at_the_edges;
@@ -8,7 +9,7 @@ use crate::engine::Run;
 use crate::make::*;
 use crate::progress::Progress;
 use crate::random::Random;
-use model::laws::{ends_alike, try_reduction};
+use model::laws::{ends_alike, try_counts, try_reduction};
 use model::{check, End};
 use std::collections::BTreeSet;
 
@@ -35,15 +36,16 @@ fn random_file(engine: Run, seed: u64, index: u64, counts: &mut Counts) -> Resul
     let file = if random.chance(88) { well_typed_file(&mut random) } else { damaged_file(&mut random) };
     counts.files += 1;
     let (case, larger) = plans(&mut random, file);
-    compare_twice(engine, &case, &larger, counts)?;
+    let ran = compare_twice(engine, &case, &larger, counts)?;
     if index.is_multiple_of(LAWS_EVERY) {
-        laws(&case.file, counts)?;
+        laws(&case.file, &ran, counts)?;
     }
     Ok(())
 }
 
-/// A run, and if it ends as a value or an error a second that is lent at least as much and must end the same.
-fn compare_twice(engine: Run, case: &Case, larger: &Case, counts: &mut Counts) -> Result<(), String> {
+/// A run, and if it ends as a value or an error a second that is lent at least as much and must end the same. Answers
+/// with the first.
+fn compare_twice(engine: Run, case: &Case, larger: &Case, counts: &mut Counts) -> Result<model::Run, String> {
     let first = case.compare(engine, counts)?;
     if first.result.is_ok_and(|ended| matches!(ended.end, End::Value | End::Error)) {
         let second = larger.compare(engine, counts)?;
@@ -51,15 +53,17 @@ fn compare_twice(engine: Run, case: &Case, larger: &Case, counts: &mut Counts) -
             return Err(format!("two runs end apart\n{}{}", case.show(), larger.show()));
         }
     }
-    Ok(())
+    Ok(first)
 }
 
-fn laws(file: &[u8], counts: &mut Counts) -> Result<(), String> {
-    if let Ok(recipe) = check(file) {
-        let tried = try_reduction(&recipe, 60, 3_000);
-        counts.laws += u64::from(tried.map_err(|law| format!("{law}\n{}", super::show_file(file)))?);
+fn laws(file: &[u8], ran: &model::Run, counts: &mut Counts) -> Result<(), String> {
+    let Ok(recipe) = check(file) else { return Ok(()) };
+    let shown = |law: String| format!("{law}\n{}", super::show_file(file));
+    counts.laws += u64::from(try_reduction(&recipe, 60, 3_000).map_err(shown)?);
+    match &ran.result {
+        Ok(ended) => try_counts(&recipe, ended).map_err(shown),
+        Err(_) => Ok(()),
     }
-    Ok(())
 }
 
 /// The files that are the same in every comparison.
