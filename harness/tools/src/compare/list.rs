@@ -8,7 +8,7 @@ use crate::progress::Progress;
 use crate::random::Random;
 use model::file::file;
 use model::text::parse_recipe;
-use model::{run, Run};
+use model::{run, Class, Run};
 use std::io::Write;
 use std::path::Path;
 use std::process::{Command, Stdio};
@@ -17,8 +17,12 @@ use std::process::{Command, Stdio};
 const STEPS: u32 = 1_000_000;
 const WORDS: usize = 4_096;
 
-/// Recipes whose runs are long: one that is spent, and one whose terms grow until they are full.
-const LONG: [&str; 2] = ["N (fix (fn N v0))", "{N} (fix (fn {N} (cons 1 v0)))"];
+/// Recipes whose runs are long, with two calls, two conversions and an other in each round: one that is spent, and one
+/// whose terms grow until they are full.
+const LONG: [&str; 2] = [
+    "N (app (fix (fn (N to N) (fn N (app v1 (ms N (add (sm N v0) 0)))))) 7)",
+    "{N} (app (fix (fn (N to {N}) (fn N (cons v0 (app v1 (ms N (add (sm N v0) 1))))))) 0)",
+];
 
 /// One file at the edges of so many is listed: most are wrong headers, which the check's comparison takes all.
 const EDGES_EVERY: usize = 20;
@@ -54,10 +58,16 @@ fn text(run: &Run) -> String {
     match &run.result {
         Err(refusal) => format!("refused {} {}\n", refusal.number, refusal.place),
         Ok(e) => {
-            let words: Vec<String> = run.first[..e.left as usize].iter().map(u32::to_string).collect();
-            format!("{} {} {} {} {}\n{}\n", e.end.name(), e.code, e.steps, e.left, e.wanted, words.join(" "))
+            let classes = Class::ALL.map(|class| e.classes.of(class));
+            let numbers = [&[e.code, e.steps, e.left, e.wanted][..], &classes].concat();
+            format!("{} {}\n{}\n", e.end.name(), row(&numbers), row(&run.first[..e.left as usize]))
         }
     }
+}
+
+/// Numbers with single blanks between them.
+fn row(numbers: &[u32]) -> String {
+    numbers.iter().map(u32::to_string).collect::<Vec<_>>().join(" ")
 }
 
 fn recipe(text: &str) -> Vec<u8> {
