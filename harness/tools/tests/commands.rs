@@ -13,19 +13,19 @@ const WRAPPED: &[u8] = b"N (app (ms (N to N) (fn v0)) 7)";
 
 /// "(ms (N to N) (fn v0)) applied to 7: value 7, 5 steps", and the largest term has 12 words.
 const FIVE_STEPS: [&str; 7] = [
-    "step 0, 8 words\n  (app [[(ms (N to N) (fn v0))]] 7)\n  -> ms (t to u) of a lambda\n",
-    "step 1, 12 words\n  [[(app (fn N (ms N (app (fn v0) (sm N v0)))) 7)]]\n  -> ML application of a lambda\n",
-    "step 2, 8 words\n  (ms N (app (fn v0) [[(sm N 7)]]))\n  -> sm N of a number\n",
-    "step 3, 6 words\n  (ms N [[(app (fn v0) 7)]])\n  -> Scheme application of a lambda\n",
-    "step 4, 3 words\n  [[(ms N 7)]]\n  -> ms N of a number\n",
+    "step 0, 8 words\n  (app [[(ms (N to N) (fn v0))]] 7)\n  -> ms (t to u) of a lambda (conversion)\n",
+    "step 1, 12 words\n  [[(app (fn N (ms N (app (fn v0) (sm N v0)))) 7)]]\n  -> ML application of a lambda (call)\n",
+    "step 2, 8 words\n  (ms N (app (fn v0) [[(sm N 7)]]))\n  -> sm N of a number (conversion)\n",
+    "step 3, 6 words\n  (ms N [[(app (fn v0) 7)]])\n  -> Scheme application of a lambda (call)\n",
+    "step 4, 3 words\n  [[(ms N 7)]]\n  -> ms N of a number (conversion)\n",
     "step 5, 1 word\n  7\n",
-    "value after 5 steps, 1 word\n",
+    "value after 5 steps, 1 word\n2 calls, 3 conversions, 0 others\n",
 ];
 
 #[test]
 fn step_shows_the_five_steps_of_a_wrapped_function() {
     assert_eq!(printed(&["step"], WRAPPED), (0, FIVE_STEPS.concat(), "".into()));
-    let full = "full after 0 steps: the next term has 12 words\n";
+    let full = "full after 0 steps: the next term has 12 words\n0 calls, 0 conversions, 0 others\n";
     assert_eq!(printed(&["step", "--words", "11"], WRAPPED), (0, FIVE_STEPS[0].to_string() + full, "".into()));
 }
 
@@ -42,6 +42,49 @@ fn step_starts_and_stops_where_asked() {
     assert!(spinning.starts_with("step 2000, 4 words\n") && spinning.ends_with(&stopped(3000)), "{spinning}");
     let behind = "recipe: --to 2 comes before --from 3\n".to_string();
     assert_eq!(printed(&["step", "--from", "3", "--to", "2"], WRAPPED), (2, "".into(), behind));
+}
+
+#[test]
+fn run_tells_where_the_steps_went_at_every_end() {
+    let told = |words: &[&str], input: &[u8]| printed(words, input).1;
+    assert_eq!(told(&["run"], WRAPPED), "value after 5 steps, 1 word\n2 calls, 3 conversions, 0 others\n7\n");
+    let spent = "spent after 3 steps, 6 words\n1 call, 2 conversions, 0 others\n(ms N (app (fn v0) 7))\n";
+    assert_eq!(told(&["run", "--limit", "3"], WRAPPED), spent);
+    let error = "error 1 after 2 steps: no number, or the recipe's own code\n0 calls, 1 conversion, 1 other\n";
+    assert_eq!(told(&["run"], b"N (ms N nil)"), error);
+    // A term of 7 words, then of 9; the next does not fit.
+    let full = "full after 1 step: the next term has 11 words\n1 call, 0 conversions, 0 others\n";
+    let grows = b"{N} (fix (fn {N} (cons 1 v0)))";
+    assert_eq!(told(&["run", "--words", "10"], grows), full.to_string() + "(cons 1 (fix (fn {N} (cons 1 v0))))\n");
+}
+
+/// The line of counts that the classes shown make; where the end is full, the last was not made.
+fn went(shown: &str) -> String {
+    let mut steps: Vec<&str> = shown.lines().filter(|line| line.starts_with("  -> ")).collect();
+    if shown.contains("\nfull after ") {
+        steps.pop();
+    }
+    let of = |class: &str| {
+        let number = steps.iter().filter(|line| line.ends_with(&format!(" ({class})"))).count();
+        format!("{number} {class}{}", if number == 1 { "" } else { "s" })
+    };
+    ["call", "conversion", "other"].map(of).join(", ")
+}
+
+#[test]
+fn the_classes_that_step_shows_are_those_that_the_engine_counts() {
+    let random = (0..400).map(|index| well_typed_file(&mut Random::new(9, index)));
+    let mut ended = 0;
+    for file in random.chain([bytes_of(&[1, 4, 2, 5, 1, 29 + 256 * 9, 1])]) {
+        for words in ["30", "4096"] {
+            let (status, shown, _) = printed(&["step", "--to", "40", "--words", words], &file);
+            if status == 0 && !shown.ends_with("--to goes further\n") {
+                assert_eq!(shown.lines().last(), Some(went(&shown).as_str()), "{shown}");
+                ended += 1;
+            }
+        }
+    }
+    assert!(ended > 500, "{ended}");
 }
 
 /// Files that are damaged, and what `recipe show` says of them behind its first line.

@@ -124,7 +124,7 @@ fn examples_print_what_the_page_shows() {
 }
 
 #[test]
-fn every_command_refusal_and_end_is_on_the_page() {
+fn every_command_refusal_end_and_class_is_on_the_page() {
     let page = page();
     let examples = examples(&page);
     let shown = |start: &str| examples.iter().any(|example| example.printed.starts_with(start));
@@ -133,6 +133,9 @@ fn every_command_refusal_and_end_is_on_the_page() {
     }
     for start in ["value after", "spent after", "full after", "error 300 after"] {
         assert!(shown(start), "{start}");
+    }
+    for class in ["call", "conversion", "other"] {
+        assert!(examples.iter().any(|example| example.printed.contains(&format!(" ({class})\n"))), "{class}");
     }
     for command in ["make", "show", "check", "run", "step"] {
         assert!(examples.iter().any(|example| example.command.contains(&format!("recipe {command}"))), "{command}");

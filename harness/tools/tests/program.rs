@@ -123,18 +123,18 @@ fn check_points_at_the_place() {
 #[test]
 fn run_and_step() {
     let wrapped = b"N (app (ms (N to N) (fn v0)) 7)";
-    assert_eq!(seen(&["run"], wrapped).1, "value after 5 steps, 1 word\n7\n");
+    assert_eq!(seen(&["run"], wrapped).1, "value after 5 steps, 1 word\n2 calls, 3 conversions, 0 others\n7\n");
     assert_eq!(
         seen(&["run", "--words", "11"], wrapped).1.lines().next(),
         Some("full after 0 steps: the next term has 12 words")
     );
-    assert_eq!(seen(&["run", "--limit", "4"], wrapped).1, "spent after 4 steps, 3 words\n(ms N 7)\n");
+    let spent = "spent after 4 steps, 3 words\n2 calls, 2 conversions, 0 others\n(ms N 7)\n";
+    assert_eq!(seen(&["run", "--limit", "4"], wrapped).1, spent);
     let steps = seen(&["step"], wrapped).1;
     assert_eq!(steps.lines().filter(|line| line.starts_with("  -> ")).count(), 5);
     assert!(steps.contains("step 1, 12 words\n  [[(app (fn N (ms N (app (fn v0) (sm N v0)))) 7)]]\n"), "{steps}");
     assert!(seen(&["step", "--to", "2"], b"N (fix (fn N v0))").1.ends_with("stopped at step 2; --to goes further\n"));
-    assert!(seen(&["step"], b"N (hd (nil N))")
-        .1
-        .ends_with("error 4 after 2 steps: an empty list, or the recipe's own code\n"));
+    let error = "error 4 after 2 steps: an empty list, or the recipe's own code\n0 calls, 0 conversions, 2 others\n";
+    assert!(seen(&["step"], b"N (hd (nil N))").1.ends_with(error));
     assert_eq!(seen(&["run"], b"L 3").0, 1);
 }

@@ -11,7 +11,7 @@ usage: recipe make | show | check | run | step   [FILE] [options]
 make    a text to a recipe file
 show    a recipe file as text
 check   whether the engine accepts a recipe, a refusal explained
-run     the end of a run and the term left
+run     the end of a run, where its steps went, and the term left
 step    the term at each step of a run
 
 `recipe COMMAND --help` says more. Status 0: done; 1: the file is refused; 2: it cannot be read or written, or the

@@ -1,4 +1,4 @@
-//! `recipe run`: the engine's run, its end and the term that it leaves.
+//! `recipe run`: the engine's run, its end, where its steps went, and the term that it leaves.
 
 use super::explain::explain;
 use super::input::{read_input, Input};
@@ -17,8 +17,10 @@ pub const COMMAND: Command = Command { name: "run", help: HELP, work: run };
 const HELP: &str = "\
 usage: recipe run [FILE] [--limit STEPS] [--words CAPACITY]
 
-Runs a recipe file or the file of a text, for 1,000,000 steps at most with two buffers of 4,096 words. Prints the end and
-the term left. Reads standard input where no FILE is named. Status 0: ended, whatever the end; 1: refused.
+Runs a recipe file or the file of a text, for 1,000,000 steps at most with two buffers of 4,096 words. Prints the end,
+where the steps went, and the term left. A step on an app or a fix is a call; a step on an ms or an sm is a conversion;
+all others, the one that ends the run with an error too, are others. Reads standard input where no FILE is named.
+Status 0: ended, whatever the end; 1: refused.
 ";
 
 /// What a run is lent.
@@ -49,13 +51,13 @@ impl Lent {
     }
 }
 
-/// The end of a run and the term left.
+/// The end of a run, where its steps went, and the term left.
 fn run(mut args: Args, desk: &mut Desk<'_>) -> Outcome {
     let lent = Lent::new(&mut args, desk)?;
     let limit = steps(args.number("--limit", 1_000_000)?)?;
     let input = read_input(args, desk)?;
     let (result, words) = lent.run(&input, limit)?;
-    Ok(write!(desk.output, "{}\n{}", ended(&result), left(&words)?)?)
+    Ok(write!(desk.output, "{}{}", ended(&result), left(&words)?)?)
 }
 
 /// How many words a refused term has, and how many were lent.
@@ -69,8 +71,15 @@ pub fn steps(number: u64) -> Result<u32, String> {
     u32::try_from(number).map_err(|_| format!("a run makes at most {} steps, not {number}", u32::MAX))
 }
 
-/// The end in a line.
+/// The end in a line, and where the steps went in another.
 pub fn ended(result: &RecipeRun) -> String {
+    let RecipeRun { calls, conversions, others, .. } = *result;
+    let went = [(calls, "call"), (conversions, "conversion"), (others, "other")];
+    format!("{}\n{}\n", end(result), went.map(|(number, class)| count(number, class)).join(", "))
+}
+
+/// The end in a line.
+fn end(result: &RecipeRun) -> String {
     let steps = count(result.steps, "step");
     match result.end {
         0 => format!("value after {steps}, {}", count(result.left, "word")),
