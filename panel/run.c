@@ -1,4 +1,5 @@
-/* An example for the controller's engineer: runs one recipe file and prints its end and the words it leaves. */
+/* An example for the controller's engineer: runs one recipe file and prints its end, where its steps went and the words
+ * it leaves. */
 #include "recipe.h"
 
 #include <inttypes.h>
@@ -27,6 +28,7 @@ int main(int count, char **names)
     }
     printf("%s, code %" PRIu32 ", %" PRIu32 " steps, %" PRIu32 " words left, %" PRIu32 " wanted\n",
            ends[run.end], run.code, run.steps, run.left, run.wanted);
+    printf("%" PRIu32 " calls, %" PRIu32 " conversions, %" PRIu32 " others\n", run.calls, run.conversions, run.others);
     for (uint32_t i = 0; i < run.left; i++)
         printf("%" PRIu32 "%c", first[i], i + 1 < run.left ? ' ' : '\n');
     return 0;

@@ -1,5 +1,5 @@
 #!/bin/sh
-# Builds the panel's program and compares what it prints with outputs written by hand from document 01.
+# Builds the panel's program and compares what it prints with outputs written by hand from documents 01 and 02.
 # With the argument `run` the example that runs a recipe is tried too. The archive must have been built before.
 set -eu
 cd "$(dirname "$0")/.."
@@ -86,10 +86,13 @@ Checks recipe files. Words are counted from 0, each of 4 bytes." ./panel
 if [ "${1:-}" = run ]; then
     (cd ../.. && ${CC:-cc} $flags -o "$out/run" panel/run.c "$archive")
     same run-add 0 "value, code 0, 1 steps, 1 words left, 0 wanted
+0 calls, 0 conversions, 1 others
 1297" ./run add
     same run-wrapped 0 "value, code 0, 5 steps, 1 words left, 0 wanted
+2 calls, 3 conversions, 0 others
 1809" ./run wrapped
-    same run-hd-nil 0 "error, code 4, 2 steps, 0 words left, 0 wanted" ./run hd-nil
+    same run-hd-nil 0 "error, code 4, 2 steps, 0 words left, 0 wanted
+0 calls, 0 conversions, 2 others" ./run hd-nil
     same run-kind 1 "refused 3 at word 5" ./run kind
 fi
 
