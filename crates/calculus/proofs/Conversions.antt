@@ -6,23 +6,25 @@ use mathlib.Core.Option.{Option, none, some}
 use mathlib.Core.Path.{_≡_, refl, sym, ap, subst, _∙_}
 use native.Mathlib.Omega.{arith}
 use Rattle.calculus.specs.Trees.{Ty, N, L, list, _to_, ml, sc, HD, APP, CONS, Term, var, num, lam, nil, wrong, ms, sm, app, cons}
-use Rattle.calculus.specs.Words.{size, sizeTy}
+use Rattle.calculus.specs.Words.{words, size, sizeTy}
 use Rattle.calculus.specs.Typing.{Typed}
 use Rattle.calculus.specs.Reduction.{form, becomes, onList, contract1}
 use Rattle.calculus.specs.Substitution.{shift, ordinary}
 use Rattle.calculus.specs.Rules.{Value, lamV, numV, nilV, consV, lumpV, Lambda, Number, Nil, Cons, app-lambda, ms-number, ms-no-number, ms-nil}
 use Rattle.calculus.specs.Rules.{ms-cons, ms-no-list, ms-lambda, ms-no-lambda, sm-number, sm-lump, sm-nil, sm-cons, sm-lambda, Steps, stay}
 use Rattle.calculus.specs.Rules.{then, Raises}
-use Rattle.calculus.specs.Endings.{by-value}
+use Rattle.calculus.specs.Run.{valued, Counts, ended}
+use Rattle.calculus.specs.Endings.{Ends, by-value}
 use Rattle.calculus.specs.Conversions.{Data, Fits, number, anything, fits-nil, fits-cons, function, first, misfit, crossing, boundaries}
 use Rattle.calculus.specs.Conversions.{Reaches, Survives, Crosses, Leaves, Seals, wrapper, Wraps, Functions, Conversions}
 use Rattle.calculus.proofs.Contraction.{mark}
 use Rattle.calculus.proofs.Bounds.{size-shift}
 use Rattle.calculus.proofs.Typing.{typed-scoped}
 use Rattle.calculus.proofs.Agreement.{value-no-step}
-use Rattle.calculus.proofs.Reaching.{Within, still, on, within-steps, within-made, once, join, wider, inside, step-in-first, step-in-second}
-use Rattle.calculus.proofs.Reaching.{into-ml, into-scheme, rule, onward, reached, after-rule, raises, raises-in-first, raises-in-second}
-use Rattle.calculus.proofs.Reaching.{one-end, value-end, value-or-error, error-once, fails-run}
+use Rattle.calculus.proofs.Converting.{value-converting, converts}
+use Rattle.calculus.proofs.Reaching.{Within, still, on, within-steps, within-capacity, once, join, wider, inside, step-in-first}
+use Rattle.calculus.proofs.Reaching.{step-in-second, into-ml, into-scheme, rule, onward, reached, after-rule, raises, raises-in-first}
+use Rattle.calculus.proofs.Reaching.{raises-in-second, one-end, value-end, value-or-error, error-once, fails-run}
 
 -- An ML value and a Scheme value are the same datum of a type; the steps of its way into ML, and out of it.
 data Same : ℕ → ℕ → Ty → Term ml → Term sc → Type 0 where
@@ -135,7 +137,10 @@ survives : (t : Ty) → Data t → Survives t
 survives t d =
     record {
       ml-back = λ v h k. within-steps (ml-within (ml-same t d h k .3));
-      ml-run = λ v h k limit cap n c. by-value (within-made (wider c (ml-within (ml-same t d h k .3)))) n h;
+      ml-run = λ v h k limit cap n c.
+          let p = wider c (ml-within (ml-same t d h k .3)) in
+          subst (λ (m : Counts). Ends limit cap (ms t (sm t v)) (ended valued 0 m (words v) 0)) (converts (within-steps p) (value-converting h))
+          (by-value (within-steps p) (within-capacity p) n h);
       scheme-back = λ v k. within-steps (scheme-within (scheme-same d k .3));
     }
 
@@ -244,7 +249,7 @@ module _ (t : Ty) {v : Term sc} (h : Value sc v) (k : Typed [] v tt) where
 crosses : (t : Ty) {v : Term sc} (h : Value sc v) → Typed [] v tt → Crosses t h
 crosses t h k =
     let x = decided t h k (misfit t h) (conversion t h) in
-    record { arrives = x .1; fails = x .2; error-run = λ c q. fails-run _ c (x .2 c .0 q); fits = x .0; codes = data-codes t h }
+    record { arrives = x .1; fails = x .2; error-run = λ c q. fails-run _ c (value-converting h) (x .2 c .0 q); fits = x .0; codes = data-codes t h }
 
 -- An ML value of any type arrives in Scheme, and fits.
 abbrev Arrival : Term ml → Ty → Type 0

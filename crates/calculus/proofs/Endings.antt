@@ -8,46 +8,56 @@ use Rattle.calculus.specs.Trees.{Ty, ml, Term}
 use Rattle.calculus.specs.Words.{words, size}
 use Rattle.calculus.specs.Typing.{Typed}
 use Rattle.calculus.specs.Reduction.{Outcome, value, raised, next, stuck, step}
-use Rattle.calculus.specs.Rules.{Value, _⟶_}
-use Rattle.calculus.specs.Run.{spent, error, Counts, uncounted, counted, Result, ended, atLimit, run}
-use Rattle.calculus.specs.Endings.{Made, none, more, after, Ends, by-value, by-limit, by-error, by-full, Ending}
+use Rattle.calculus.specs.Rules.{Value, _⟶_, Steps, stay, then}
+use Rattle.calculus.specs.Classes.{Class, call, conversion, other, nextClass, stepClass, indicator, among}
+use Rattle.calculus.specs.Run.{valued, spent, error, full, Counts, uncounted, counted, Result, ended, atLimit, run}
+use Rattle.calculus.specs.Counting.{counts, together, Counted}
+use Rattle.calculus.specs.Endings.{InCapacity, Ends, by-value, by-limit, by-error, by-full, Ending}
 use Rattle.calculus.proofs.Typing.{typed-scoped}
 use Rattle.calculus.proofs.Agreement.{next-iff, raised-iff, value-step-iff}
 use Rattle.calculus.proofs.Soundness.{sound}
+use Rattle.calculus.proofs.Classes.{step-class}
+use Rattle.calculus.proofs.Counting.{same-counts, none-together, together-none, then-together, next-typed, run-counted}
 use Rattle.calculus.proofs.Runs.{Ran, at-value, at-limit, at-error, at-full, at-stuck, by-step, run-ran, run-value, run-next, run-full}
 
 -- One step more at the end.
-made-more : {cap n : ℕ} {e t r : Term ml} → Made cap n e t → t ⟶ r → size r ≤ cap → Made cap (suc n) e r
-made-more none a c = more a c none
-made-more (more b d p) a c = more b d (made-more p a c)
+abbrev steps-more : {n : ℕ} {e t r : Term ml} → Steps n e t → t ⟶ r → Steps (suc n) e r
+steps-more stay a = then a stay
+steps-more (then b p) a = then b (steps-more p a)
 
--- A next term has its term's type.
-next-typed : (τ : Ty) {e r : Term ml} → Typed [] e τ → e ⟶ r → (step e ≡ next r) × Typed [] r τ
-next-typed τ {e} {r} h a = let q = next-iff e r (typed-scoped [] e τ h) .1 a in (q, rw q at (sound e τ h))
+capacity-more : (cap : ℕ) {n : ℕ} {e t r : Term ml} (p : Steps n e t) (a : t ⟶ r) → size r ≤ cap → InCapacity cap p → InCapacity cap (steps-more p a)
+capacity-more cap stay a c h = (c, tt)
+capacity-more cap (then b p) a c h = (h .0, capacity-more cap p a c (h .1))
+
+among-more : {n : ℕ} {e t r : Term ml} (x : Class) (p : Steps n e t) (a : t ⟶ r) → among x (steps-more p a) ≡ among x p + indicator x (stepClass a)
+among-more x stay a = omega arith
+among-more x (then b p) a = omega (arith, among-more x p a)
+
+counts-more : {n : ℕ} {e t r : Term ml} (p : Steps n e t) (a : t ⟶ r) → counts (steps-more p a) ≡ counted (stepClass a) (counts p)
+counts-more p a = same-counts (omega arith) (among-more call p a) (among-more conversion p a) (among-more other p a)
 
 -- The run of a term is the run of each term that it comes to, with the steps made counted.
-made-run : (τ : Ty) {cap n : ℕ} {e t : Term ml} → Typed [] e τ → Made cap n e t → (limit k m : ℕ) → limit ≡ n + k
-    → run limit cap (after m) e ≡ run k cap (after (m + n)) t
-made-run τ h none limit k m q =
+steps-run : (τ : Ty) (cap : ℕ) {n : ℕ} {e t : Term ml} → Typed [] e τ → (p : Steps n e t) → InCapacity cap p → (limit k : ℕ) (m : Counts)
+    → limit ≡ n + k → run limit cap m e ≡ run k cap (together m (counts p)) t
+steps-run τ cap h stay c limit k m q =
     let i : limit ≡ k = omega (arith, q) in
-    let j : m + 0 ≡ m = omega arith in
-    rw (i, j)
-made-run τ h (more a c p) zero k m q = absurd (omega (arith, q))
-made-run τ {cap} h (more {n = n} {e} {f} {t} a c p) (suc limit) k m q =
-    let j : suc m + n ≡ m + suc n = omega arith in
+    rw (i, together-none m)
+steps-run τ cap h (then a p) c zero k m q = absurd (omega (arith, q))
+steps-run τ cap h (then {e = e} {f} {r = t} a p) c (suc limit) k m q =
     let i = next-typed τ h a in
-    run-next limit cap (after m) e f (i .0) c ∙ made-run τ (i .1) p limit k (suc m) (omega (arith, q))
-    ∙ ap (λ (x : ℕ). run k cap (after x) t) j
+    let j = step-class (typed-scoped [] e τ h) a in
+    run-next limit cap m e f (i .0) (c .0) ∙ ap (λ (x : Class). run limit cap (counted x m) f) (sym j)
+    ∙ steps-run τ cap (i .1) p (c .1) limit k (counted (stepClass a) m) (omega (arith, q))
+    ∙ ap (λ (y : Counts). run k cap y t) (then-together m a p)
 
-made-typed : (τ : Ty) {cap n : ℕ} {e t : Term ml} → Typed [] e τ → Made cap n e t → Typed [] t τ
-made-typed τ h none = h
-made-typed τ h (more a c p) = made-typed τ (next-typed τ h a .1) p
+steps-typed : (τ : Ty) {n : ℕ} {e t : Term ml} → Typed [] e τ → Steps n e t → Typed [] t τ
+steps-typed τ h stay = h
+steps-typed τ h (then a p) = steps-typed τ (next-typed τ h a .1) p
 
-from-start : (τ : Ty) {limit cap n : ℕ} {e t : Term ml} → Typed [] e τ → Made cap n e t → (k : ℕ) → limit ≡ n + k
-    → run limit cap uncounted e ≡ run k cap (after n) t
-from-start τ {limit} {cap} {n} {t = t} h p k q =
-    let i : 0 + n ≡ n = omega arith in
-    made-run τ h p limit k 0 q ∙ ap (λ (x : ℕ). run k cap (after x) t) i
+from-start : (τ : Ty) (cap : ℕ) {limit n : ℕ} {e t : Term ml} → Typed [] e τ → (p : Steps n e t) → InCapacity cap p → (k : ℕ) → limit ≡ n + k
+    → run limit cap uncounted e ≡ run k cap (counts p) t
+from-start τ cap {limit} {t = t} h p c k q =
+    steps-run τ cap h p c limit k uncounted q ∙ ap (λ (m : Counts). run k cap m t) (none-together (counts p))
 
 -- The last run, where no step is made.
 at-limit-run : (cap : ℕ) (made : Counts) (e : Term ml) → ¬ Value ml e → run 0 cap made e ≡ ended spent 0 made (words e) 0
@@ -60,46 +70,61 @@ at-limit-run cap made e v = by (step e) refl
     by (next r) q = refl
     by stuck q = refl
 
-error-run : (k cap c : ℕ) (made : Counts) (e : Term ml) → step e ≡ raised c → run (suc k) cap made e ≡ ended error c (counted made) [] 0
+error-run : (k cap c : ℕ) (made : Counts) (e : Term ml) → step e ≡ raised c → run (suc k) cap made e ≡ ended error c (counted other made) [] 0
 unfolding run
 error-run k cap c made e q = rw q
 
 -- Published, so computed.
 ends-run : (τ : Ty) {limit cap : ℕ} {e : Term ml} {x : Result} → Typed [] e τ → Ends limit cap e x → run limit cap uncounted e ≡ x
-ends-run τ {limit} {cap} s (by-value {n} {t} p h v) =
-    from-start τ s p (limit - n) (omega (arith, h)) ∙ run-value (limit - n) cap (after n) t (value-step-iff t .1 v)
-ends-run τ {limit} {cap} s (by-limit {t} p v) = from-start τ s p 0 (omega arith) ∙ at-limit-run cap (after limit) t v
-ends-run τ {limit} {cap} s (by-error {n} {c} {t} p h a) =
-    from-start τ s p (suc (limit - suc n)) (omega (arith, h))
-    ∙ error-run (limit - suc n) cap c (after n) t (raised-iff t c (typed-scoped [] t τ (made-typed τ s p)) .1 a)
-ends-run τ {limit} {cap} s (by-full {n} {t} {r} p h a c) =
-    from-start τ s p (suc (limit - suc n)) (omega (arith, h))
-    ∙ run-full (limit - suc n) cap (after n) t r (next-typed τ (made-typed τ s p) a .0) c
+ends-run τ {limit} {cap} s (by-value {n} {t} p i h v) =
+    from-start τ cap s p i (limit - n) (omega (arith, h)) ∙ run-value (limit - n) cap (counts p) t (value-step-iff t .1 v)
+ends-run τ {limit} {cap} s (by-limit {t} p i v) = from-start τ cap s p i 0 (omega arith) ∙ at-limit-run cap (counts p) t v
+ends-run τ {limit} {cap} s (by-error {n} {c} {t} p i h a) =
+    from-start τ cap s p i (suc (limit - suc n)) (omega (arith, h))
+    ∙ error-run (limit - suc n) cap c (counts p) t (raised-iff t c (typed-scoped [] t τ (steps-typed τ s p)) .1 a)
+ends-run τ {limit} {cap} s (by-full {n} {t} {r} p i h a c) =
+    from-start τ cap s p i (suc (limit - suc n)) (omega (arith, h))
+    ∙ run-full (limit - suc n) cap (counts p) t r (next-typed τ (steps-typed τ s p) a .0) c
 
 -- Computed, so published: a term that has a type comes to none that is stuck.
 module _ (τ : Ty) (limit cap : ℕ) (f : Term ml) where
-  at-limit-ends : (n : ℕ) (e : Term ml) → n ≡ limit → Made cap n f e → ¬ Value ml e → Ends limit cap f (ended spent 0 (after n) (words e) 0)
-  at-limit-ends n e i p v = rw i (by-limit (rw i at p) v)
+  at-limit-ends : (n : ℕ) (e : Term ml) → n ≡ limit → (p : Steps n f e) → InCapacity cap p → ¬ Value ml e
+      → Ends limit cap f (ended spent 0 (counts p) (words e) 0)
+  at-limit-ends n e i p c v =
+      subst (λ (k : ℕ). (q : Steps k f e) → InCapacity cap q → Ends limit cap f (ended spent 0 (counts q) (words e) 0)) (sym i)
+      (λ q d. by-limit q d v) p c
 
-  ran-ends : {k : ℕ} {made : Counts} {e t : Term ml} {x : Result} → Ran cap k made e x t → made .steps + k ≡ limit → Typed [] e τ
-      → Made cap (made .steps) f e → Ends limit cap f x
-  ran-ends (at-value {e = e} q) i h p = by-value p (omega (arith, i)) (value-step-iff e .0 q)
-  ran-ends (at-limit {made = made} {e = e} q) i h p =
-      at-limit-ends (made .steps) e (omega (arith, i)) p (λ v. let z : _≡_ {A = ℕ} 0 1 = cc (q, value-step-iff e .1 v) in omega arith)
-  ran-ends (at-error {c = c} {e = e} q) i h p = by-error p (omega (arith, i)) (raised-iff e c (typed-scoped [] e τ h) .0 q)
-  ran-ends (at-full {e = e} {r} q c) i h p = by-full p (omega (arith, i)) (next-iff e r (typed-scoped [] e τ h) .0 q) c
-  ran-ends (at-stuck {e = e} q) i h p = absurd (rw q at (sound e τ h))
-  ran-ends (by-step {e = e} {r} q c s) i h p =
-      ran-ends s (omega (arith, i)) (rw q at (sound e τ h)) (made-more p (next-iff e r (typed-scoped [] e τ h) .0 q) c)
+  ran-ends : {k : ℕ} {made : Counts} {e t : Term ml} {x : Result} → Ran cap k made e x t → {n : ℕ} → n + k ≡ limit → Typed [] e τ
+      → (p : Steps n f e) → InCapacity cap p → counts p ≡ made → Ends limit cap f x
+  ran-ends (at-value {e = e} q) i h p c m =
+      subst (λ (y : Counts). Ends limit cap f (ended valued 0 y (words e) 0)) m (by-value p c (omega (arith, i)) (value-step-iff e .0 q))
+  ran-ends (at-limit {e = e} q) {n} i h p c m =
+      subst (λ (y : Counts). Ends limit cap f (ended spent 0 y (words e) 0)) m
+      (at-limit-ends n e (omega (arith, i)) p c (λ v. let z : _≡_ {A = ℕ} 0 1 = cc (q, value-step-iff e .1 v) in omega arith))
+  ran-ends (at-error {c = d} {e = e} q) i h p c m =
+      subst (λ (y : Counts). Ends limit cap f (ended error d (counted other y) [] 0)) m
+      (by-error p c (omega (arith, i)) (raised-iff e d (typed-scoped [] e τ h) .0 q))
+  ran-ends (at-full {e = e} {r} q d) i h p c m =
+      subst (λ (y : Counts). Ends limit cap f (ended full 0 y (words e) (size r))) m
+      (by-full p c (omega (arith, i)) (next-iff e r (typed-scoped [] e τ h) .0 q) d)
+  ran-ends (at-stuck {e = e} q) i h p c m = absurd (rw q at (sound e τ h))
+  ran-ends (by-step {e = e} {r} q d s) i h p c m =
+      let a = next-iff e r (typed-scoped [] e τ h) .0 q in
+      ran-ends s (omega (arith, i)) (rw q at (sound e τ h)) (steps-more p a) (capacity-more cap p a d c)
+      (counts-more p a ∙ rw (step-class (typed-scoped [] e τ h) a) (ap (counted (nextClass e)) m))
 
 -- "The end of a run, its code, its count of steps and the words it leaves are exactly those of the published reductions".
 pub ends-iff : (limit cap : ℕ) (e : Term ml) (τ : Ty) → Typed [] e τ → (x : Result) → Ends limit cap e x ↔ (run limit cap uncounted e ≡ x)
 ends-iff limit cap e τ h x = (
   ends-run τ h,
-  λ q. subst (Ends limit cap e) q (ran-ends τ limit cap e (run-ran limit cap uncounted e) (omega arith) h none),
+  λ q. subst (Ends limit cap e) q (ran-ends τ limit cap e (run-ran limit cap uncounted e) (omega arith) h stay tt refl),
 )
 
 -- Exactly one exists.
 pub ending : (limit cap : ℕ) (e : Term ml) (τ : Ty) → Typed [] e τ → Ending limit cap e
 ending limit cap e τ h =
     record { result = run limit cap uncounted e; ends = ends-iff limit cap e τ h _ .1 refl; only = λ r p. sym (ends-run τ h p) }
+
+-- "For every run the three add up to the steps made, each equal to a count over the reduction."
+pub ends-counted : (limit cap : ℕ) (e : Term ml) (τ : Ty) → Typed [] e τ → (x : Result) → Ends limit cap e x → Counted e (x .end) (x .made)
+ends-counted limit cap e τ h x p = subst (λ (r : Result). Counted e (r .end) (r .made)) (ends-run τ h p) (run-counted limit cap e τ h)

@@ -21,6 +21,7 @@ pub mod Contraction
 pub mod Turns
 pub mod Contexts
 pub mod Agreement
+pub mod Classes
 pub mod Derivations
 pub mod Soundness
 pub mod Ranges
@@ -28,6 +29,7 @@ pub mod Splices
 -- runs and files
 pub mod Bounds
 pub mod Runs
+pub mod Counting
 pub mod Endings
 pub mod Growth
 pub mod Continuing
@@ -35,6 +37,7 @@ pub mod Files
 pub mod Checks
 pub mod Refusing
 pub mod Demands
+pub mod Converting
 pub mod Reaching
 pub mod Conversions
 pub mod Recipes

@@ -8,12 +8,14 @@ use Rattle.calculus.specs.Words.{size}
 use Rattle.calculus.specs.Typing.{Typed}
 use Rattle.calculus.specs.Rules.{Value, _⊢_⇒_, hole, in-first, in-second, in-ms, in-sm, around, _⟶_, by-rule, Steps, stay, then, Raises}
 use Rattle.calculus.specs.Rules.{by-wrong}
-use Rattle.calculus.specs.Run.{error, ended}
-use Rattle.calculus.specs.Endings.{Made, none, more, after, Ends, by-error}
+use Rattle.calculus.specs.Classes.{other}
+use Rattle.calculus.specs.Run.{error, Counts, counted, ended}
+use Rattle.calculus.specs.Endings.{InCapacity, Ends, by-error}
 use Rattle.calculus.specs.Demands.{Reducible}
-use Rattle.calculus.specs.Conversions.{Reaches}
+use Rattle.calculus.specs.Conversions.{allConversions, Reaches}
 use Rattle.calculus.proofs.Typing.{typed-scoped}
 use Rattle.calculus.proofs.Agreement.{deterministic, one-code, value-no-step, value-no-error, error-no-step}
+use Rattle.calculus.proofs.Converting.{Converting, converts}
 use Rattle.calculus.proofs.Demands.{typed-safe}
 
 -- Steps within a capacity, of either language.
@@ -21,13 +23,13 @@ pub data Within {l : Lang} (cap : ℕ) : ℕ → Term l → Term l → Type 0 wh
   still : {e : Term l} → Within cap 0 e e
   on : {n : ℕ} {e f r : Term l} → e ⟶ f → size f ≤ cap → Within cap n f r → Within cap (suc n) e r
 
-pub within-steps : {l : Lang} {cap n : ℕ} {e r : Term l} → Within cap n e r → Steps n e r
+abbrev pub within-steps : {l : Lang} {cap n : ℕ} {e r : Term l} → Within cap n e r → Steps n e r
 within-steps still = stay
 within-steps (on a c p) = then a (within-steps p)
 
-pub within-made : {cap n : ℕ} {e r : Term ml} → Within cap n e r → Made cap n e r
-within-made still = none
-within-made (on a c p) = more a c (within-made p)
+pub within-capacity : {cap n : ℕ} {e r : Term ml} (p : Within cap n e r) → InCapacity cap (within-steps p)
+within-capacity still = tt
+within-capacity (on a c p) = (c, within-capacity p)
 
 pub once : {l : Lang} {cap : ℕ} {e r : Term l} → e ⟶ r → size r ≤ cap → Within cap 1 e r
 once a c = on a c still
@@ -125,10 +127,18 @@ module _ {l : Lang} (τ : Static l) where
       one-code (rw q at (x .3)) (y .3)
 
 -- Steps need some number of words.
-roomy : {n : ℕ} {e r : Term ml} → Steps n e r → (room : ℕ) × ((cap : ℕ) → room ≤ cap → Made cap n e r)
-roomy stay = (0, λ cap c. none)
-roomy (then {f = f} a p) = let x = roomy p in (size f + x .0, λ cap c. more a (omega (arith, c)) (x .1 cap (omega (arith, c))))
+roomy : {n : ℕ} {e r : Term ml} (p : Steps n e r) → (room : ℕ) × ((cap : ℕ) → room ≤ cap → InCapacity cap p)
+roomy stay = (0, λ cap c. tt)
+roomy (then {f = f} a p) = let x = roomy p in (size f + x .0, λ cap c. (omega (arith, c), x .1 cap (omega (arith, c))))
 
-pub fails-run : (e : Term ml) (c : ℕ) → Reaches e (Raises c)
-    → (n : ℕ) × (room : ℕ) × ((limit cap : ℕ) → n < limit → room ≤ cap → Ends limit cap e (ended error c (after (suc n)) [] 0))
-fails-run e c x = let y = roomy (x .2) in (x .0, y .0, λ limit cap n m. by-error (y .1 cap m) n (x .3))
+-- The run of values on their way over a boundary, to an error.
+pub fails-run : (e : Term ml) (c : ℕ) → Converting e → Reaches e (Raises c)
+    → (n : ℕ) × (room : ℕ)
+    × ((limit cap : ℕ) → n < limit → room ≤ cap → Ends limit cap e (ended error c (counted other (allConversions n)) [] 0))
+fails-run e c k x =
+    let y = roomy (x .2) in (
+      x .0,
+      y .0,
+      λ limit cap n m.
+          subst (λ (z : Counts). Ends limit cap e (ended error c (counted other z) [] 0)) (converts (x .2) k) (by-error (x .2) (y .1 cap m) n (x .3)),
+    )

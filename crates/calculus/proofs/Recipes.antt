@@ -1,4 +1,4 @@
--- The recipes of document 01 that are proved: each computes. Assumes nothing.
+-- The recipes that are proved: each computes. Assumes nothing.
 use mathlib.Core.Path.{refl}
 use Rattle.calculus.specs.Words.{put, putTy, size, sizeTy}
 use Rattle.calculus.specs.Kinds.{rowFor}
@@ -8,7 +8,7 @@ use Rattle.calculus.specs.Reduction.{substitute, form, onNumber, onLambd
 use Rattle.calculus.specs.Reduction.{onNumbers, toML, toScheme, contract, fill, turn, step}
 use Rattle.calculus.specs.Run.{run}
 use Rattle.calculus.specs.File.{wordsOf, typed, checkWords, check, runIn, operate}
-use Rattle.calculus.specs.Recipes.{Starred, Refused}
+use Rattle.calculus.specs.Recipes.{Starred, Classified, Refused}
 
 pub starred : Starred
 unfolding operate runIn check checkWords typed wordsOf run step turn fill contract toScheme toML contract2 contract1 onNumbers answer third amiss
@@ -31,6 +31,11 @@ starred =
       third = refl;
       own-code = refl;
     }
+
+pub classified : Classified
+unfolding operate runIn check checkWords typed wordsOf run step turn fill contract toML contract2 amiss onNumber onLambda form infer read readTree
+    inOrder walk rowFor put putTy size sizeTy
+classified = record { failed-call = refl; failed-conversion = refl; own-step = refl }
 
 pub refused : Refused
 unfolding operate runIn check checkWords typed wordsOf infer read readTree inOrder walk rowFor size sizeTy

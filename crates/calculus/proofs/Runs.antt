@@ -8,6 +8,7 @@ use borrow.Author.Tests.{leb-true, leb-false, le-leb, lt-leb}
 use Rattle.calculus.specs.Trees.{ml, Term}
 use Rattle.calculus.specs.Words.{words, size}
 use Rattle.calculus.specs.Reduction.{Outcome, value, raised, next, stuck, step}
+use Rattle.calculus.specs.Classes.{other, nextClass}
 use Rattle.calculus.specs.Run.{valued, spent, error, full, Counts, counted, Result, ended, atLimit, ifFits, decide, run}
 
 -- The last term of the run of e, with k steps left.
@@ -25,12 +26,12 @@ lastTerm (suc k) cap e = lastOf (step e) cap e (λ r. lastTerm k cap r)
 pub data Ran (cap : ℕ) : ℕ → Counts → Term ml → Result → Term ml → Type 0 where
   at-value : {k : ℕ} {made : Counts} {e : Term ml} → step e ≡ value → Ran cap k made e (ended valued 0 made (words e) 0) e
   at-limit : {made : Counts} {e : Term ml} → atLimit (step e) ≡ spent → Ran cap 0 made e (ended spent 0 made (words e) 0) e
-  at-error : {k c : ℕ} {made : Counts} {e : Term ml} → step e ≡ raised c → Ran cap (suc k) made e (ended error c (counted made) [] 0) e
+  at-error : {k c : ℕ} {made : Counts} {e : Term ml} → step e ≡ raised c → Ran cap (suc k) made e (ended error c (counted other made) [] 0) e
   at-full : {k : ℕ} {made : Counts} {e r : Term ml} → step e ≡ next r → cap < size r
       → Ran cap (suc k) made e (ended full 0 made (words e) (size r)) e
   at-stuck : {k : ℕ} {made : Counts} {e : Term ml} → step e ≡ stuck → Ran cap (suc k) made e (ended spent 0 made (words e) 0) e
-  by-step : {k : ℕ} {made : Counts} {e r t : Term ml} {x : Result} → step e ≡ next r → size r ≤ cap → Ran cap k (counted made) r x t
-      → Ran cap (suc k) made e x t
+  by-step : {k : ℕ} {made : Counts} {e r t : Term ml} {x : Result} → step e ≡ next r → size r ≤ cap
+      → Ran cap k (counted (nextClass e) made) r x t → Ran cap (suc k) made e x t
 
 module _ (cap : ℕ) (made : Counts) (e : Term ml) where
   limit-ran : (o : Outcome ml) → step e ≡ o → Ran cap 0 made e (ended (atLimit o) 0 made (words e) 0) e
@@ -39,7 +40,8 @@ module _ (cap : ℕ) (made : Counts) (e : Term ml) where
   limit-ran (next r) q = at-limit (ap atLimit q)
   limit-ran stuck q = at-limit (ap atLimit q)
 
-  module _ (k : ℕ) (go : Term ml → Result) (last : Term ml → Term ml) (ran : (r : Term ml) → Ran cap k (counted made) r (go r) (last r)) where
+  module _ (k : ℕ) (go : Term ml → Result) (last : Term ml → Term ml)
+      (ran : (r : Term ml) → Ran cap k (counted (nextClass e) made) r (go r) (last r)) where
     fits-ran : (r : Term ml) (b : Bool) → step e ≡ next r → leb (size r) cap ≡ b
         → Ran cap (suc k) made e (ifFits b made e r go) (cond b (last r) e)
     fits-ran r true q c = by-step q (leb-true (size r) cap c) (ran r)
@@ -55,7 +57,7 @@ module _ (cap : ℕ) (made : Counts) (e : Term ml) where
 pub run-ran : (k cap : ℕ) (made : Counts) (e : Term ml) → Ran cap k made e (run k cap made e) (lastTerm k cap e)
 unfolding run lastTerm
 run-ran zero cap made e = limit-ran cap made e (step e) refl
-run-ran (suc k) cap made e = decide-ran cap made e k _ _ (λ r. run-ran k cap (counted made) r) (step e) refl
+run-ran (suc k) cap made e = decide-ran cap made e k _ _ (λ r. run-ran k cap (counted (nextClass e) made) r) (step e) refl
 
 -- A value ends the run whatever steps are left.
 pub run-value : (k cap : ℕ) (made : Counts) (e : Term ml) → step e ≡ value → run k cap made e ≡ ended valued 0 made (words e) 0
@@ -65,7 +67,7 @@ run-value (suc k) cap made e q = rw q
 
 -- A step that fits is made: what the run's loop keeps.
 pub run-next : (k cap : ℕ) (made : Counts) (e r : Term ml) → step e ≡ next r → size r ≤ cap
-    → run (suc k) cap made e ≡ run k cap (counted made) r
+    → run (suc k) cap made e ≡ run k cap (counted (nextClass e) made) r
 unfolding run
 run-next k cap made e r q c = rw (q, le-leb (size r) cap c)
 

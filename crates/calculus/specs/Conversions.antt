@@ -10,8 +10,9 @@ use Rattle.calculus.specs.Words.{words, size, sizeTy}
 use Rattle.calculus.specs.Typing.{Typed}
 use Rattle.calculus.specs.Substitution.{shift}
 use Rattle.calculus.specs.Rules.{Value, lamV, numV, nilV, consV, _⟶_, Steps, Raises}
-use Rattle.calculus.specs.Run.{valued, error, ended}
-use Rattle.calculus.specs.Endings.{after, Ends}
+use Rattle.calculus.specs.Classes.{other}
+use Rattle.calculus.specs.Run.{valued, error, Counts, counted, ended}
+use Rattle.calculus.specs.Endings.{Ends}
 
 -- A type of data has no function type in it; what a lump seals may be any Scheme value.
 abbrev pub Data : Ty → Type 0
@@ -72,6 +73,10 @@ boundaries L = 2
 boundaries (list t) = suc (sizeTy (list t)) + boundaries t
 boundaries (t to u) = suc (sizeTy (t to u))
 
+-- Steps that are conversions, all of them.
+abbrev pub allConversions : ℕ → Counts
+allConversions n = record { steps = n; calls = 0; conversions = n; others = 0 }
+
 -- Some number of steps lead from the term to one that P holds of.
 abbrev pub Reaches : {l : Lang} → Term l → (Term l → Type 0) → Type 0
 Reaches {l} e P = (n : ℕ) × (r : Term l) × Steps n e r × P r
@@ -80,10 +85,10 @@ Reaches {l} e P = (n : ℕ) × (r : Term l) × Steps n e r × P r
 pub record Survives (t : Ty) : Type 0 where
   -- an ML value goes to Scheme and comes back
   pub ml-back : (v : Term ml) → Value ml v → Typed [] v t → Steps (crossing t v) (ms t (sm t v)) v
-  -- and so does every run that is lent the steps and the words
+  -- and so does every run that is lent the steps and the words, by conversions alone
   pub ml-run : (v : Term ml) → Value ml v → Typed [] v t → (limit cap : ℕ) → crossing t v ≤ limit
       → suc (sizeTy t) + boundaries t + size v ≤ cap
-      → Ends limit cap (ms t (sm t v)) (ended valued 0 (after (crossing t v)) (words v) 0)
+      → Ends limit cap (ms t (sm t v)) (ended valued 0 (allConversions (crossing t v)) (words v) 0)
   -- a Scheme value that fits goes to ML and comes back
   pub scheme-back : (v : Term sc) → Fits t v → Steps (crossing t v) (sm t (ms t v)) v
 
@@ -93,10 +98,10 @@ pub record Crosses (t : Ty) {v : Term sc} (h : Value sc v) : Type 0 where
   pub arrives : Fits t v ↔ Reaches (ms t v) (Value ml)
   -- an error is raised exactly if a part does not fit, with the first one's code
   pub fails : (c : ℕ) → (misfit t h ≡ some c) ↔ Reaches (ms t v) (Raises c)
-  -- and every run that is lent enough steps and words ends so
+  -- and every run that is lent enough steps and words ends so, by conversions and the error's own step
   pub error-run : (c : ℕ) → misfit t h ≡ some c
       → (n : ℕ) × (room : ℕ)
-      × ((limit cap : ℕ) → n < limit → room ≤ cap → Ends limit cap (ms t v) (ended error c (after (suc n)) [] 0))
+      × ((limit cap : ℕ) → n < limit → room ≤ cap → Ends limit cap (ms t v) (ended error c (counted other (allConversions n)) [] 0))
   -- there is no third way
   pub fits : Fits t v ↔ (misfit t h ≡ none)
   -- the codes at a type of data

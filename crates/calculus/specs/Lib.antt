@@ -1,4 +1,5 @@
--- Document 01 as definitions, in its order. What is promised of the code by them are the contracts in crates/demands/src/lib.rt: start there.
+-- Document 01 as definitions, in its order, and of document 02 what belongs to a run. What is promised of the code by them are the contracts in
+-- crates/demands/src/lib.rt: start there.
 pub mod Verdicts
 pub mod Trees
 pub mod Words
@@ -14,7 +15,9 @@ pub mod Substitution
 pub mod Rules
 pub mod Evaluation
 pub mod Splices
+pub mod Classes
 pub mod Run
+pub mod Counting
 pub mod Endings
 pub mod Conversions
 pub mod File

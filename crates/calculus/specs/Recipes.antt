@@ -1,11 +1,11 @@
 -- Document 01, "Recipes tried by hand": those with a star, and the small inputs of the table of refusals, from the file's bytes to the
--- result. proofs/Recipes.antt proves them all.
+-- result; and three recipes that tell classes of steps apart. proofs/Recipes.antt proves them all.
 use Prim.Native.Nat.{ℕ, _+_, _/_, _%_}
 use mathlib.Core.List.{List, [], _∷_, _++_}
 use mathlib.Core.Path.{_≡_}
 use lib.ListN.{length, replicate}
 use Rattle.calculus.specs.Verdicts.{refused, passed}
-use Rattle.calculus.specs.Run.{End, valued, spent, error, full, ended}
+use Rattle.calculus.specs.Run.{End, valued, spent, error, full, Counts, ended}
 use Rattle.calculus.specs.File.{operate}
 
 -- The bytes of words, the least byte first.
@@ -29,10 +29,13 @@ allowed k n = record { limit = k; room = n }
 abbrev pub plenty : Allowed
 plenty = allowed 1000000 4096
 
--- A file that is run, with what is lent, ends: with an end, a code, steps made, words left and words wanted.
-abbrev pub EndsAs : List ℕ → Allowed → End → ℕ → ℕ → List ℕ → ℕ → Type 0
-EndsAs file x end code steps left wanted =
-    operate (bytesOf file) (x .limit) (x .room) (x .room) ≡ passed (ended end code (record { steps = steps }) left wanted)
+-- Steps made, and how many of them are calls, conversions and others.
+abbrev pub counting : ℕ → ℕ → ℕ → ℕ → Counts
+counting n calls conversions others = record { steps = n; calls = calls; conversions = conversions; others = others }
+
+-- A file that is run, with what is lent, ends: with an end, a code, what was counted, words left and words wanted.
+abbrev pub EndsAs : List ℕ → Allowed → End → ℕ → Counts → List ℕ → ℕ → Type 0
+EndsAs file x end code made left wanted = operate (bytesOf file) (x .limit) (x .room) (x .room) ≡ passed (ended end code made left wanted)
 
 -- A file is refused, with a number and a place.
 abbrev pub Refuses : List ℕ → Allowed → ℕ → ℕ → Type 0
@@ -45,28 +48,36 @@ convertedWords = 19 ∷ 30 ∷ 4 ∷ 1 ∷ 1 ∷ 34 ∷ 32 ∷ 1809 ∷ []
 -- The recipes with a star.
 pub record Starred : Type 0 where
   -- add 2 3: value 5, 1 step; subtract 2 3: 0, 1; add 16,777,215 1: error 5, 2
-  pub sum : EndsAs (fileOf (1 ∷ []) (21 ∷ 529 ∷ 785 ∷ [])) plenty valued 0 1 (1297 ∷ []) 0
-  pub difference : EndsAs (fileOf (1 ∷ []) (22 ∷ 529 ∷ 785 ∷ [])) plenty valued 0 1 (17 ∷ []) 0
-  pub over : EndsAs (fileOf (1 ∷ []) (21 ∷ 4294967057 ∷ 273 ∷ [])) plenty error 5 2 [] 0
+  pub sum : EndsAs (fileOf (1 ∷ []) (21 ∷ 529 ∷ 785 ∷ [])) plenty valued 0 (counting 1 0 0 1) (1297 ∷ []) 0
+  pub difference : EndsAs (fileOf (1 ∷ []) (22 ∷ 529 ∷ 785 ∷ [])) plenty valued 0 (counting 1 0 0 1) (17 ∷ []) 0
+  pub over : EndsAs (fileOf (1 ∷ []) (21 ∷ 4294967057 ∷ 273 ∷ [])) plenty error 5 (counting 2 0 0 2) [] 0
   -- ms N (fn 0): error 1, 2 steps
-  pub no-number : EndsAs (fileOf (1 ∷ []) (30 ∷ 1 ∷ 34 ∷ 33 ∷ [])) plenty error 1 2 [] 0
+  pub no-number : EndsAs (fileOf (1 ∷ []) (30 ∷ 1 ∷ 34 ∷ 33 ∷ [])) plenty error 1 (counting 2 0 1 1) [] 0
   -- value 7, 5 steps; limit 4, spent; capacity 12 serves, 11 is full after 0 steps, wanting 12
-  pub function : EndsAs (fileOf (1 ∷ []) convertedWords) plenty valued 0 5 (1809 ∷ []) 0
-  pub function-spent : EndsAs (fileOf (1 ∷ []) convertedWords) (allowed 4 4096) spent 0 4 (30 ∷ 1 ∷ 1825 ∷ []) 0
-  pub function-served : EndsAs (fileOf (1 ∷ []) convertedWords) (allowed 1000000 12) valued 0 5 (1809 ∷ []) 0
-  pub function-full : EndsAs (fileOf (1 ∷ []) convertedWords) (allowed 1000000 11) full 0 0 convertedWords 12
+  pub function : EndsAs (fileOf (1 ∷ []) convertedWords) plenty valued 0 (counting 5 2 3 0) (1809 ∷ []) 0
+  pub function-spent : EndsAs (fileOf (1 ∷ []) convertedWords) (allowed 4 4096) spent 0 (counting 4 2 2 0) (30 ∷ 1 ∷ 1825 ∷ []) 0
+  pub function-served : EndsAs (fileOf (1 ∷ []) convertedWords) (allowed 1000000 12) valued 0 (counting 5 2 3 0) (1809 ∷ []) 0
+  pub function-full : EndsAs (fileOf (1 ∷ []) convertedWords) (allowed 1000000 11) full 0 (counting 0 0 0 0) convertedWords 12
   -- ms N (sm L (ms L 4)): 4, 2 steps
-  pub unsealed : EndsAs (fileOf (1 ∷ []) (30 ∷ 1 ∷ 45 ∷ 2 ∷ 30 ∷ 2 ∷ 1057 ∷ [])) plenty valued 0 2 (1041 ∷ []) 0
+  pub unsealed : EndsAs (fileOf (1 ∷ []) (30 ∷ 1 ∷ 45 ∷ 2 ∷ 30 ∷ 2 ∷ 1057 ∷ [])) plenty valued 0 (counting 2 0 2 0) (1041 ∷ []) 0
   -- ms L (fn v0), limit 0: value, 0 steps
-  pub sealed : EndsAs (fileOf (2 ∷ []) (30 ∷ 2 ∷ 34 ∷ 32 ∷ [])) (allowed 0 4096) valued 0 0 (30 ∷ 2 ∷ 34 ∷ 32 ∷ []) 0
+  pub sealed : EndsAs (fileOf (2 ∷ []) (30 ∷ 2 ∷ 34 ∷ 32 ∷ [])) (allowed 0 4096) valued 0 (counting 0 0 0 0) (30 ∷ 2 ∷ 34 ∷ 32 ∷ []) 0
   -- fix (fn N v0), under limit 3: spent with its own four words left
-  pub endless : EndsAs (fileOf (1 ∷ []) (20 ∷ 18 ∷ 1 ∷ 16 ∷ [])) (allowed 3 4096) spent 0 3 (20 ∷ 18 ∷ 1 ∷ 16 ∷ []) 0
+  pub endless : EndsAs (fileOf (1 ∷ []) (20 ∷ 18 ∷ 1 ∷ 16 ∷ [])) (allowed 3 4096) spent 0 (counting 3 3 0 0) (20 ∷ 18 ∷ 1 ∷ 16 ∷ []) 0
   -- ms {N} (cons 1 2): error 3, 4 steps; hd (nil N): error 4, 2
-  pub no-list : EndsAs (fileOf (3 ∷ 1 ∷ []) (30 ∷ 3 ∷ 1 ∷ 40 ∷ 289 ∷ 545 ∷ [])) plenty error 3 4 [] 0
-  pub hd-of-nil : EndsAs (fileOf (1 ∷ []) (26 ∷ 24 ∷ 1 ∷ [])) plenty error 4 2 [] 0
+  pub no-list : EndsAs (fileOf (3 ∷ 1 ∷ []) (30 ∷ 3 ∷ 1 ∷ 40 ∷ 289 ∷ 545 ∷ [])) plenty error 3 (counting 4 0 3 1) [] 0
+  pub hd-of-nil : EndsAs (fileOf (1 ∷ []) (26 ∷ 24 ∷ 1 ∷ [])) plenty error 4 (counting 2 0 0 2) [] 0
   -- ms N (if0 nil 1 2): 2, 2 steps; ms N (add (fn v0) (wrong 300)): error 300, 1 step
-  pub third : EndsAs (fileOf (1 ∷ []) (30 ∷ 1 ∷ 38 ∷ 39 ∷ 289 ∷ 545 ∷ [])) plenty valued 0 2 (529 ∷ []) 0
-  pub own-code : EndsAs (fileOf (1 ∷ []) (30 ∷ 1 ∷ 36 ∷ 34 ∷ 32 ∷ 76844 ∷ [])) plenty error 300 1 [] 0
+  pub third : EndsAs (fileOf (1 ∷ []) (30 ∷ 1 ∷ 38 ∷ 39 ∷ 289 ∷ 545 ∷ [])) plenty valued 0 (counting 2 0 1 1) (529 ∷ []) 0
+  pub own-code : EndsAs (fileOf (1 ∷ []) (30 ∷ 1 ∷ 36 ∷ 34 ∷ 32 ∷ 76844 ∷ [])) plenty error 300 (counting 1 0 0 1) [] 0
+
+-- Document 02, "Where the steps went", counts by the node and not by what it becomes: a call that makes wrong 2, a conversion that makes wrong 1, and
+-- an error's own step, an other under an ms too.
+pub record Classified : Type 0 where
+  -- ms N (1 applied to 2); ms N (nil); ms N (wrong 300)
+  pub failed-call : EndsAs (fileOf (1 ∷ []) (30 ∷ 1 ∷ 35 ∷ 289 ∷ 545 ∷ [])) plenty error 2 (counting 2 1 0 1) [] 0
+  pub failed-conversion : EndsAs (fileOf (1 ∷ []) (30 ∷ 1 ∷ 39 ∷ [])) plenty error 1 (counting 2 0 1 1) [] 0
+  pub own-step : EndsAs (fileOf (1 ∷ []) (30 ∷ 1 ∷ 76844 ∷ [])) plenty error 300 (counting 1 0 0 1) [] 0
 
 -- The small inputs of the table of refusals, fn N (ms N v0) with Scheme v0, and "3 before 4 at a word".
 pub record Refused : Type 0 where

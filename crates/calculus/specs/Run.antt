@@ -1,11 +1,12 @@
 -- Document 01, "A run and its ends": reducing a term under a limit of steps and a capacity of words.
-use Prim.Native.Nat.{ℕ, zero, suc, min}
+use Prim.Native.Nat.{ℕ, zero, suc, _+_, min}
 use mathlib.Core.Bool.{Bool, true, false}
 use mathlib.Core.List.{List, []}
 use lib.Dec.{leb}
 use Rattle.calculus.specs.Trees.{ml, Term}
 use Rattle.calculus.specs.Words.{words, size}
 use Rattle.calculus.specs.Reduction.{Outcome, value, raised, next, stuck, step}
+use Rattle.calculus.specs.Classes.{Class, call, conversion, other, nextClass, indicator}
 
 pub data End : Type 0 where
   valued spent error full : End
@@ -17,15 +18,25 @@ Final spent = ⊥
 Final error = Unit {0}
 Final full = ⊥
 
--- What a run counts: the steps that it makes.
+-- What a run counts: the steps that it makes; and how many of them, by document 02, are calls, conversions and others.
 pub record Counts : Type 0 where
   pub steps : ℕ
+  pub calls : ℕ
+  pub conversions : ℕ
+  pub others : ℕ
 
 abbrev pub uncounted : Counts
-uncounted = record { steps = 0 }
+uncounted = record { steps = 0; calls = 0; conversions = 0; others = 0 }
 
-abbrev pub counted : Counts → Counts
-counted made = record { steps = suc (made .steps) }
+-- One step more, of a class.
+abbrev pub counted : Class → Counts → Counts
+counted x made =
+    record {
+      steps = made .steps + 1;
+      calls = made .calls + indicator call x;
+      conversions = made .conversions + indicator conversion x;
+      others = made .others + indicator other x;
+    }
 
 -- "The result: end, code (0 unless error), steps made, words left, words wanted (the next term's, for full; else 0)": of the words left,
 -- the words themselves.
@@ -51,17 +62,17 @@ abbrev pub ifFits : Bool → Counts → Term ml → Term ml → (Term ml → Res
 ifFits true made e r go = go r
 ifFits false made e r go = ended full 0 made (words e) (size r)
 
--- "a wrong whose turn it is, as error": "in one step of its own"; "after error words left is 0".
+-- "a wrong whose turn it is, as error": "in one step of its own", which is among the others; "after error words left is 0".
 abbrev pub decide : Outcome ml → Counts → ℕ → Term ml → (Term ml → Result) → Result
 decide value made cap e go = ended valued 0 made (words e) 0
-decide (raised c) made cap e go = ended error c (counted made) [] 0
+decide (raised c) made cap e go = ended error c (counted other made) [] 0
 decide (next r) made cap e go = ifFits (leb (size r) cap) made e r go
 decide stuck made cap e go = ended spent 0 made (words e) 0
 
 -- The term e, with k steps left; `made` were counted so far.
 unfoldable pub run : ℕ → ℕ → Counts → Term ml → Result
 run zero cap made e = ended (atLimit (step e)) 0 made (words e) 0
-run (suc k) cap made e = decide (step e) made cap e (λ r. run k cap (counted made) r)
+run (suc k) cap made e = decide (step e) made cap e (λ r. run k cap (counted (nextClass e) made) r)
 
 -- "Capacity is the shorter length, at most 16,384."
 abbrev pub capacity : ℕ → ℕ → ℕ
