@@ -1,5 +1,5 @@
 -- The loop's invariant: the run of the term it started with is the run of the term at hand, with the steps that are left. Assumes nothing.
-use Prim.Native.Nat.{ℕ, _+_, _*_, _-_, _≤_}
+use Prim.Native.Nat.{ℕ, _+_, _*_, _-_, _≤_, _<_}
 use mathlib.Core.Bool.{Bool, true, false, not}
 use mathlib.Core.List.{List, []}
 use mathlib.Core.Path.{_≡_, refl, sym, ap, _∙_, subst}
@@ -11,8 +11,10 @@ use Rattle.calculus.specs.Trees.{ml, Term}
 use Rattle.calculus.specs.Words.{words, size}
 use Rattle.calculus.specs.Kinds.{term}
 use Rattle.calculus.specs.Reduction.{Outcome, next, step}
+use Rattle.calculus.specs.Classes.{Class, wordClass, nextClass}
 use Rattle.calculus.specs.Run as spec
 use Rattle.calculus.proofs.Sizes.{tree-length}
+use Rattle.calculus.proofs.Counting.{adds-up-more}
 use Rattle.calculus.proofs.Soundness.{Kept, sound}
 use Rattle.calculus.proofs.Ranges.{OutcomeInRange, step-in-range}
 use Rattle.reducer.specs.declared.turns.From.{From}
@@ -21,7 +23,7 @@ use Rattle.reducer.specs.declared.steps.Move.{Move}
 use Rattle.reducer.specs.Standing.{root, Standing}
 use Rattle.reducer.specs.Placed.{beginning}
 use Rattle.reducer.specs.Moves.{Few}
-use Rattle.engine.specs.declared.ends.Counts.{Counts}
+use Rattle.engine.specs.declared.counts.Counts.{Counts}
 use Rattle.engine.specs.declared.ends.Report.{Report}
 use Rattle.engine.specs.declared.ends.Choice.the-variants.{Stop, Go}
 use Rattle.engine.specs.declared.reductions.Halt.{Halt}
@@ -29,7 +31,8 @@ use Rattle.calculus.specs.File.{padded}
 use Rattle.engine.specs.Buffered.{Room, held, Settled}
 use Rattle.engine.specs.Decided.{decide}
 use Rattle.engine.specs.Ran.{Good, Advanced, Ran, Reduced}
-use Rattle.engine.specs.Results.{lineOf, countsOf, told}
+use Rattle.engine.specs.Counting.{countsOf, counted, UpTo}
+use Rattle.engine.specs.Results.{lineOf, told}
 use Rattle.engine.proofs.Bridge.{moved}
 use Rattle.engine.proofs.Moving.{Moved, run-by, stops, goes, go-fits, end-short}
 
@@ -58,19 +61,24 @@ pub record Running (first₀ second₀ : List ℕ) (count cap limit : ℕ) (firs
   pub first-length : length first ≡ length first₀
   pub second-length : length second ≡ length second₀
   pub room : n ≤ cap
-  pub left : made .steps ≤ limit
+  pub counted-so : UpTo limit made
   pub at : (e : Term ml) → take count first₀ ≡ words e → Good e
       → At (spec.run limit cap spec.uncounted e) limit cap made n from (held front first second)
   pub few : from .due ≤ 1 + 3 * from .place
 
+-- One step more, of any class.
+up-to-more : {limit : ℕ} {made more : Counts} (x : Class) → UpTo limit made → made .steps < limit → more ≡ counted x made → UpTo limit more
+up-to-more {limit} {made} x u h q =
+    subst (UpTo limit) (sym q) (record { most = omega (arith, h); adds-up = adds-up-more x (countsOf made) (u .adds-up) })
+
 pub running-start : (first second : List ℕ) (count cap limit : ℕ) → count ≤ cap
-    → Running first second count cap limit first second count (record { steps = 0 }) true beginning
+    → Running first second count cap limit first second count (record { steps = 0; calls = 0; conversions = 0; others = 0 }) true beginning
 running-start first second count cap limit h =
     record {
       first-length = refl;
       second-length = refl;
       room = h;
-      left = omega arith;
+      counted-so = record { most = omega arith; adds-up = refl };
       at = λ e q g.
           record {
             term = e;
@@ -104,30 +112,31 @@ module _ {first₀ second₀ first second first′ second′ : List ℕ} {count 
     size-of : n ≡ length (words (a .term))
     size-of = sym (length-take-le n (held front first second) held-long) ∙ ap length (a .words-are)
 
-    outcome : Moved (step (a .term)) (held (not front) first second) r (held (not front) first′ second′)
+    outcome : Moved (nextClass (a .term)) (step (a .term)) (held (not front) first second) r (held (not front) first′ second′)
     outcome = moved (s .stepped) (a .term) (a .words-are) (a .standing)
 
     at-next : (y : Change) (more : Counts) → decide r n cap made limit ≡ Go y more
         → At whole limit cap more (y .size) (y .back) (held (not front) first′ second′)
     at-next y more q =
-        let g = goes (a .term) n cap limit made size-of (i .left) (limit - made .steps) (step (a .term)) _ _ r y more refl outcome q in
+        let g = goes (a .term) n cap limit made size-of (i .counted-so .most) (limit - made .steps) (step (a .term)) _ _ r y more refl outcome q in
         let u = g .term in
-        let f = go-fits n cap limit made (i .left) r y more q in
-        let l : y .size ≡ length (words u) = g .size-is ∙ sym (size-words u) in
+        let f = go-fits n cap limit made (i .counted-so .most) r y more q in
+        let l : y .size ≡ length (words u) = g .by-change .size-is ∙ sym (size-words u) in
         record {
           term = u;
           good = good-next (a .term) u (a .good) (g .outcome-is);
-          words-are = ap (take (y .size)) (g .put ∙ sets-eq (words u) (held (not front) first second) 0 (omega (arith, other-long, f .1, l)))
+          words-are =
+              ap (take (y .size)) (g .by-change .put ∙ sets-eq (words u) (held (not front) first second) 0 (omega (arith, other-long, f .1, l)))
               ∙ take-at (words u) (drop (0 + length (words u)) (held (not front) first second)) (y .size) (sym l);
           same = a .same ∙ run-by (limit - made .steps) cap (countsOf made) (a .term) ∙ g .same
               ∙ ap (λ (c : Counts). spec.run (limit - c .steps) cap (countsOf c) u) (sym (g .counted-is));
-          standing = g .standing;
+          standing = g .by-change .standing;
         }
 
     at-end : (x : Report) → decide r n cap made limit ≡ Stop x
         → (told x ≡ lineOf whole) × (take (x .left) (held front first′ second′) ≡ whole .left)
     at-end x q =
-        let f = stops (a .term) n cap limit made size-of (i .left) (limit - made .steps) (step (a .term)) _ _ r x refl outcome q in
+        let f = stops (a .term) n cap limit made size-of (i .counted-so .most) (limit - made .steps) (step (a .term)) _ _ r x refl outcome q in
         let w = sym (a .same ∙ run-by (limit - made .steps) cap (countsOf made) (a .term)) in
         let h = f .short in
         let k : x .left ≤ n = omega (arith, size-of) in (
@@ -139,12 +148,12 @@ module _ {first₀ second₀ first second first′ second′ : List ℕ} {count 
   pub running-next : (y : Change) (more : Counts) → decide r n cap made limit ≡ Go y more → length first′ ≡ length first
       → length second′ ≡ length second → Running first₀ second₀ count cap limit first′ second′ (y .size) more (not front) (y .back)
   running-next y more q p o =
-      let f = go-fits n cap limit made (i .left) r y more q in
+      let f = go-fits n cap limit made (i .counted-so .most) r y more q in
       record {
         first-length = p ∙ i .first-length;
         second-length = o ∙ i .second-length;
         room = f .1;
-        left = omega (arith, f .2, f .3);
+        counted-so = up-to-more (wordClass (y .word)) (i .counted-so) (f .2) (f .3);
         at = λ e w g. at-next (i .at e w g) y more q;
         few = subst Few (f .0) (s .few);
       }
@@ -153,7 +162,7 @@ module _ {first₀ second₀ first second first′ second′ : List ℕ} {count 
       → Ran limit cap (take count first₀) (record { report = x; front = front }) first′ second′
   running-end x q =
       record {
-        short = omega (arith, end-short n cap limit made (i .left) r x q, i .room);
+        short = omega (arith, end-short n cap limit made (i .counted-so .most) r x q, i .room);
         of = λ e w g. let a = at-end (i .at e w g) x q in record { told-is = a .0; left-is = a .1 };
       }
 

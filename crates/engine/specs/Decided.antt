@@ -1,32 +1,31 @@
 -- What follows a move of the term at hand, in the order of document 01: value, spent, error, full, or the step is made.
-use Prim.Native.Nat.{ℕ, _+_}
+use Prim.Native.Nat.{ℕ}
 use mathlib.Core.Bool.{cond}
 use lib.Dec.{eqb, leb}
+use Rattle.calculus.specs.Classes.{other, wordClass}
 use Rattle.reducer.specs.declared.steps.Change.{Change}
 use Rattle.reducer.specs.declared.steps.Move.{Move}
 use Rattle.reducer.specs.declared.steps.Move.the-variants as m
-use Rattle.engine.specs.declared.ends.Counts.{Counts}
+use Rattle.engine.specs.declared.counts.Counts.{Counts}
 use Rattle.engine.specs.declared.ends.End.{End}
 use Rattle.engine.specs.declared.ends.End.the-variants as e
 use Rattle.engine.specs.declared.ends.Choice.{Choice}
 use Rattle.engine.specs.declared.ends.Choice.the-variants.{Stop, Go}
+use Rattle.engine.specs.Counting.{counted}
 
 abbrev pub stop : End → ℕ → Counts → ℕ → ℕ → Choice
 stop x code made n wanted = Stop (record { end = x; code = code; made = made; left = n; wanted = wanted })
 
--- One step more.
-abbrev pub counted : Counts → Counts
-counted made = record { steps = made .steps + 1 }
-
--- "steps made equal to the limit, as spent; a wrong whose turn it is, as error".
+-- "steps made equal to the limit, as spent; a wrong whose turn it is, as error"; "the error step too" is among the others.
 abbrev pub raise : ℕ → ℕ → Counts → ℕ → Choice
-raise c n made limit = cond (eqb (made .steps) limit) (stop e.Spent 0 made n 0) (stop e.Error c (counted made) 0 0)
+raise c n made limit = cond (eqb (made .steps) limit) (stop e.Spent 0 made n 0) (stop e.Error c (counted other made) 0 0)
 
--- "steps made equal to the limit, as spent; a next term of more words than capacity, as full; else the step is made".
+-- "steps made equal to the limit, as spent; a next term of more words than capacity, as full; else the step is made", and is counted by the word
+-- of the node that it reduces.
 abbrev pub go : Change → ℕ → ℕ → Counts → ℕ → Choice
 go x n cap made limit =
     cond (eqb (made .steps) limit) (stop e.Spent 0 made n 0)
-    (cond (leb (x .size) cap) (Go x (counted made)) (stop e.Full 0 made n (x .size)))
+    (cond (leb (x .size) cap) (Go x (counted (wordClass (x .word)) made)) (stop e.Full 0 made n (x .size)))
 
 -- "a value ends as value", and the rest in its order. No accepted recipe comes to a term that is stuck.
 abbrev pub decide : Move → ℕ → ℕ → Counts → ℕ → Choice

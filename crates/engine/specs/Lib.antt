@@ -1,4 +1,5 @@
 pub mod Buffered
+pub mod Counting
 pub mod Decided
 pub mod Results
 pub mod Lent

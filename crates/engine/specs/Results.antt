@@ -2,12 +2,12 @@
 use Prim.Native.Nat.{ℕ}
 use lib.ListN.{length}
 use Rattle.calculus.specs.Run as spec
-use Rattle.engine.specs.declared.ends.Counts.{Counts}
 use Rattle.engine.specs.declared.ends.End.{End}
 use Rattle.engine.specs.declared.ends.End.the-variants.{Value, Spent, Error, Full}
 use Rattle.engine.specs.declared.ends.Report.{Report}
+use Rattle.engine.specs.Counting.{countsOf}
 
--- "The result: end, code, steps made, words left, words wanted", as numbers.
+-- "The result: end, code, steps made, words left, words wanted", as numbers; "The result gains three counts: calls, conversions, others".
 pub record Line : Type 0 where
   pub end : spec.End
   pub code : ℕ
@@ -24,9 +24,6 @@ endOf Value = spec.valued
 endOf Spent = spec.spent
 endOf Error = spec.error
 endOf Full = spec.full
-
-abbrev pub countsOf : Counts → spec.Counts
-countsOf made = record { steps = made .steps }
 
 abbrev pub told : Report → Line
 told x = record { end = endOf (x .end); code = x .code; made = countsOf (x .made); left = x .left; wanted = x .wanted }

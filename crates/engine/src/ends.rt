@@ -1,12 +1,16 @@
 // The ends of a run, in the order in which document 01 tests them.
 
+use crate::counts::Class;
+use crate::counts::Counts;
+use crate::counts::counted;
+use crate::counts::word_class;
 use reducer::steps::Change;
 use reducer::steps::Move;
 ghost use mathlib.Core.Path.{_≡_};
-ghost use Prim.Native.Nat.{_≤_, _<_};
 ghost use Rattle.calculus.specs.Run.{capacity};
 ghost use Rattle.engine.specs.Results.{endNumber};
-ghost use Rattle.engine.specs.Decided.{stop, counted, raise, go, decide};
+ghost use Rattle.engine.specs.Counting.{UpTo};
+ghost use Rattle.engine.specs.Decided.{stop, raise, go, decide};
 
 pub enum End {
     Value,
@@ -27,11 +31,6 @@ pub fn number(e: End) -> u32
     }
 }
 
-// What a run counts: the steps made.
-pub struct Counts {
-    pub steps: u32,
-}
-
 // The result of a run; `left` is how many words are left.
 pub struct Report {
     pub end: End,
@@ -47,15 +46,6 @@ pub enum Choice {
     Go(Change, Counts),
 }
 
-// One step more, where the limit is not reached.
-fn counted(made: Counts, limit: u32) -> Counts
-    requires { ⌜ made .steps < limit ⌝ }
-    ensures { λ r. ⌜ r ≡ counted made ⌝ }
-{
-    let more = made.steps + 1;
-    Counts { steps: more }
-}
-
 // The run ends, with so many words left.
 fn stop(end: End, code: u32, made: Counts, left: usize, wanted: usize) -> Choice
     ensures { λ r. ⌜ r ≡ stop end code made left wanted ⌝ }
@@ -69,28 +59,28 @@ fn stop(end: End, code: u32, made: Counts, left: usize, wanted: usize) -> Choice
     })
 }
 
-// "steps made equal to the limit, as spent; a wrong whose turn it is, as error": in one step of its own.
+// "steps made equal to the limit, as spent; a wrong whose turn it is, as error": in one step of its own, which is among the others.
 fn raise(code: u32, made: Counts, left: usize, limit: u32) -> Choice
-    requires { ⌜ made .steps ≤ limit ⌝ }
+    requires { ⌜ UpTo limit made ⌝ }
     ensures { λ r. ⌜ r ≡ raise code left made limit ⌝ }
 {
     if made.steps == limit {
         return stop(End::Spent, 0, made, left, 0);
     }
-    let more = counted(made, limit);
+    let more = counted(Class::Other, made, limit);
     stop(End::Error, code, more, 0, 0)
 }
 
 // "steps made equal to the limit, as spent; a next term of more words than capacity, as full; else the step is made".
 fn go(change: Change, made: Counts, n: usize, cap: usize, limit: u32) -> Choice
-    requires { ⌜ made .steps ≤ limit ⌝ }
+    requires { ⌜ UpTo limit made ⌝ }
     ensures { λ r. ⌜ r ≡ go change n cap made limit ⌝ }
 {
     if limit == made.steps {
         return stop(End::Spent, 0, made, n, 0);
     }
     if change.size <= cap {
-        let more = counted(made, limit);
+        let more = counted(word_class(change.word), made, limit);
         return Choice::Go(change, more);
     }
     stop(End::Full, 0, made, n, change.size)
@@ -98,7 +88,7 @@ fn go(change: Change, made: Counts, n: usize, cap: usize, limit: u32) -> Choice
 
 // "a value ends as value", and the rest in its order: what follows a move of the term of n words.
 pub fn decide(moved: Move, n: usize, cap: usize, made: Counts, limit: u32) -> Choice
-    requires { ⌜ made .steps ≤ limit ⌝ }
+    requires { ⌜ UpTo limit made ⌝ }
     ensures { λ r. ⌜ r ≡ decide moved n cap made limit ⌝ }
 {
     match moved {

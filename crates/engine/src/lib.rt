@@ -1,6 +1,7 @@
 // The engine: a file is read, checked and run to an end.
 
 pub mod buffers;
+pub mod counts;
 pub mod ends;
 pub mod reductions;
 pub mod runs;

@@ -1,7 +1,7 @@
 // The loop: a term is reduced, step by step, until its run ends. The two buffers hold the term by turns, and a flag says whether the first has it.
 
+use crate::counts::Counts;
 use crate::ends::Choice;
-use crate::ends::Counts;
 use crate::ends::Report;
 use crate::ends::decide;
 use nodes::kinds::Kinds;
@@ -54,7 +54,12 @@ fn run_term(
     ensures { λ r. ⌜ Ran limit cap (take count (now (first .entry))) r (now (first .exit)) (now (second .exit)) ⌝ }
 {
     let mut n = count;
-    let mut made = Counts { steps: 0 };
+    let mut made = Counts {
+        steps: 0,
+        calls: 0,
+        conversions: 0,
+        others: 0,
+    };
     let mut front = true;
     let mut from = From { place: 0, due: 1 };
     loop {

@@ -1,8 +1,10 @@
 -- `engine::ends::go` meets its contract. Assumes nothing.
 use borrow.Author.Needs.{needs}
 use borrow.Author.Tests.{eq-eqb, ne-eqb, le-leb, lt-leb}
-use mathlib.Core.Path.{sym, ap}
+use mathlib.Core.Path.{sym, ap, _∙_}
 use native.Mathlib.Omega.{arith}
+use Rattle.calculus.specs.Classes.{Class}
+use Rattle.engine.specs.Counting.{counted}
 use Rattle.engine.specs.declared.ends.Choice.the-variants.{Go}
 use Rattle.engine.proofs.ends.go.Statement.{statement}
 use Rattle.engine.proofs.ends.go.Tie as tie
@@ -13,15 +15,19 @@ stop-requires c κs = search needs
 returns : tie.Need-returns
 returns c = let a = c .before .before .before .args in rw (eq-eqb (a .made .steps) (a .limit) (sym (c .before .if1 .taken))) (c .stop .ensures)
 
+word-class-requires : tie.Need-word-class-requires
+word-class-requires c κs = search needs
+
 counted-requires : tie.Need-counted-requires
 counted-requires c κs = search needs
 
 returns-2 : tie.Need-returns-2
 returns-2 c =
-    let else1 = c .before .before .before in
+    let then2 = c .before .before in
+    let else1 = then2 .before .before in
     let a = else1 .before .before .args in
-    rw (ne-eqb (a .made .steps) (a .limit) (λ e. else1 .if1 .left (sym e)), le-leb (a .change .size) (a .cap) (omega (arith, c .before .if2 .taken)))
-    (ap (Go (a .change)) (c .counted .ensures))
+    rw (ne-eqb (a .made .steps) (a .limit) (λ e. else1 .if1 .left (sym e)), le-leb (a .change .size) (a .cap) (omega (arith, then2 .if2 .taken)))
+    (ap (Go (a .change)) (c .counted .ensures ∙ ap (λ (x : Class). counted x (a .made)) (c .before .word-class .ensures)))
 
 stop-requires-2 : tie.Need-stop-requires-2
 stop-requires-2 c κs = search needs
@@ -34,4 +40,4 @@ returns-3 c =
     (c .stop2 .ensures)
 
 pub go-spec : {M : Type 1} → statement M
-go-spec = tie.close (tie.spec stop-requires returns counted-requires returns-2 stop-requires-2 returns-3)
+go-spec = tie.close (tie.spec stop-requires returns word-class-requires counted-requires returns-2 stop-requires-2 returns-3)

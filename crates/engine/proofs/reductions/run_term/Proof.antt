@@ -1,8 +1,9 @@
 -- `engine::reductions::run_term` meets its contract: the loop's invariant is Looping.Running. Assumes nothing.
 use Prim.Native.Nat.{_-_}
-use mathlib.Core.Path.{sym, _∙_}
+use mathlib.Core.Path.{sym, ap, _∙_}
 use native.Mathlib.Omega.{arith}
 use borrow.Author.Needs.{needs}
+use Rattle.engine.specs.declared.counts.Counts.{Counts}
 use Rattle.engine.proofs.Moving.{go-fits}
 use Rattle.engine.proofs.Looping.{Running, running-start, running-next, running-end}
 use Rattle.engine.proofs.reductions.run_term.Statement.{statement}
@@ -49,7 +50,7 @@ advance-requires c κs =
 decide-requires : tie.Need-decide-requires Inv-loop μ-loop
 decide-requires c κs =
     let after-advance = c .before .before .before .before in
-    after-advance .before .before .before .loop .inv .left
+    after-advance .before .before .before .loop .inv .counted-so
 
 enum-known-report : tie.Need-enum-known-report Inv-loop μ-loop
 enum-known-report c = search needs
@@ -80,9 +81,9 @@ loop-less c =
     let g = c .before .before .change .given in
     let l = at-loop d .loop in
     let s = start d .args in
-    let f = go-fits (l .n) (s .cap) (s .limit) (l .made) (l .inv .left) (after-advance d .advance .result) (g .0 .0) (g .0 .1 .0)
+    let f = go-fits (l .n) (s .cap) (s .limit) (l .made) (l .inv .counted-so .most) (after-advance d .advance .result) (g .0 .0) (g .0 .1 .0)
     (sym (d .decide .ensures) ∙ g .1) in
-    omega (arith, f .2, f .3)
+    omega (arith, f .2, ap (λ (m : Counts). m .steps) (f .3))
 
 loop-again : tie.Need-loop-again Inv-loop μ-loop
 loop-again c =
