@@ -11,13 +11,14 @@ use Rattle.calculus.specs.Trees.{Ty, ml, Term}
 use Rattle.calculus.specs.Words.{size}
 use Rattle.calculus.specs.Verdicts.{Verdict, refused, passed, andThen}
 use Rattle.calculus.specs.Run as spec
+use Rattle.calculus.specs.Counting.{Counted}
 use Rattle.calculus.specs.Endings.{Ending}
 use Rattle.calculus.specs.File.{Recipe, check, runIn, operate, padded, leftBy}
 use Rattle.calculus.specs.Accepted.{Accepted}
 use Rattle.calculus.proofs.Verdicts.{not-both, passed-injective}
 use Rattle.calculus.proofs.Checks.{check-iff, operate-iff}
 use Rattle.calculus.proofs.Bounds.{operate-bounded}
-use Rattle.calculus.proofs.Endings.{ends-iff, ending}
+use Rattle.calculus.proofs.Endings.{ends-iff, ending, ends-counted}
 use Rattle.calculus.proofs.Refusing.{Numbered, number-in-table}
 use Rattle.calculus.proofs.Demands.{demand-3}
 use Rattle.nodes.specs.declared.refusals.Refusal.{Refusal}
@@ -65,15 +66,16 @@ ended-by : (a : Answer) (y : Line) → spoken a ≡ passed y → (x : Report) ×
 ended-by (Refused x) y q = absurd (not-both (numberOf x) (placeOf x) y q)
 ended-by (Ended x) y q = (x, refl, passed-injective (told x) y q)
 
-reduce : (l : Lent) (g : Returned) (e : Term ml) (x : Ending (l .limit) (room l) e)
+reduce : (l : Lent) (g : Returned) (e : Term ml) (x : Ending (l .limit) (room l) e) → Counted e (x .result .end) (x .result .made)
     → operate (l .bytes) (l .limit) (length (l .first)) (length (l .second)) ≡ passed (x .result) → Promised l g → Reduces l g e
-reduce l g e x o h =
+reduce l g e x c o h =
     let b = ended-by (g .answer) (lineOf (x .result)) (h .answer-is ∙ ap (λ (v : Verdict spec.Result). andThen v (λ y. passed (lineOf y))) o) in
     record {
       by-rules = x;
       report = b .0;
       ended = b .1;
       numbers = b .2;
+      counts = subst (λ (y : Line). Counted e (y .end) (y .made)) (sym (b .2)) c;
       first = h .first-is ∙ ap (λ (v : Verdict spec.Result). padded (length (l .first)) (leftBy v)) o;
       second = h .second-is;
     }
@@ -168,7 +170,8 @@ reduces-of : (l : Lent) (g : Returned) → Promised l g → (τ : Ty) (e : Term 
 reduces-of l g h τ e a s =
     let x = ending (l .limit) (room l) e τ (a .typed) in
     let q = ends-iff (l .limit) (room l) e τ (a .typed) (x .result) .0 (x .ends) in
-    reduce l g e x (operate-iff (l .bytes) (l .limit) (length (l .first)) (length (l .second)) (x .result) .1 (τ, e, a, s, sym q)) h
+    reduce l g e x (ends-counted (l .limit) (room l) e τ (a .typed) (x .result) (x .ends))
+    (operate-iff (l .bytes) (l .limit) (length (l .first)) (length (l .second)) (x .result) .1 (τ, e, a, s, sym q)) h
 
 exact-of : (l : Lent) (g : Returned) → Promised l g → Exact l g
 exact-of l g h =

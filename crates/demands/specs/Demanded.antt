@@ -8,6 +8,7 @@ use Rattle.calculus.specs.Trees.{Ty, ml, Term}
 use Rattle.calculus.specs.Words.{size}
 use Rattle.calculus.specs.Verdicts.{refused}
 use Rattle.calculus.specs.Run.{Final}
+use Rattle.calculus.specs.Counting.{Counted}
 use Rattle.calculus.specs.Endings.{Ending}
 use Rattle.calculus.specs.File.{check, padded}
 use Rattle.calculus.specs.Accepted.{Accepted}
@@ -20,6 +21,7 @@ use Rattle.checker.specs.declared.Checked.the-variants as checked
 use Rattle.engine.specs.declared.ends.Report.{Report}
 use Rattle.engine.specs.declared.runs.Answer.{Answer}
 use Rattle.engine.specs.declared.runs.Answer.the-variants.{Refused, Ended}
+use Rattle.engine.specs.Counting.{countsOf}
 use Rattle.engine.specs.Results.{lineOf, endOf, told}
 use Rattle.engine.specs.Lent.{Lent, Returned, room}
 
@@ -41,12 +43,14 @@ pub record Checks (bytes : List ℕ) (r : Checked) : Type 0 where
   pub seven : (x : Refusal) → r ≡ checked.Refused x → (1 ≤ numberOf x) × (numberOf x ≤ 7)
 
 -- "The end of a run, its code, its count of steps and the words it leaves are exactly those of the published reductions, taken in their order
--- of evaluation under the limits lent": those of the term's one ending by `⟶`.
+-- of evaluation under the limits lent": those of the term's one ending by `⟶`. Document 02: "For every run the three add up to the steps made, each
+-- equal to a count over the reduction."
 pub record Reduces (l : Lent) (g : Returned) (e : Term ml) : Type 0 where
   pub by-rules : Ending (l .limit) (room l) e
   pub report : Report
   pub ended : g .answer ≡ Ended report
   pub numbers : told report ≡ lineOf (by-rules .result)
+  pub counts : Counted e (endOf (report .end)) (countsOf (report .made))
   pub first : g .first ≡ padded (length (l .first)) (by-rules .result .left)
   pub second : g .second ≡ padded (length (l .second)) []
 
@@ -79,7 +83,8 @@ pub record Once (l : Lent) (g : Returned) : Type 0 where
   pub finishes : Finishes l g
   pub exact : Exact l g
 
--- "the second gives the same end, the same code, the same count of steps and the same words": as the first, which reports x.
+-- "the second gives the same end, the same code, the same count of steps and the same words": as the first, which reports x. The count of steps is
+-- that of all, of calls, of conversions and of others.
 pub record Same (x : Report) (g h : Returned) : Type 0 where
   pub report : Report
   pub ended : h .answer ≡ Ended report

@@ -16,7 +16,8 @@ checkNumber (passed x) = 0
 
 -- After a refusal every other number is 0.
 abbrev pub refusedNumbers : ℕ → ℕ → RecipeRun
-refusedNumbers n p = record { refusal = n; place = p; end = 0; code = 0; steps = 0; left = 0; wanted = 0 }
+refusedNumbers n p =
+    record { refusal = n; place = p; end = 0; code = 0; steps = 0; left = 0; wanted = 0; calls = 0; conversions = 0; others = 0 }
 
 abbrev pub lineNumbers : Line → RecipeRun
 lineNumbers x =
@@ -28,6 +29,9 @@ lineNumbers x =
       steps = x .made .steps;
       left = x .left;
       wanted = x .wanted;
+      calls = x .made .calls;
+      conversions = x .made .conversions;
+      others = x .made .others;
     }
 
 abbrev pub endedNumbers : Report → RecipeRun

@@ -20,6 +20,9 @@ pub struct RecipeRun {
     pub steps: u32,
     pub left: u32,
     pub wanted: u32,
+    pub calls: u32,
+    pub conversions: u32,
+    pub others: u32,
 }
 
 fn narrow(n: usize) -> u32
@@ -42,6 +45,9 @@ fn refused_by(r: Refusal) -> RecipeRun
         steps: 0,
         left: 0,
         wanted: 0,
+        calls: 0,
+        conversions: 0,
+        others: 0,
     }
 }
 
@@ -59,6 +65,9 @@ fn ended(x: Report) -> RecipeRun
         steps: made.steps,
         left: narrow(x.left),
         wanted: narrow(x.wanted),
+        calls: made.calls,
+        conversions: made.conversions,
+        others: made.others,
     }
 }
 

@@ -1,5 +1,6 @@
 -- Document 01, the listing: "prints end name, code, steps, words left, words wanted on one line, then the term's words on the next, or an empty
--- line. A refusal prints `refused`, number, place on one line and no other line."
+-- line. A refusal prints `refused`, number, place on one line and no other line." Document 02: "The listing's first line ends with the three":
+-- calls, conversions, others.
 use Prim.Native.Nat.{ℕ}
 use mathlib.Core.List.{List, [], _∷_, _++_}
 use mathlib.Core.Path.{_≡_}
@@ -42,20 +43,23 @@ endName full = characters "full"
 abbrev pub line : List ℕ → List ℕ → List ℕ
 line name ns = name ++ fields ns ++ lineFeed ∷ []
 
+-- The numbers of the first line: code, steps, words left, words wanted; calls, conversions, others.
+abbrev pub firstNumbers : Result → List ℕ
+firstNumbers r = let m = r .made in r .code ∷ m .steps ∷ length (r .left) ∷ r .wanted ∷ m .calls ∷ m .conversions ∷ m .others ∷ []
+
 -- The text of a refusal, and of a run's result.
 abbrev pub textOf : Verdict Result → List ℕ
 textOf (refused n p) = line (characters "refused") (n ∷ p ∷ [])
-textOf (passed r) =
-    line (endName (r .end)) (r .code ∷ r .made .steps ∷ length (r .left) ∷ r .wanted ∷ []) ++ wordsLine (r .left) ++ lineFeed ∷ []
+textOf (passed r) = line (endName (r .end)) (firstNumbers r) ++ wordsLine (r .left) ++ lineFeed ∷ []
 
 -- "The listing program reads a file .., lends 1,000,000 steps and 4,096 words": 4,096 for each buffer.
 unfoldable pub listing : List ℕ → List ℕ
 listing bytes = textOf (operate bytes 1000000 4096 4096)
 
--- "For add 2 3, file 1 4 3 5 1 21 529 785, it prints `value 0 1 1 0` and `1297`"; hd (nil N), whose second line is empty; ms L (fn v0), four
--- words; and the empty file. proofs/Examples.antt proves them.
+-- "the add 2 3 recipe prints `value 0 1 1 0 0 0 1`", and `1297`; hd (nil N), whose second line is empty; ms L (fn v0), four words; and the empty
+-- file. proofs/Examples.antt proves them.
 pub record Examples : Type 0 where
-  pub sum : listing (bytesOf (1 ∷ 4 ∷ 3 ∷ 5 ∷ 1 ∷ 21 ∷ 529 ∷ 785 ∷ [])) ≡ characters "value 0 1 1 0\n1297\n"
-  pub hd-of-nil : listing (bytesOf (fileOf (1 ∷ []) (26 ∷ 24 ∷ 1 ∷ []))) ≡ characters "error 4 2 0 0\n\n"
-  pub sealed : listing (bytesOf (fileOf (2 ∷ []) (30 ∷ 2 ∷ 34 ∷ 32 ∷ []))) ≡ characters "value 0 0 4 0\n30 2 34 32\n"
+  pub sum : listing (bytesOf (1 ∷ 4 ∷ 3 ∷ 5 ∷ 1 ∷ 21 ∷ 529 ∷ 785 ∷ [])) ≡ characters "value 0 1 1 0 0 0 1\n1297\n"
+  pub hd-of-nil : listing (bytesOf (fileOf (1 ∷ []) (26 ∷ 24 ∷ 1 ∷ []))) ≡ characters "error 4 2 0 0 0 0 2\n\n"
+  pub sealed : listing (bytesOf (fileOf (2 ∷ []) (30 ∷ 2 ∷ 34 ∷ 32 ∷ []))) ≡ characters "value 0 0 4 0 0 0 0\n30 2 34 32\n"
   pub empty-file : listing [] ≡ characters "refused 1 0\n"

@@ -16,7 +16,7 @@ abbrev pub refusedLine : RecipeRun → List ℕ
 refusedLine x = line (characters "refused") (x .refusal ∷ x .place ∷ [])
 
 abbrev pub endedLine : RecipeRun → List ℕ
-endedLine x = line (nameOf (x .end)) (x .code ∷ x .steps ∷ x .left ∷ x .wanted ∷ [])
+endedLine x = line (nameOf (x .end)) (x .code ∷ x .steps ∷ x .left ∷ x .wanted ∷ x .calls ∷ x .conversions ∷ x .others ∷ [])
 
 -- Of a run's numbers, and the words that it left.
 abbrev pub textBy : RecipeRun → List ℕ → List ℕ

@@ -52,20 +52,26 @@ fn end_name(end: u32, text: &mut [u8]) -> usize
     copy(b"full", text, 0)
 }
 
-// "end name, code, steps, words left, words wanted on one line".
+// "end name, code, steps, words left, words wanted on one line"; "The listing's first line ends with the three": calls, conversions, others.
 fn ended_line(run: RecipeRun, text: &mut [u8]) -> usize
     ensures { λ r. ⌜ Wrote (now (text .entry)) 0 (endedLine run) r (now (text .exit)) ⌝ }
-    ensures bound { λ r. ⌜ r ≤ 64 ⌝ }
+    ensures bound { λ r. ⌜ r ≤ 83 ⌝ }
 {
     let a = end_name(run.end, text);
-    let b = field(text, a, run.code);
-    let c = field(text, b, run.steps);
-    let d = field(text, c, run.left);
-    let e = field(text, d, run.wanted);
-    put(text, e, b'\n')
+    let numbers = [
+        run.code,
+        run.steps,
+        run.left,
+        run.wanted,
+        run.calls,
+        run.conversions,
+        run.others,
+    ];
+    let b = more_words(&numbers, text, a);
+    put(text, b, b'\n')
 }
 
-// Words, a blank before each.
+// Words, or other numbers, a blank before each.
 fn more_words(words: &[u32], text: &mut [u8], n: usize) -> usize
     requires { ⌜ (length (now words) ≤ 4096) × (n ≤ 128) ⌝ }
     ensures { λ r. ⌜ Wrote (now (text .entry)) n (fields (now (words .entry))) r (now (text .exit)) ⌝ }
@@ -82,7 +88,7 @@ fn more_words(words: &[u32], text: &mut [u8], n: usize) -> usize
 
 // "the term's words on the next, or an empty line": a blank between two.
 fn all_words(words: &[u32], text: &mut [u8], n: usize) -> usize
-    requires { ⌜ (length (now words) ≤ 4096) × (n ≤ 64) ⌝ }
+    requires { ⌜ (length (now words) ≤ 4096) × (n ≤ 83) ⌝ }
     ensures { λ r. ⌜ Wrote (now (text .entry)) n (wordsLine (now (words .entry))) r (now (text .exit)) ⌝ }
     ensures bound { λ r. ⌜ r ≤ n + 11 * length (now (words .entry)) ⌝ }
 {
@@ -97,7 +103,7 @@ fn all_words(words: &[u32], text: &mut [u8], n: usize) -> usize
 fn lines(run: RecipeRun, words: &[u32], text: &mut [u8]) -> usize
     requires { ⌜ length (now words) ≤ 4096 ⌝ }
     ensures { λ r. ⌜ Wrote (now (text .entry)) 0 (textBy run (now (words .entry))) r (now (text .exit)) ⌝ }
-    ensures bound { λ r. ⌜ r ≤ 45121 ⌝ }
+    ensures bound { λ r. ⌜ r ≤ 45140 ⌝ }
 {
     if run.refusal != 0 {
         return refused_line(run, text);
