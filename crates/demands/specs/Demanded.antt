@@ -21,7 +21,7 @@ use Rattle.checker.specs.declared.Checked.the-variants as checked
 use Rattle.engine.specs.declared.ends.Report.{Report}
 use Rattle.engine.specs.declared.runs.Answer.{Answer}
 use Rattle.engine.specs.declared.runs.Answer.the-variants.{Refused, Ended}
-use Rattle.engine.specs.Counting.{countsOf}
+use Rattle.counts.specs.Counting.{countsOf}
 use Rattle.engine.specs.Results.{lineOf, endOf, told}
 use Rattle.engine.specs.Lent.{Lent, Returned, room}
 

@@ -18,14 +18,14 @@ use Rattle.reducer.specs.declared.steps.Change.{Change}
 use Rattle.reducer.specs.declared.steps.Move.{Move}
 use Rattle.reducer.specs.declared.steps.Move.the-variants as m
 use Rattle.reducer.specs.Standing.{Standing}
-use Rattle.engine.specs.declared.counts.Counts.{Counts}
+use Rattle.counts.specs.declared.Counts.{Counts}
 use Rattle.engine.specs.declared.ends.End.{End}
 use Rattle.engine.specs.declared.ends.End.the-variants as ends
 use Rattle.engine.specs.declared.ends.Report.{Report}
 use Rattle.engine.specs.declared.ends.Choice.{Choice}
 use Rattle.engine.specs.declared.ends.Choice.the-variants.{Stop, Go}
 use Rattle.engine.specs.Decided.{stop, decide}
-use Rattle.engine.specs.Counting.{countsOf, counted}
+use Rattle.counts.specs.Counting.{countsOf, counted}
 use Rattle.engine.specs.Results.{lineOf, endOf, told}
 
 -- A step to the next term u: the reduced node's word is of the class, the term is put into the buffer b, which is b′ then, and the next walk may

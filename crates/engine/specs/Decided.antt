@@ -6,12 +6,12 @@ use Rattle.calculus.specs.Classes.{other, wordClass}
 use Rattle.reducer.specs.declared.steps.Change.{Change}
 use Rattle.reducer.specs.declared.steps.Move.{Move}
 use Rattle.reducer.specs.declared.steps.Move.the-variants as m
-use Rattle.engine.specs.declared.counts.Counts.{Counts}
+use Rattle.counts.specs.declared.Counts.{Counts}
 use Rattle.engine.specs.declared.ends.End.{End}
 use Rattle.engine.specs.declared.ends.End.the-variants as e
 use Rattle.engine.specs.declared.ends.Choice.{Choice}
 use Rattle.engine.specs.declared.ends.Choice.the-variants.{Stop, Go}
-use Rattle.engine.specs.Counting.{counted}
+use Rattle.counts.specs.Counting.{counted}
 
 abbrev pub stop : End → ℕ → Counts → ℕ → ℕ → Choice
 stop x code made n wanted = Stop (record { end = x; code = code; made = made; left = n; wanted = wanted })

@@ -1,5 +1,4 @@
 pub mod Buffered
-pub mod Counting
 pub mod Decided
 pub mod Results
 pub mod Lent

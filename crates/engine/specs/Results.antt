@@ -5,7 +5,7 @@ use Rattle.calculus.specs.Run as spec
 use Rattle.engine.specs.declared.ends.End.{End}
 use Rattle.engine.specs.declared.ends.End.the-variants.{Value, Spent, Error, Full}
 use Rattle.engine.specs.declared.ends.Report.{Report}
-use Rattle.engine.specs.Counting.{countsOf}
+use Rattle.counts.specs.Counting.{countsOf}
 
 -- "The result: end, code, steps made, words left, words wanted", as numbers; "The result gains three counts: calls, conversions, others".
 pub record Line : Type 0 where

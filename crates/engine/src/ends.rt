@@ -1,15 +1,15 @@
 // The ends of a run, in the order in which document 01 tests them.
 
-use crate::counts::Class;
-use crate::counts::Counts;
-use crate::counts::counted;
-use crate::counts::word_class;
+use counts::Class;
+use counts::Counts;
+use counts::counted;
+use counts::word_class;
 use reducer::steps::Change;
 use reducer::steps::Move;
 ghost use mathlib.Core.Path.{_≡_};
 ghost use Rattle.calculus.specs.Run.{capacity};
 ghost use Rattle.engine.specs.Results.{endNumber};
-ghost use Rattle.engine.specs.Counting.{UpTo};
+ghost use Rattle.counts.specs.Counting.{UpTo};
 ghost use Rattle.engine.specs.Decided.{stop, raise, go, decide};
 
 pub enum End {

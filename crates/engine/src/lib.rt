@@ -1,7 +1,6 @@
 // The engine: a file is read, checked and run to an end.
 
 pub mod buffers;
-pub mod counts;
 pub mod ends;
 pub mod reductions;
 pub mod runs;

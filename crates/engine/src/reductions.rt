@@ -1,9 +1,9 @@
 // The loop: a term is reduced, step by step, until its run ends. The two buffers hold the term by turns, and a flag says whether the first has it.
 
-use crate::counts::Counts;
 use crate::ends::Choice;
 use crate::ends::Report;
 use crate::ends::decide;
+use counts::Counts;
 use nodes::kinds::Kinds;
 use reducer::steps::Move;
 use reducer::steps::step;

@@ -4,7 +4,7 @@ use borrow.Author.Tests.{eq-eqb, ne-eqb, le-leb, lt-leb}
 use mathlib.Core.Path.{sym, ap, _∙_}
 use native.Mathlib.Omega.{arith}
 use Rattle.calculus.specs.Classes.{Class}
-use Rattle.engine.specs.Counting.{counted}
+use Rattle.counts.specs.Counting.{counted}
 use Rattle.engine.specs.declared.ends.Choice.the-variants.{Go}
 use Rattle.engine.proofs.ends.go.Statement.{statement}
 use Rattle.engine.proofs.ends.go.Tie as tie

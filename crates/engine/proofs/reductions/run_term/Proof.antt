@@ -3,7 +3,7 @@ use Prim.Native.Nat.{_-_}
 use mathlib.Core.Path.{sym, ap, _∙_}
 use native.Mathlib.Omega.{arith}
 use borrow.Author.Needs.{needs}
-use Rattle.engine.specs.declared.counts.Counts.{Counts}
+use Rattle.counts.specs.declared.Counts.{Counts}
 use Rattle.engine.proofs.Moving.{go-fits}
 use Rattle.engine.proofs.Looping.{Running, running-start, running-next, running-end}
 use Rattle.engine.proofs.reductions.run_term.Statement.{statement}

@@ -4,7 +4,7 @@ ghost use mathlib.Core.Path.{_≡_};
 ghost use Prim.Native.Nat.{_<_};
 ghost use Rattle.calculus.specs.Classes.{wordClass};
 ghost use Rattle.calculus.specs.Counting.{AddsUp};
-ghost use Rattle.engine.specs.Counting.{classOf, countsOf, counted};
+ghost use Rattle.counts.specs.Counting.{classOf, countsOf, counted};
 
 pub enum Class {
     Call,

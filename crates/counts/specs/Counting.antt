@@ -3,9 +3,9 @@ use Prim.Native.Nat.{ℕ, _≤_}
 use Rattle.calculus.specs.Classes as spec
 use Rattle.calculus.specs.Run as run
 use Rattle.calculus.specs.Counting.{AddsUp}
-use Rattle.engine.specs.declared.counts.Class.{Class}
-use Rattle.engine.specs.declared.counts.Class.the-variants.{Call, Conversion, Other}
-use Rattle.engine.specs.declared.counts.Counts.{Counts}
+use Rattle.counts.specs.declared.Class.{Class}
+use Rattle.counts.specs.declared.Class.the-variants.{Call, Conversion, Other}
+use Rattle.counts.specs.declared.Counts.{Counts}
 
 abbrev pub classOf : Class → spec.Class
 classOf Call = spec.call

@@ -1,8 +1,8 @@
--- `engine::counts::counted` meets its contract: no sum wraps, because each count is at most the steps. Assumes nothing.
+-- `counts::counted` meets its contract: no sum wraps, because each count is at most the steps. Assumes nothing.
 use borrow.Author.Needs.{needs}
 use native.Mathlib.Nat.{add-zero}
-use Rattle.engine.proofs.counts.counted.Statement.{statement}
-use Rattle.engine.proofs.counts.counted.Tie as tie
+use Rattle.counts.proofs.counted.Statement.{statement}
+use Rattle.counts.proofs.counted.Tie as tie
 
 returns : tie.Need-returns
 returns c = simp (c .before .enum-told .given .1, add-zero)

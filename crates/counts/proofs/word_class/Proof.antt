@@ -1,8 +1,8 @@
--- `engine::counts::word_class` meets its contract. Assumes nothing.
+-- `counts::word_class` meets its contract. Assumes nothing.
 use Prim.Native.Nat.{_%_}
 use borrow.Author.Tests.{ne-eqb}
-use Rattle.engine.proofs.counts.word_class.Statement.{statement}
-use Rattle.engine.proofs.counts.word_class.Tie as tie
+use Rattle.counts.proofs.word_class.Statement.{statement}
+use Rattle.counts.proofs.word_class.Tie as tie
 
 returns-6 : tie.Need-returns-6
 returns-6 c =
