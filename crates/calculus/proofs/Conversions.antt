@@ -249,7 +249,14 @@ module _ (t : Ty) {v : Term sc} (h : Value sc v) (k : Typed [] v tt) where
 crosses : (t : Ty) {v : Term sc} (h : Value sc v) → Typed [] v tt → Crosses t h
 crosses t h k =
     let x = decided t h k (misfit t h) (conversion t h) in
-    record { arrives = x .1; fails = x .2; error-run = λ c q. fails-run _ c (value-converting h) (x .2 c .0 q); fits = x .0; codes = data-codes t h }
+    record {
+      arrives = x .1;
+      fails = x .2;
+      error-run = λ c q. fails-run _ c (value-converting h) (x .2 c .0 q);
+      fits = x .0;
+      alone = λ n r p. converts p (value-converting h);
+      codes = data-codes t h;
+    }
 
 -- An ML value of any type arrives in Scheme, and fits.
 abbrev Arrival : Term ml → Ty → Type 0
@@ -275,7 +282,7 @@ returned : (t : Ty) {v : Term ml} → Value ml v → Typed [] v t → Reaches (m
 returned t h k = let x = departs t h k in onward (ms t) (into-ml t) {Q = Value ml} (x .2) (fits-arrives (x .3))
 
 leaves : (t : Ty) (v : Term ml) → Value ml v → Typed [] v t → Leaves t v
-leaves t v h k = record { leaves = departs t h k; returns = returned t h k }
+leaves t v h k = record { leaves = departs t h k; returns = returned t h k; alone = λ n r p. converts p (value-converting h) }
 
 -- Seals.
 seals : (v : Term sc) → Value sc v → Typed [] v tt → Seals v

@@ -45,7 +45,7 @@ kindClass k = cond (eqb k 19 || eqb k 20 || eqb k 35) call (cond (eqb k 30 || eq
 abbrev pub wordClass : ℕ → Class
 wordClass w = kindClass (w % 256)
 
--- The class of the step that a term takes next: that of the node whose turn it is.
+-- The class of the step that a term takes next: that of the node whose turn it is. A value takes none.
 abbrev pub turnClass : {l : Lang} → Turn l → Class
 turnClass done = other
 turnClass (at m F n) = nodeClass n

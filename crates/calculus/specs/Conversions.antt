@@ -12,6 +12,7 @@ use Rattle.calculus.specs.Substitution.{shift}
 use Rattle.calculus.specs.Rules.{Value, lamV, numV, nilV, consV, _⟶_, Steps, Raises}
 use Rattle.calculus.specs.Classes.{other}
 use Rattle.calculus.specs.Run.{valued, error, Counts, counted, ended}
+use Rattle.calculus.specs.Counting.{counts}
 use Rattle.calculus.specs.Endings.{Ends}
 
 -- A type of data has no function type in it; what a lump seals may be any Scheme value.
@@ -104,6 +105,8 @@ pub record Crosses (t : Ty) {v : Term sc} (h : Value sc v) : Type 0 where
       × ((limit cap : ℕ) → n < limit → room ≤ cap → Ends limit cap (ms t v) (ended error c (counted other (allConversions n)) [] 0))
   -- there is no third way
   pub fits : Fits t v ↔ (misfit t h ≡ none)
+  -- all its steps are conversions, whatever comes of it
+  pub alone : (n : ℕ) (r : Term ml) (p : Steps n (ms t v) r) → counts p ≡ allConversions n
   -- the codes at a type of data
   pub codes : (c : ℕ) → Data t → misfit t h ≡ some c → (c ≡ 1) ⊎ (c ≡ 3)
 
@@ -111,6 +114,8 @@ pub record Crosses (t : Ty) {v : Term sc} (h : Value sc v) : Type 0 where
 pub record Leaves (t : Ty) (v : Term ml) : Type 0 where
   pub leaves : Reaches (sm t v) (Fits t)
   pub returns : Reaches (ms t (sm t v)) (Value ml)
+  -- all steps there and back are conversions
+  pub alone : (n : ℕ) (r : Term ml) (p : Steps n (ms t (sm t v)) r) → counts p ≡ allConversions n
 
 -- A Scheme value under a seal is an ML value as it stands, whatever it is. No step of ML opens it; one step in Scheme takes the seal off.
 pub record Seals (v : Term sc) : Type 0 where

@@ -18,7 +18,7 @@ Final spent = ⊥
 Final error = Unit {0}
 Final full = ⊥
 
--- What a run counts: the steps that it makes; and how many of them, by document 02, are calls, conversions and others.
+-- What a run counts: "steps made"; and document 02's "three counts: calls, conversions, others".
 pub record Counts : Type 0 where
   pub steps : ℕ
   pub calls : ℕ
@@ -69,7 +69,7 @@ decide (raised c) made cap e go = ended error c (counted other made) [] 0
 decide (next r) made cap e go = ifFits (leb (size r) cap) made e r go
 decide stuck made cap e go = ended spent 0 made (words e) 0
 
--- The term e, with k steps left; `made` were counted so far.
+-- The term e, with k steps left; `made` were counted so far. A step is counted by the node whose turn it is.
 unfoldable pub run : ℕ → ℕ → Counts → Term ml → Result
 run zero cap made e = ended (atLimit (step e)) 0 made (words e) 0
 run (suc k) cap made e = decide (step e) made cap e (λ r. run k cap (counted (nextClass e) made) r)

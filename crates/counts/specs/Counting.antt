@@ -7,6 +7,7 @@ use Rattle.counts.specs.declared.Class.{Class}
 use Rattle.counts.specs.declared.Class.the-variants.{Call, Conversion, Other}
 use Rattle.counts.specs.declared.Counts.{Counts}
 
+-- The calculus's class that a class of the code stands for, and so the counts.
 abbrev pub classOf : Class → spec.Class
 classOf Call = spec.call
 classOf Conversion = spec.conversion
