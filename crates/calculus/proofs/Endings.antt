@@ -17,7 +17,7 @@ use Rattle.calculus.proofs.Typing.{typed-scoped}
 use Rattle.calculus.proofs.Agreement.{next-iff, raised-iff, value-step-iff}
 use Rattle.calculus.proofs.Soundness.{sound}
 use Rattle.calculus.proofs.Classes.{step-class}
-use Rattle.calculus.proofs.Counting.{same-counts, none-together, together-none, then-together, next-typed, run-counted}
+use Rattle.calculus.proofs.Counting.{same-counts, none-together, together-none, counted-together, then-together, next-typed, counted-over}
 use Rattle.calculus.proofs.Runs.{Ran, at-value, at-limit, at-error, at-full, at-stuck, by-step, run-ran, run-value, run-next, run-full}
 
 -- One step more at the end.
@@ -126,5 +126,10 @@ ending limit cap e τ h =
     record { result = run limit cap uncounted e; ends = ends-iff limit cap e τ h _ .1 refl; only = λ r p. sym (ends-run τ h p) }
 
 -- "For every run the three add up to the steps made, each equal to a count over the reduction."
-pub ends-counted : (limit cap : ℕ) (e : Term ml) (τ : Ty) → Typed [] e τ → (x : Result) → Ends limit cap e x → Counted e (x .end) (x .made)
-ends-counted limit cap e τ h x p = subst (λ (r : Result). Counted e (r .end) (r .made)) (ends-run τ h p) (run-counted limit cap e τ h)
+pub ends-counted : (τ : Ty) {limit cap : ℕ} {e : Term ml} {x : Result} → Typed [] e τ → Ends limit cap e x → Counted e (x .end) (x .made)
+ends-counted τ {e = e} h (by-value p i n v) = subst (Counted e valued) (together-none (counts p)) (counted-over τ h p valued)
+ends-counted τ {e = e} h (by-limit p i v) = subst (Counted e spent) (together-none (counts p)) (counted-over τ h p spent)
+ends-counted τ {e = e} h (by-error p i n a) =
+    subst (Counted e error) (sym (counted-together other (counts p) uncounted) ∙ ap (counted other) (together-none (counts p)))
+    (counted-over τ h p error)
+ends-counted τ {e = e} h (by-full p i n a c) = subst (Counted e full) (together-none (counts p)) (counted-over τ h p full)

@@ -1,5 +1,5 @@
 -- Document 02, "Where the steps went": "For every run the three add up to the steps made, each equal to a count over the reduction." The
--- statement alone, of the published reduction; proofs/Counting.antt proves it of every run of a term that has a type.
+-- statement alone, of the published reduction; proofs/Endings.antt proves it of every end of a term that has a type.
 use Prim.Native.Nat.{ℕ, _+_}
 use mathlib.Core.Path.{_≡_}
 use Rattle.calculus.specs.Trees.{Lang, ml, Term}

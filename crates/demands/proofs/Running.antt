@@ -170,7 +170,7 @@ reduces-of : (l : Lent) (g : Returned) → Promised l g → (τ : Ty) (e : Term 
 reduces-of l g h τ e a s =
     let x = ending (l .limit) (room l) e τ (a .typed) in
     let q = ends-iff (l .limit) (room l) e τ (a .typed) (x .result) .0 (x .ends) in
-    reduce l g e x (ends-counted (l .limit) (room l) e τ (a .typed) (x .result) (x .ends))
+    reduce l g e x (ends-counted τ (a .typed) (x .ends))
     (operate-iff (l .bytes) (l .limit) (length (l .first)) (length (l .second)) (x .result) .1 (τ, e, a, s, sym q)) h
 
 exact-of : (l : Lent) (g : Returned) → Promised l g → Exact l g
