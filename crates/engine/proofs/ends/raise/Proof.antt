@@ -1,6 +1,10 @@
 -- `engine::ends::raise` meets its contract. Assumes nothing.
 use borrow.Author.Needs.{needs}
 use borrow.Author.Tests.{eq-eqb, ne-eqb}
+use mathlib.Core.Path.{ap, _∙_}
+use Rattle.counts.specs.declared.Counts.{Counts}
+use Rattle.engine.specs.declared.ends.End.the-variants.{Error}
+use Rattle.engine.specs.Decided.{stop}
 use Rattle.engine.proofs.ends.raise.Statement.{statement}
 use Rattle.engine.proofs.ends.raise.Tie as tie
 
@@ -19,7 +23,8 @@ stop-requires-2 c κs = search needs
 returns-2 : tie.Need-returns-2
 returns-2 c =
     let a = c .before .before .before .before .args in
-    rw (ne-eqb (a .made .steps) (a .limit) (c .before .before .if1 .left), ← c .before .counted .ensures) (c .stop2 .ensures)
+    rw (ne-eqb (a .made .steps) (a .limit) (c .before .before .if1 .left))
+    (c .stop2 .ensures ∙ ap (λ (m : Counts). stop Error (a .code) m 0 0) (c .before .counted .ensures))
 
 pub raise-spec : {M : Type 1} → statement M
 raise-spec = tie.close (tie.spec stop-requires returns counted-requires stop-requires-2 returns-2)
