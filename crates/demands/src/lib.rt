@@ -22,7 +22,7 @@ pub fn check_once(file: &[u8]) -> Checked
     check(file)
 }
 
-// Demand 1, and demand 2 of a run: of this file, this limit and these buffers.
+// Demand 1, and demand 2 of a run, with where its steps went: of this file, this limit and these buffers.
 pub fn run_once(file: &[u8], limit: u32, first: &mut [u32], second: &mut [u32]) -> Answer
     ensures { λ x. ⌜
         Once
