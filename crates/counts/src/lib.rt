@@ -6,12 +6,14 @@ ghost use Rattle.calculus.specs.Classes.{wordClass};
 ghost use Rattle.calculus.specs.Counting.{AddsUp};
 ghost use Rattle.counts.specs.Counting.{classOf, countsOf, counted};
 
+// What a step is counted as.
 pub enum Class {
     Call,
     Conversion,
     Other,
 }
 
+// The steps made, and the three into which they fall.
 pub struct Counts {
     pub steps: u32,
     pub calls: u32,

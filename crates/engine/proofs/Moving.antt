@@ -22,9 +22,8 @@ use Rattle.counts.specs.declared.Counts.{Counts}
 use Rattle.engine.specs.declared.ends.End.{End}
 use Rattle.engine.specs.declared.ends.End.the-variants as ends
 use Rattle.engine.specs.declared.ends.Report.{Report}
-use Rattle.engine.specs.declared.ends.Choice.{Choice}
 use Rattle.engine.specs.declared.ends.Choice.the-variants.{Stop, Go}
-use Rattle.engine.specs.Decided.{stop, decide}
+use Rattle.engine.specs.Decided.{stop, goOn, decide}
 use Rattle.counts.specs.Counting.{countsOf, counted}
 use Rattle.engine.specs.Results.{lineOf, endOf, told}
 
@@ -86,17 +85,13 @@ module _ (e : Term ml) (n cap limit : ℕ) (made : Counts) (size-is : n ≡ leng
       subst (Finished (spec.ended spec.error c (spec.counted other (countsOf made)) [] 0) (words e)) z
       (record { told-is = refl; left-is = refl; short = omega arith })
 
-  -- what a step that is made hands on
-  abbrev goOn : Change → Choice
-  goOn x = Go x (counted (wordClass (x .word)) made)
-
-  fills : (b : Bool) (u : Term ml) (g : Term ml → spec.Result) (x : Change) (y : Report) → cond b (goOn x) (stop ends.Full 0 made n (size u)) ≡ Stop y
-      → Finished (spec.ifFits b (countsOf made) e u g) (words e) y
+  fills : (b : Bool) (u : Term ml) (g : Term ml → spec.Result) (x : Change) (y : Report)
+      → cond b (goOn x made) (stop ends.Full 0 made n (size u)) ≡ Stop y → Finished (spec.ifFits b (countsOf made) e u g) (words e) y
   fills true u g x y q = absurd (no-both q)
   fills false u g x y q = leaves ends.Full (size u) y q
 
   fills-by : (u : Term ml) (g : Term ml → spec.Result) (x : Change) (k : ℕ) (y : Report) → k ≡ size u
-      → cond (leb k cap) (goOn x) (stop ends.Full 0 made n k) ≡ Stop y
+      → cond (leb k cap) (goOn x made) (stop ends.Full 0 made n k) ≡ Stop y
       → Finished (spec.ifFits (leb (size u) cap) (countsOf made) e u g) (words e) y
   fills-by u g x k y h q = fills (leb (size u) cap) u g x y (rw h at q)
 
@@ -116,13 +111,13 @@ module _ (e : Term ml) (n cap limit : ℕ) (made : Counts) (size-is : n ≡ leng
   stops (suc k) stuck b b′ r x i h q = leaves ends.Spent 0 x (rw h at q)
 
   fits : (b : Bool) (u : Term ml) (g : Term ml → spec.Result) (x y : Change) (more : Counts)
-      → cond b (goOn x) (stop ends.Full 0 made n (size u)) ≡ Go y more
+      → cond b (goOn x made) (stop ends.Full 0 made n (size u)) ≡ Go y more
       → (spec.ifFits b (countsOf made) e u g ≡ g u) × (x ≡ y) × (more ≡ counted (wordClass (x .word)) made)
   fits true u g x y more q = (refl, cc, cc)
   fits false u g x y more q = absurd (no-both (sym q))
 
   fits-by : (u : Term ml) (g : Term ml → spec.Result) (x y : Change) (k : ℕ) (more : Counts) → k ≡ size u
-      → cond (leb k cap) (goOn x) (stop ends.Full 0 made n k) ≡ Go y more
+      → cond (leb k cap) (goOn x made) (stop ends.Full 0 made n k) ≡ Go y more
       → (spec.ifFits (leb (size u) cap) (countsOf made) e u g ≡ g u) × (x ≡ y) × (more ≡ counted (wordClass (x .word)) made)
   fits-by u g x y k more h q = fits (leb (size u) cap) u g x y more (rw h at q)
 
@@ -164,7 +159,7 @@ module _ (n cap limit : ℕ) (made : Counts) (le : made .steps ≤ limit) where
   go-fits (m.Next x) y more q = by (eqb (made .steps) limit) refl (leb (x .size) cap) refl q
     where
       by : (b : Bool) → eqb (made .steps) limit ≡ b → (d : Bool) → leb (x .size) cap ≡ d
-          → cond b (stop ends.Spent 0 made n 0) (cond d (Go x (counted (wordClass (x .word)) made)) (stop ends.Full 0 made n (x .size))) ≡ Go y more
+          → cond b (stop ends.Spent 0 made n 0) (cond d (goOn x made) (stop ends.Full 0 made n (x .size))) ≡ Go y more
           → Made (m.Next x) y more
       by true e d f g = absurd (no-both (sym g))
       by false e true f g =
@@ -191,7 +186,7 @@ module _ (n cap limit : ℕ) (made : Counts) (le : made .steps ≤ limit) where
       by false g = left-by _ y g (omega arith)
   end-short (m.Next x) y q = by (eqb (made .steps) limit) (leb (x .size) cap) q
     where
-      by : (b d : Bool) → cond b (stop ends.Spent 0 made n 0) (cond d (Go x (counted (wordClass (x .word)) made)) (stop ends.Full 0 made n (x .size)))
+      by : (b d : Bool) → cond b (stop ends.Spent 0 made n 0) (cond d (goOn x made) (stop ends.Full 0 made n (x .size)))
           ≡ Stop y → y .left ≤ n
       by true d g = left-by _ y g (omega arith)
       by false true g = absurd (no-both g)

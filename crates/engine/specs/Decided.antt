@@ -20,12 +20,15 @@ stop x code made n wanted = Stop (record { end = x; code = code; made = made; le
 abbrev pub raise : ℕ → ℕ → Counts → ℕ → Choice
 raise c n made limit = cond (eqb (made .steps) limit) (stop e.Spent 0 made n 0) (stop e.Error c (counted other made) 0 0)
 
--- "steps made equal to the limit, as spent; a next term of more words than capacity, as full; else the step is made", and is counted by the word
--- of the node that it reduces.
+-- "else the step is made", and it is counted by the word of the node that it reduces.
+abbrev pub goOn : Change → Counts → Choice
+goOn x made = Go x (counted (wordClass (x .word)) made)
+
+-- "steps made equal to the limit, as spent; a next term of more words than capacity, as full; else the step is made".
 abbrev pub go : Change → ℕ → ℕ → Counts → ℕ → Choice
 go x n cap made limit =
     cond (eqb (made .steps) limit) (stop e.Spent 0 made n 0)
-    (cond (leb (x .size) cap) (Go x (counted (wordClass (x .word)) made)) (stop e.Full 0 made n (x .size)))
+    (cond (leb (x .size) cap) (goOn x made) (stop e.Full 0 made n (x .size)))
 
 -- "a value ends as value", and the rest in its order. No accepted recipe comes to a term that is stuck.
 abbrev pub decide : Move → ℕ → ℕ → Counts → ℕ → Choice
