@@ -1,7 +1,7 @@
 //! Recipes on trees, written from documents 01 and 02 alone and apart from the engine.
 //!
-//! `check` answers a file with a recipe or a refusal; `run` reduces it to one of the four ends.
-//! Trees nest as deep as they have words: call both within `on_large_stack`.
+//! `check` answers a file with a recipe or a refusal; `run` reduces it to one of the four ends; `price` prices the value.
+//! Trees nest as deep as they have words: call all three within `on_large_stack`.
 
 #![forbid(unsafe_code)]
 
@@ -12,6 +12,7 @@ pub mod file;
 pub mod kinds;
 pub mod laws;
 pub mod node;
+pub mod price;
 pub mod read;
 pub mod rules;
 pub mod run;
@@ -27,6 +28,7 @@ pub mod values;
 
 pub use check::{check, Recipe, Refusal};
 pub use class::{Class, ClassCounts};
+pub use price::{price, Charges, Priced, Prices};
 pub use run::{run, End, Ended, Run};
 pub use stack::on_large_stack;
 pub use tree::{Ml, Scheme, Test, Type};

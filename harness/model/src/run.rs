@@ -46,51 +46,67 @@ pub struct Run {
     pub rules: RuleCounts,
 }
 
+impl Run {
+    /// A run that left a term, or none, in two buffers of the given lengths: every other word is zero.
+    pub fn new(
+        result: Result<Ended, Refusal>,
+        left: Option<Rc<Ml>>,
+        lengths: (usize, usize),
+        rules: RuleCounts,
+    ) -> Run {
+        let mut first = left.as_ref().map_or(Vec::new(), ml_words);
+        first.resize(lengths.0, 0);
+        Run { result, first, second: vec![0; lengths.1], rules }
+    }
+}
+
 /// Checks the file and runs it with the step limit and two buffers of the given lengths.
 pub fn run(bytes: &[u8], limit: u32, first_len: usize, second_len: usize) -> Run {
-    let capacity = first_len.min(second_len).min(MOST_WORDS);
+    let capacity = capacity(first_len, second_len);
     let mut rules = RuleCounts::default();
-    let (result, left) = match start(bytes, capacity) {
-        Err(refusal) => (Err(refusal), Vec::new()),
+    let (result, left) = match check(bytes).and_then(|recipe| fitting(recipe.term, capacity)) {
+        Err(refusal) => (Err(refusal), None),
         Ok(term) => {
-            let (ended, words) = reduce(term, limit, capacity, &mut rules);
-            (Ok(ended), words)
+            let (ended, left) = reduce(term, limit, capacity, &mut rules);
+            (Ok(ended), left)
         }
     };
-    let mut first = left;
-    first.resize(first_len, 0);
-    Run { result, first, second: vec![0; second_len], rules }
+    Run::new(result, left, (first_len, second_len), rules)
 }
 
-/// The accepted file's term, or a refusal: 8 comes last.
-fn start(bytes: &[u8], capacity: usize) -> Result<Rc<Ml>, Refusal> {
-    let recipe = check(bytes)?;
-    if Node::Ml(&recipe.term).size() > capacity {
-        return Err(Refusal::new(8, 0));
+/// "Capacity is the shorter length, at most 16,384."
+pub fn capacity(first_len: usize, second_len: usize) -> usize {
+    first_len.min(second_len).min(MOST_WORDS)
+}
+
+/// An accepted file's term that fits the capacity, or refusal 8.
+pub fn fitting(term: Rc<Ml>, capacity: usize) -> Result<Rc<Ml>, Refusal> {
+    match Node::Ml(&term).size() > capacity {
+        true => Err(Refusal::new(8, 0)),
+        false => Ok(term),
     }
-    Ok(recipe.term)
 }
 
-/// Reduces a term to one of the four ends; the words that the run leaves come second.
-pub fn reduce(term: Rc<Ml>, limit: u32, capacity: usize, rules: &mut RuleCounts) -> (Ended, Vec<u32>) {
+/// Reduces a term to one of the four ends; the term that the run leaves comes second, none after an error.
+pub fn reduce(term: Rc<Ml>, limit: u32, capacity: usize, rules: &mut RuleCounts) -> (Ended, Option<Rc<Ml>>) {
     let mut term = term;
     let mut made = Ended { end: End::Value, code: 0, steps: 0, left: 0, wanted: 0, classes: ClassCounts::default() };
     loop {
-        let Some(turn) = turn(&term) else { return keep(Ended { end: End::Value, ..made }, &term) };
+        let Some(turn) = turn(&term) else { return keep(Ended { end: End::Value, ..made }, term) };
         if made.steps == limit {
-            return keep(Ended { end: End::Spent, ..made }, &term);
+            return keep(Ended { end: End::Spent, ..made }, term);
         }
         let step = turn.step();
         if let Step::Next(_, next) = &step {
             let wanted = Node::Ml(next).size();
             if wanted > capacity {
-                return keep(Ended { end: End::Full, wanted: wanted as u32, ..made }, &term);
+                return keep(Ended { end: End::Full, wanted: wanted as u32, ..made }, term);
             }
         }
         made.steps += 1;
         made.classes.count(turn.class());
         match step {
-            Step::Raised(code) => return (Ended { end: End::Error, code, ..made }, Vec::new()),
+            Step::Raised(code) => return (Ended { end: End::Error, code, ..made }, None),
             Step::Next(rule, next) => {
                 rules.count(rule);
                 term = next;
@@ -100,8 +116,7 @@ pub fn reduce(term: Rc<Ml>, limit: u32, capacity: usize, rules: &mut RuleCounts)
     }
 }
 
-/// The end with the words of the term that it leaves.
-fn keep(ended: Ended, term: &Rc<Ml>) -> (Ended, Vec<u32>) {
-    let words = ml_words(term);
-    (Ended { left: words.len() as u32, ..ended }, words)
+/// The end with the term that it leaves.
+fn keep(ended: Ended, term: Rc<Ml>) -> (Ended, Option<Rc<Ml>>) {
+    (Ended { left: Node::Ml(&term).size() as u32, ..ended }, Some(term))
 }

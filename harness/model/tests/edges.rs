@@ -3,6 +3,7 @@
 mod common;
 use common::*;
 use model::file::file;
+use model::node::ml_words;
 use model::read::read_ml;
 use model::rules::RuleCounts;
 use model::run::reduce;
@@ -49,8 +50,9 @@ fn the_deepest_terms_of_16384_words() {
     let term = [20, 18, 3, 1, 27, 16];
     let (result, left) = on_large_stack(|| {
         let deep = read_ml(&chain(&[27], 16_370, &term), 0, usize::MAX).expect("words in order");
-        reduce(deep, u32::MAX, 16_384, &mut RuleCounts::default())
+        let (ended, left) = reduce(deep, u32::MAX, 16_384, &mut RuleCounts::default());
+        (ended, left.as_ref().map(ml_words))
     });
     assert_eq!(Ok(result), ended(End::Full, 0, 8, 16_384, 16_385, [8, 0, 0]));
-    assert!(left == chain(&[27], 16_378, &term));
+    assert!(left == Some(chain(&[27], 16_378, &term)));
 }
