@@ -1,10 +1,11 @@
-/* The recipe engine, for the controller's engineer: check a recipe file, and run it.
+/* The recipe engine, for the controller's engineer: check a recipe file, run it, and price the can that it fills.
  *
- * Both functions take any bytes, any limit and any buffers, down to length 0, and always come back. They keep nothing
- * between calls, allocate nothing and call nothing of yours, so they may be used from several threads at once.
+ * The three functions take any bytes, any prices, any limit and any buffers, down to length 0, and always come back. They
+ * keep nothing between calls, allocate nothing and call nothing of yours, so they may be used from several threads at
+ * once.
  *
  * Pointers. A pointer must not be null, also where its length is 0: hand over the address of any object then. The file
- * is only read. The two buffers are written; they must overlap neither each other nor the file.
+ * and the prices are only read. The two buffers are written; they must overlap neither each other nor what is read.
  *
  * Stack. See RECIPE_STACK_BYTES.
  *
@@ -30,7 +31,7 @@ extern "C" {
 #define RECIPE_FILE_BYTES 16384u
 #define RECIPE_BUFFER_WORDS 16384u
 
-/* Why a file is refused. In brackets: what the place points at; it is 0 where nothing is said.
+/* Why a call is refused. In brackets: what the place points at; it is 0 where nothing is said.
  *
  *   1  the size: not a multiple of 4 bytes, under 24 bytes or over 16,384
  *   2  the header: a count is 0, an offset is not the one due, or the words do not add up to the file's length
@@ -40,9 +41,13 @@ extern "C" {
  *   5  a variable without a lambda of its own language [that variable's word]
  *   6  the term has no type
  *   7  the term's type is not the declared one
- *   8  the term has more words than the capacity (recipe_run alone)
+ *   8  the term has more words than the capacity (recipe_run and recipe_price)
+ *   9  the declared type is not {N}, a list of numbers (recipe_price alone, as are the next two)
+ *  10  the value has more than nine items
+ *  11  a price is over 1,000,000 cents for 1,000 pulses
  *
- * The lowest that fits is given, 3 and 4 by whichever word comes first. */
+ * Where several fit, the first in this order is given: 11, before the file is read; 1; 2; 3 and 4, by whichever word comes
+ * first; 5; 6; 7; 9; 8; and when the run has come to a value, 10. */
 enum {
     RECIPE_SIZE = 1,
     RECIPE_HEADER = 2,
@@ -51,7 +56,10 @@ enum {
     RECIPE_SCOPE = 5,
     RECIPE_NO_TYPE = 6,
     RECIPE_OTHER_TYPE = 7,
-    RECIPE_CAPACITY = 8
+    RECIPE_CAPACITY = 8,
+    RECIPE_NOT_NUMBERS = 9,
+    RECIPE_ITEMS = 10,
+    RECIPE_PRICES = 11
 };
 
 /* Checks a file. 0: accepted; else the refusal's number + 256 * its place. */
@@ -88,6 +96,38 @@ typedef struct {
  * After a refusal or an error all words of both are 0. */
 RecipeRun recipe_run(const uint8_t *file, size_t file_len, uint32_t limit,
                      uint32_t *first, size_t first_len, uint32_t *second, size_t second_len);
+
+/* Pumps of a can, and bands of a price table. A pump's band is that of its whole count of pulses:
+ *
+ *   0  under 10,000 pulses
+ *   1  under 100,000 pulses
+ *   2  the rest */
+#define RECIPE_PUMPS 9
+#define RECIPE_BANDS 3
+
+/* The largest price that is no refusal, in cents for 1,000 pulses. All 27 prices are looked at, used or not. */
+#define RECIPE_PRICE_CENTS 1000000u
+
+/* A shop's price table: cents for 1,000 pulses, by pump and band. Pump 1 has row 0. */
+typedef struct {
+    uint32_t cents[RECIPE_PUMPS][RECIPE_BANDS];
+} RecipePrices;
+
+/* What recipe_price tells. Amounts are in cents. Only a value is charged: after a refusal, and where the run ends as spent,
+ * error or full, the total and all charges are 0. */
+typedef struct {
+    RecipeRun run;                 /* the run, as recipe_run tells it; or the refusal */
+    uint64_t total;                /* the sum of the charges */
+    uint64_t charge[RECIPE_PUMPS]; /* pump 1 first; each is pulses * price / 1,000, rounded up; 0 for a pump without an item */
+} RecipePriced;
+
+/* Prices a can: runs a file of type {N} for at most `limit` steps, and charges the value. The value is a list of at most
+ * nine items, the pulses of pump 1, of pump 2 and so on.
+ *
+ * Capacity and buffers are as in recipe_run: the value stands first in the first buffer. After every refusal, also after
+ * 10, which comes when the run has ended, all words of both are 0 and no steps are told. */
+RecipePriced recipe_price(const RecipePrices *prices, const uint8_t *file, size_t file_len, uint32_t limit,
+                          uint32_t *first, size_t first_len, uint32_t *second, size_t second_len);
 
 #ifdef __cplusplus
 }
