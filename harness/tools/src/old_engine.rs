@@ -17,6 +17,9 @@ pub struct OldRun {
     pub steps: u32,
     pub left: u32,
     pub wanted: u32,
+    pub calls: u32,
+    pub conversions: u32,
+    pub others: u32,
 }
 
 /// The old run of a file under a limit with two lent buffers.
