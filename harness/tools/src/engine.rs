@@ -19,11 +19,30 @@ pub struct RecipeRun {
     pub others: u32,
 }
 
+/// A shop's price table: cents for 1,000 pulses, by pump and band.
+#[repr(C)]
+#[derive(Clone, Copy, Debug, Default, PartialEq, Eq)]
+pub struct RecipePrices {
+    pub cents: [[u32; 3]; 9],
+}
+
+/// A pricing's answer as the engine gives it: the run, and at a value the charges of pumps 1 to 9 and their total.
+#[repr(C)]
+#[derive(Clone, Copy, Debug, Default, PartialEq, Eq)]
+pub struct RecipePriced {
+    pub run: RecipeRun,
+    pub total: u64,
+    pub charge: [u64; 9],
+}
+
 /// The check of a file: 0 for accepted, else number + 256 x place.
 pub type Check = fn(&[u8]) -> u64;
 
 /// The run of a file under a limit with two lent buffers.
 pub type Run = fn(&[u8], u32, &mut [u32], &mut [u32]) -> RecipeRun;
+
+/// The pricing of a file by a price table, under a limit with two lent buffers.
+pub type Price = fn(&RecipePrices, &[u8], u32, &mut [u32], &mut [u32]) -> RecipePriced;
 
 #[cfg(feature = "check")]
 mod linked {
@@ -42,6 +61,17 @@ mod linked {
                 second: *mut u32,
                 second_len: usize,
             ) -> super::super::RecipeRun;
+            #[cfg(feature = "run")]
+            pub fn recipe_price(
+                prices: *const super::super::RecipePrices,
+                file: *const u8,
+                file_len: usize,
+                limit: u32,
+                first: *mut u32,
+                first_len: usize,
+                second: *mut u32,
+                second_len: usize,
+            ) -> super::super::RecipePriced;
         }
     }
 
@@ -57,6 +87,20 @@ mod linked {
         // Safe: pointers and lengths are those of slices, the two that are written being apart.
         unsafe { c::recipe_run(file.as_ptr(), file.len(), limit, first, first_len, second, second_len) }
     }
+
+    #[cfg(feature = "run")]
+    pub fn price(
+        prices: &super::RecipePrices,
+        file: &[u8],
+        limit: u32,
+        first: &mut [u32],
+        second: &mut [u32],
+    ) -> super::RecipePriced {
+        let (first, first_len) = (first.as_mut_ptr(), first.len());
+        let (second, second_len) = (second.as_mut_ptr(), second.len());
+        // Safe: the prices are a reference; pointers and lengths are those of slices, the two that are written being apart.
+        unsafe { c::recipe_price(prices, file.as_ptr(), file.len(), limit, first, first_len, second, second_len) }
+    }
 }
 
 /// The engine's check, if it is linked.
@@ -71,6 +115,14 @@ pub fn linked_check() -> Option<Check> {
 pub fn linked_run() -> Option<Run> {
     #[cfg(feature = "run")]
     return Some(linked::run);
+    #[cfg(not(feature = "run"))]
+    None
+}
+
+/// The engine's pricing, if it is linked.
+pub fn linked_price() -> Option<Price> {
+    #[cfg(feature = "run")]
+    return Some(linked::price);
     #[cfg(not(feature = "run"))]
     None
 }

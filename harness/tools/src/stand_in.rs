@@ -1,8 +1,8 @@
-//! The model in the engine's place: its check and its run with the engine's own signatures.
+//! The model in the engine's place: its check, its run and its pricing with the engine's own signatures.
 
-use crate::engine::RecipeRun;
+use crate::engine::{RecipePriced, RecipePrices, RecipeRun};
 use model::check::answer;
-use model::{Class, Ended, Refusal};
+use model::{Charges, Class, Ended, Priced, Refusal};
 
 /// The model's check: 0 for accepted, else number + 256 x place.
 pub fn check(file: &[u8]) -> u64 {
@@ -26,4 +26,21 @@ pub fn told(result: &Result<Ended, Refusal>) -> RecipeRun {
             RecipeRun { refusal: 0, place: 0, end: end as u32, code, steps, left, wanted, calls, conversions, others }
         }
     }
+}
+
+/// The model's pricing in two lent buffers.
+pub fn price(prices: &RecipePrices, file: &[u8], limit: u32, first: &mut [u32], second: &mut [u32]) -> RecipePriced {
+    let priced = model::price(&prices.cents, file, limit, first.len(), second.len());
+    first.copy_from_slice(&priced.run.first);
+    second.copy_from_slice(&priced.run.second);
+    told_priced(&priced)
+}
+
+/// A pricing as the engine tells it: all amounts are 0 where there is no charge.
+pub fn told_priced(priced: &Priced) -> RecipePriced {
+    let (total, charge) = match &priced.charges {
+        Some(Charges { total, each, .. }) => (*total, *each),
+        None => (0, [0; 9]),
+    };
+    RecipePriced { run: told(&priced.run.result), total, charge }
 }
