@@ -9,6 +9,7 @@ mod list;
 mod plan;
 mod report;
 mod run;
+mod seen;
 mod stack;
 
 pub use case::Case;

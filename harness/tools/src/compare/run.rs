@@ -4,11 +4,13 @@
 use super::case::Case;
 use super::lent::at_the_edges;
 use super::plan::{follow, plans};
+use super::seen::{lend, show_both, Seen};
 use super::{Counts, Plan};
-use crate::engine::Run;
+use crate::engine::{RecipeRun, Run};
 use crate::make::*;
 use crate::progress::Progress;
 use crate::random::Random;
+use crate::stand_in::told;
 use model::laws::{ends_alike, try_counts, try_reduction};
 use model::{check, End};
 use std::collections::BTreeSet;
@@ -46,9 +48,9 @@ fn random_file(engine: Run, seed: u64, index: u64, counts: &mut Counts) -> Resul
 /// A run, and if it ends as a value or an error a second that is lent at least as much and must end the same. Answers
 /// with the first.
 fn compare_twice(engine: Run, case: &Case, larger: &Case, counts: &mut Counts) -> Result<model::Run, String> {
-    let first = case.compare(engine, counts)?;
+    let first = compare(engine, case, counts)?;
     if first.result.is_ok_and(|ended| matches!(ended.end, End::Value | End::Error)) {
-        let second = larger.compare(engine, counts)?;
+        let second = compare(engine, larger, counts)?;
         if !ends_alike(&first, &second) {
             return Err(format!("two runs end apart\n{}{}", case.show(), larger.show()));
         }
@@ -77,17 +79,17 @@ fn fixed(engine: Run, counts: &mut Counts) -> Result<(), String> {
     outcome?;
     for file in edges() {
         counts.files += 1;
-        Case::new(file, 3, 9, 8).compare(engine, counts)?;
+        compare(engine, &Case::new(file, 3, 9, 8), counts)?;
     }
     let lent = at_the_edges();
     counts.files += lent.iter().map(|case| &case.file).collect::<BTreeSet<_>>().len() as u64;
     for case in lent {
-        case.compare(engine, counts)?;
+        compare(engine, &case, counts)?;
     }
     for (file, capacity) in deep_recipes(3_000) {
         counts.files += 1;
-        Case::new(file.clone(), u32::MAX, capacity, capacity + 1).compare(engine, counts)?;
-        Case::new(file, 100, 4_096, 4_096).compare(engine, counts)?;
+        compare(engine, &Case::new(file.clone(), u32::MAX, capacity, capacity + 1), counts)?;
+        compare(engine, &Case::new(file, 100, 4_096, 4_096), counts)?;
     }
     Ok(())
 }
@@ -102,8 +104,40 @@ fn small(engine: Run, file: Vec<u8>, counts: &mut Counts) -> Result<(), String> 
     let largest = followed.largest();
     for limit in [0, 1, 2, if followed.ends { u32::MAX } else { 3 }] {
         for capacity in [0, largest.saturating_sub(1), largest, largest + 1] {
-            Case::new(file.clone(), limit, capacity, capacity + 1).compare(engine, counts)?;
+            compare(engine, &Case::new(file.clone(), limit, capacity, capacity + 1), counts)?;
         }
     }
     Ok(())
+}
+
+/// One run of the engine beside one of the model. A difference comes back shrunk and shown.
+fn compare(engine: Run, case: &Case, counts: &mut Counts) -> Result<model::Run, String> {
+    let model = by_model(case);
+    counts.runs += 1;
+    match &model.result {
+        Ok(ended) => counts.ended(ended),
+        Err(refusal) => counts.refused(refusal),
+    }
+    counts.rules(&model.rules);
+    match seen_of(&model) == by_engine(engine, case) {
+        true => Ok(model),
+        false => {
+            let differs = |case: &Case| seen_of(&by_model(case)) != by_engine(engine, case);
+            let small = case.shrunk(&mut |case| case.is_short() && differs(case));
+            Err(small.show() + &show_both(&seen_of(&by_model(&small)), &by_engine(engine, &small)))
+        }
+    }
+}
+
+fn by_model(case: &Case) -> model::Run {
+    model::run(&case.file, case.limit, case.first, case.second)
+}
+
+fn by_engine(engine: Run, case: &Case) -> Seen<RecipeRun> {
+    lend(case, |first, second| engine(&case.file, case.limit, first, second))
+}
+
+/// What the model answered and left.
+fn seen_of(run: &model::Run) -> Seen<RecipeRun> {
+    Seen { answer: told(&run.result), first: run.first.clone(), second: run.second.clone(), within: true }
 }
