@@ -1,12 +1,14 @@
-//! Compares the engine with the model: `compare check`, `compare run`, `compare list`, `compare stack`.
+//! Compares the engine with the model: `compare check`, `compare run`, `compare price`, `compare list`, `compare stack`.
 #![forbid(unsafe_code)]
 
 use model::on_large_stack;
 use std::path::Path;
 use std::process::ExitCode;
 use tools::args::Args;
-use tools::compare::{compare_check, compare_list, compare_run, compare_stack, missing, table, Counts, Plan};
-use tools::engine::{linked_check, linked_run};
+use tools::compare::{
+    compare_check, compare_list, compare_price, compare_run, compare_stack, missing, table, Counts, Plan,
+};
+use tools::engine::{linked_check, linked_price, linked_run};
 use tools::output::say;
 
 const HELP: &str = "\
@@ -14,19 +16,23 @@ Compares the engine with a checker and a reducer built apart from it.
 
 usage: compare check [--files N] [--seed S] [--start I] [--all-reached]
        compare run   [--files N] [--seed S] [--start I] [--all-reached]
+       compare price [--files N] [--seed S] [--start I] [--all-reached]
        compare list  [--files N] [--seed S] [--start I] [--all-reached]
        compare stack [--kib K]
 
 check        every term of up to 3 words, files at the edges, and N random files (200000): number and place
 run          every small recipe, edges of files and of what is lent, and N random files (100000): result and every word
              of both buffers
+price        edges of prices, pulses, items and of what is lent, every choice of faults, every small recipe, edges of
+             files, and N random files (100000) under random price tables: result, charges, total and every word of both
+             buffers
 list         files at the edges, two long recipes, and those of N random files (3000) that end soon: every byte that the
              listing program, target/bin/listing, prints of each
 stack        the deepest runs of 16,384 words, and the deepest files, on a stack of K KiB (2048)
 --seed S     random files depend on the seed (1) and their index alone
 --start I    begin with random file I; the files that are the same every time are left out unless I is 0
 --all-reached  fail if a rule, an end, a class of steps before an end (call, conversion, other) or a refusal was never
-             reached
+             reached; of pricings, also an order of two refusals, a number of items, a pump or a band
 
 Status 0: no difference; 1: a difference, shrunk and shown; 2: not understood, or built without the engine.
 ";
@@ -43,9 +49,10 @@ fn main() -> ExitCode {
     let outcome = match args.word().as_deref() {
         Some("check") => check(args),
         Some("run") => run(args),
+        Some("price") => price(args),
         Some("list") => list(args),
         Some("stack") => stack(args),
-        _ => Err(Fault::Usage("check, run, list or stack is due; see --help".into())),
+        _ => Err(Fault::Usage("check, run, price, list or stack is due; see --help".into())),
     };
     match outcome {
         Ok(()) => ExitCode::SUCCESS,
@@ -80,6 +87,14 @@ fn run(args: Args) -> Result<(), Fault> {
     let Counts { files, runs, laws, .. } = counts;
     say(format!("{files} files, {runs} runs, no difference; demand 3 tried on {laws} terms"));
     finish(counts.of_runs(), all_reached)
+}
+
+fn price(args: Args) -> Result<(), Fault> {
+    let (plan, all_reached) = plan(args, 100_000)?;
+    let engine = linked_price().ok_or(without("run"))?;
+    let counts = on_large_stack(|| compare_price(engine, plan)).map_err(difference)?;
+    say(format!("{} pricings, no difference", counts.pricings));
+    finish(counts.rows(), all_reached)
 }
 
 fn list(args: Args) -> Result<(), Fault> {

@@ -10,7 +10,7 @@ pub struct Counts {
     pub runs: u64,
     pub laws: u64,
     pub accepted: u64,
-    refusals: [u64; 8],
+    refusals: [u64; 11],
     ends: [u64; 4],
     /// Runs with a step of the class, for each end.
     classes: [[u64; 3]; 4],
@@ -50,6 +50,11 @@ impl Counts {
     pub fn of_runs(&self) -> Vec<(String, u64)> {
         let rules = Rule::ALL.iter().map(|rule| (rule.name().to_string(), self.rules.of(*rule)));
         rules.chain(self.end_rows()).chain(self.class_rows()).chain(self.refusal_rows(8)).collect()
+    }
+
+    /// The rows that a comparison of pricings has of its runs: 4 ends, 3 classes of steps to each, 11 refusals.
+    pub fn of_pricings(&self) -> Vec<(String, u64)> {
+        self.end_rows().chain(self.class_rows()).chain(self.refusal_rows(11)).collect()
     }
 
     fn end_rows(&self) -> impl Iterator<Item = (String, u64)> + '_ {

@@ -1,4 +1,4 @@
-//! The comparison of the engine with the model: the check, the run, the listing, and what is printed of them.
+//! The comparison of the engine with the model: the check, the run, the pricing, the listing, and what is printed of them.
 
 mod case;
 mod check;
@@ -7,6 +7,7 @@ mod deepest;
 pub mod lent;
 mod list;
 mod plan;
+pub mod price;
 mod report;
 mod run;
 mod seen;
@@ -16,6 +17,7 @@ pub use case::Case;
 pub use check::compare_check;
 pub use counts::{missing, table, Counts};
 pub use list::{compare_list, listed};
+pub use price::{compare_price, PriceCounts};
 pub use report::show_file;
 pub use run::compare_run;
 pub use stack::compare_stack;

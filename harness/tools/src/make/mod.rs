@@ -1,11 +1,13 @@
-//! Files to compare on: random well-typed recipes, damaged files, edges, and every small term.
+//! What to compare on: random well-typed recipes, cans, damaged files, edges, every small term, and price tables.
 
+pub mod cans;
 mod damage;
 pub mod edges;
 mod every;
 mod forms;
 mod ml;
 mod plan;
+pub mod prices;
 mod scheme;
 mod text;
 mod types;

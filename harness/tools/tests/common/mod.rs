@@ -1,6 +1,8 @@
 //! What the tests of the program `recipe` share: its parts called in this process, the model in the engine's place.
 #![allow(dead_code)]
 
+pub mod pricing;
+
 use std::io::Write;
 use tools::recipe::{program, Desk, Engine};
 use tools::stand_in;
