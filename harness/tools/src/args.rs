@@ -1,4 +1,4 @@
-//! Options on the command line: `--name` with or without a number, and plain words.
+//! Options on the command line: `--name` alone, with a number or with a word, and plain words.
 
 pub struct Args {
     words: Vec<String>,
@@ -24,6 +24,16 @@ impl Args {
         }
         let word = self.words.remove(at);
         word.replace('_', "").parse().map_err(|_| format!("{name} needs a number, not {word}"))
+    }
+
+    /// Takes an option with a word, if it is there.
+    pub fn named(&mut self, name: &str, what: &str) -> Result<Option<String>, String> {
+        let Some(at) = self.words.iter().position(|word| word == name) else { return Ok(None) };
+        self.words.remove(at);
+        match self.words.get(at) {
+            Some(word) if !word.starts_with("--") => Ok(Some(self.words.remove(at))),
+            _ => Err(format!("{name} needs {what}")),
+        }
     }
 
     /// Takes the next plain word, if there is one.

@@ -59,7 +59,7 @@ fn show_explains_damage() {
 
 #[test]
 fn help_and_faults() {
-    for command in ["make", "show", "check", "run", "step"] {
+    for command in ["make", "show", "check", "run", "step", "price"] {
         let (status, printed, _) = seen(&[command, "--help"], b"");
         assert!(status == 0 && printed.starts_with(&format!("usage: recipe {command}")), "{printed}");
     }
@@ -103,7 +103,7 @@ fn a_step_by_step_that_nobody_reads_on_ends() {
 #[cfg(not(feature = "check"))]
 #[test]
 fn without_the_engine() {
-    for command in ["check", "run", "step"] {
+    for command in ["check", "run", "step", "price"] {
         let (status, _, said) = seen(&[command], b"N 1");
         assert!(status == 2 && said.contains("built without the engine"), "{said}");
     }
@@ -137,4 +137,22 @@ fn run_and_step() {
     let error = "error 4 after 2 steps: an empty list, or the recipe's own code\n0 calls, 0 conversions, 2 others\n";
     assert!(seen(&["step"], b"N (hd (nil N))").1.ends_with(error));
     assert_eq!(seen(&["run"], b"L 3").0, 1);
+}
+
+#[cfg(feature = "run")]
+#[test]
+fn price() {
+    let prices = concat!(env!("CARGO_MANIFEST_DIR"), "/../../recipes/shop.prices");
+    // 10,000 pulses of pump 1 at 10 cents for 1,000 are 100 cents; 1 pulse of pump 2 at 30 is 1 cent.
+    let lines = [
+        "value after 0 steps, 6 words",
+        "0 calls, 0 conversions, 0 others",
+        "pump      pulses  band    price          charge",
+        "   1       10000     1       10             100",
+        "   2           1     0       30               1",
+        "total                                       101",
+    ];
+    let can = b"{N} (cons 10000 (cons 1 (nil N)))";
+    assert_eq!(seen(&["price", "--prices", prices], can), (0, lines.join("\n") + "\n", "".into()));
+    assert_eq!(seen(&["price", "--prices", prices], b"N 5").0, 1);
 }

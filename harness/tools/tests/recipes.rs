@@ -1,4 +1,4 @@
-//! The recipes of document 01 in recipes/: each text makes its file, and the model lists it as written by hand.
+//! The recipes of document 01 and the can in recipes/: each text makes its file, and the model lists it as written by hand.
 
 use model::file::file;
 use model::on_large_stack;
@@ -24,7 +24,7 @@ fn read(path: &Path, ending: &str) -> Vec<u8> {
 
 #[test]
 fn texts_make_the_files() {
-    assert_eq!(recipes().len(), 13);
+    assert_eq!(recipes().len(), 14);
     for path in recipes() {
         let text = String::from_utf8(read(&path, "txt")).expect("text");
         let parsed = parse_recipe(&text).expect("a recipe");

@@ -21,12 +21,14 @@ pub fn explain(input: &Input, refusal: &Refusal) -> String {
         5 => position(input, place) + &marked(&input.bytes, place),
         6 => no_type(input),
         7 => both_types(&input.bytes),
+        9 => not_numbers(&input.bytes),
+        10 => "  pumps 1 to 9 take one item each; recipe run shows the value\n".into(),
         _ => String::new(),
     };
     format!("refused {}: {}\n{details}", refusal.number, sentence(refusal.number))
 }
 
-/// Document 01's reason for a refusal.
+/// The documents' reason for a refusal.
 fn sentence(number: u32) -> &'static str {
     match number {
         1 => "a recipe file has 24 to 16,384 bytes, a multiple of 4",
@@ -37,6 +39,9 @@ fn sentence(number: u32) -> &'static str {
         6 => "the term has no type",
         7 => "the term's type is not the declared one",
         8 => "the term has more words than the buffers hold",
+        9 => "the declared type is not {N}; only a list of numbers is priced",
+        10 => "the value has more than nine items",
+        11 => "a price is over 1,000,000 cents for 1,000 pulses",
         _ => "the engine gave a number that has no meaning",
     }
 }
@@ -76,4 +81,10 @@ fn both_types(bytes: &[u8]) -> String {
     let Ok(Recipe { declared, term }) = read_recipe(bytes, usize::MAX) else { return String::new() };
     let Some(found) = type_of(&term) else { return String::new() };
     format!("  declared: {}\n  found:    {}\n", flat(Node::Type(&declared)), flat(Node::Type(&found)))
+}
+
+/// The declared type, and the one that a can is due to have.
+fn not_numbers(bytes: &[u8]) -> String {
+    let Ok(recipe) = read_recipe(bytes, usize::MAX) else { return String::new() };
+    format!("  declared: {}\n  due:      {{N}}\n", flat(Node::Type(&recipe.declared)))
 }

@@ -1,17 +1,19 @@
-//! The program `recipe`: recipes as text, made, shown, checked, run and stepped through.
+//! The program `recipe`: recipes as text, made, shown, checked, run, stepped through and priced.
 
 mod check;
 mod explain;
 mod input;
 mod make;
 mod places;
+mod price;
+mod prices;
 mod program;
 mod run;
 mod show;
 mod step;
 
 use crate::args::Args;
-use crate::engine::{linked_check, linked_run, Check, Run};
+use crate::engine::{linked_check, linked_price, linked_run, Check, Price, Run};
 use std::io::{Error, ErrorKind, Read, Write};
 
 pub use program::program;
@@ -21,12 +23,13 @@ pub use program::program;
 pub struct Engine {
     pub check: Option<Check>,
     pub run: Option<Run>,
+    pub price: Option<Price>,
 }
 
 impl Engine {
     /// The functions that this program was built with.
     pub fn linked() -> Engine {
-        Engine { check: linked_check(), run: linked_run() }
+        Engine { check: linked_check(), run: linked_run(), price: linked_price() }
     }
 }
 
@@ -53,6 +56,12 @@ impl From<String> for Failure {
     }
 }
 
+impl From<&str> for Failure {
+    fn from(message: &str) -> Failure {
+        Failure::Other(message.into())
+    }
+}
+
 impl From<Error> for Failure {
     fn from(fault: Error) -> Failure {
         match fault.kind() {
@@ -73,7 +82,8 @@ pub struct Command {
 }
 
 /// All commands.
-pub const COMMANDS: [Command; 5] = [make::COMMAND, show::COMMAND, check::COMMAND, run::COMMAND, step::COMMAND];
+pub const COMMANDS: [Command; 6] =
+    [make::COMMAND, show::COMMAND, check::COMMAND, run::COMMAND, step::COMMAND, price::COMMAND];
 
 /// The failure of a command that needs the engine in a program built without it.
 fn without(feature: &str) -> Failure {

@@ -33,8 +33,7 @@ impl Lent {
     /// The engine, and the capacity that the command asks for.
     pub fn new(args: &mut Args, desk: &Desk<'_>) -> Result<Lent, Failure> {
         let engine = desk.engine.run.ok_or(without("run"))?;
-        let capacity = args.number("--words", 4_096)? as usize;
-        Ok(Lent { engine, capacity: capacity.min(1 << 20) })
+        Ok(Lent { engine, capacity: capacity(args)? })
     }
 
     /// Runs the file, unless it is refused; the words left come second.
@@ -42,13 +41,23 @@ impl Lent {
         let (mut first, mut second) = (vec![0; self.capacity], vec![0; self.capacity]);
         let result = (self.engine)(&input.bytes, limit, &mut first, &mut second);
         if result.refusal != 0 {
-            let refusal = Refusal::new(result.refusal, result.place as usize);
-            let lent = if result.refusal == 8 { too_large(input, self.capacity) } else { String::new() };
-            return Err(Failure::Refused(explain(input, &refusal) + &lent));
+            return Err(Failure::Refused(refused(input, &result, self.capacity)));
         }
         first.truncate(result.left as usize);
         Ok((result, first))
     }
+}
+
+/// The words of each buffer that the command asks for.
+pub fn capacity(args: &mut Args) -> Result<usize, String> {
+    Ok(args.number("--words", 4_096)?.min(1 << 20) as usize)
+}
+
+/// A refusal explained.
+pub fn refused(input: &Input, result: &RecipeRun, capacity: usize) -> String {
+    let refusal = Refusal::new(result.refusal, result.place as usize);
+    let lent = if result.refusal == 8 { too_large(input, capacity) } else { String::new() };
+    explain(input, &refusal) + &lent
 }
 
 /// The end of a run, where its steps went, and the term left.
@@ -114,7 +123,7 @@ pub fn term(words: &[u32]) -> Result<Rc<Ml>, String> {
 }
 
 /// The text of the term left; none after an error.
-fn left(words: &[u32]) -> Result<String, String> {
+pub fn left(words: &[u32]) -> Result<String, String> {
     if words.is_empty() {
         return Ok(String::new());
     }

@@ -22,7 +22,7 @@ pub fn printed(words: &[&str], input: &[u8]) -> (u8, String, String) {
 
 /// The status of a program that writes to these two.
 pub fn typed_into(words: &[&str], mut input: &[u8], output: &mut (dyn Write + Send), errors: &mut dyn Write) -> u8 {
-    let engine = Engine { check: Some(stand_in::check), run: Some(stand_in::run) };
+    let engine = Engine { check: Some(stand_in::check), run: Some(stand_in::run), price: Some(stand_in::price) };
     let mut desk = Desk { engine, input: &mut input, output };
     program(words.iter().map(|word| word.to_string()).collect(), &mut desk, errors)
 }

@@ -1,0 +1,68 @@
+//! `recipe price`: the engine's pricing, its end, and what each pump and the can are charged.
+
+use super::input::read_input;
+use super::prices::{read_prices, Table};
+use super::run::{capacity, ended, left, refused, steps, term};
+use super::{without, Command, Desk, Failure, Outcome};
+use crate::args::Args;
+use crate::engine::RecipePriced;
+use model::price::{band, items};
+
+pub const COMMAND: Command = Command { name: "price", help: HELP, work: price };
+
+const HELP: &str = "\
+usage: recipe price [FILE] --prices PRICES [--limit STEPS] [--words CAPACITY]
+
+Runs a recipe of type {N}, a file or a text, and prints what its can costs: for each item, which is a pump's pulses, the
+band, the price and the charge; then the total. Charges are in cents: pulses x price / 1,000, rounded up. The end and
+where the steps went stand before, as `recipe run` prints them. A run that ends otherwise than in a value has no charge.
+The options are those of `recipe run`. Reads standard input where no FILE is named. Status 0: ended, whatever the end;
+1: refused.
+
+PRICES is a text of nine rows, for pumps 1 to 9, of three numbers: cents for 1,000 pulses in band 0 (under 10,000 pulses),
+band 1 (under 100,000) and band 2 (the rest), each at most 1000000. Blanks stand between numbers; empty lines and what
+follows a # are passed over.
+";
+
+/// The end of a run, and the charges of its value.
+fn price(mut args: Args, desk: &mut Desk<'_>) -> Outcome {
+    let engine = desk.engine.price.ok_or(without("run"))?;
+    let capacity = capacity(&mut args)?;
+    let limit = steps(args.number("--limit", 1_000_000)?)?;
+    let name = args.named("--prices", "the name of a price file")?;
+    let name = name.ok_or("price needs --prices and the name of a price file; see recipe price --help")?;
+    let table = read_prices(&name)?;
+    let input = read_input(args, desk)?;
+    let (mut first, mut second) = (vec![0; capacity], vec![0; capacity]);
+    let priced = engine(&table.prices, &input.bytes, limit, &mut first, &mut second);
+    if priced.run.refusal != 0 {
+        let why = refused(&input, &priced.run, capacity);
+        let over = table.over.filter(|_| priced.run.refusal == 11);
+        return Err(Failure::Refused(why + &over.map_or(String::new(), |over| format!("  {over}\n"))));
+    }
+    first.truncate(priced.run.left as usize);
+    let rest = match priced.run.end {
+        0 => bill(&table, &first, &priced)?,
+        _ => left(&first)? + "no charge: the run did not end in a value\n",
+    };
+    Ok(write!(desk.output, "{}{rest}", ended(&priced.run))?)
+}
+
+/// A line of the table: pump, pulses, band, price and charge.
+fn line(columns: [&str; 5]) -> String {
+    let [pump, pulses, band, price, charge] = columns;
+    format!("{pump:>4}  {pulses:>10}  {band:>4}  {price:>7}  {charge:>14}\n")
+}
+
+/// The items of the value with their charges, and the total.
+fn bill(table: &Table, words: &[u32], priced: &RecipePriced) -> Result<String, String> {
+    let value = term(words)?;
+    let items = items(&value).ok_or("the engine left a value that is no list of numbers")?;
+    let mut text = line(["pump", "pulses", "band", "price", "charge"]);
+    for ((pump, pulses), charge) in items.into_iter().enumerate().zip(priced.charge) {
+        let band = band(pulses);
+        let price = table.prices.cents[pump][band].to_string();
+        text += &line([&(pump + 1).to_string(), &pulses.to_string(), &band.to_string(), &price, &charge.to_string()]);
+    }
+    Ok(text + &format!("total{:>42}\n", priced.total))
+}
