@@ -1,6 +1,7 @@
 #!/bin/sh
 # Builds the panel's program and compares what it prints with outputs written by hand from documents 01 and 02.
-# With the argument `run` the example that runs a recipe is tried too. The archive must have been built before.
+# With the argument `run` the examples that run a recipe and price a can are tried too. The archive must have been built
+# before.
 set -eu
 cd "$(dirname "$0")/.."
 archive=target/staticlib/libexports.a
@@ -20,6 +21,11 @@ words() {
 repeat() {
     i=0
     while [ "$i" -lt "$1" ]; do words "$2"; i=$((i + 1)); done
+}
+
+# Prints the words of a list's cells, ML cons and number, for these pulses.
+items() {
+    for pulses in "$@"; do words 25 $((17 + 256 * pulses)); done
 }
 
 failed=0
@@ -53,6 +59,13 @@ same() {
     words 1 4 1 5 2 17 >other-type
     words 1 4 8 5 1 19 30 4 1 1 34 32 1809 >wrapped
     words 1 4 3 5 1 26 24 1 >hd-nil
+    words 2 4 3 6 3 1 27 24 1 >tl-nil
+    words 2 4 2 6 3 1 24 1 >no-items
+    { words 2 4 20 6 3 1; items 9999 10000 99999 100000 0 1 999 1000 16777215; words 24 1; } >nine-items
+    { words 2 4 22 6 3 1; items 1 2 3 4 5 6 7 8 9 10; words 24 1; } >ten-items
+    for pump in 1 2 3 4 5 6 7 8 9; do echo "$((100 * pump)) $((100 * pump + 1)) $((100 * pump + 2))"; done >prices
+    { head -n 8 prices; echo 1 2 1000001; } >over
+    head -n 8 prices >short
 )
 cd "$out"
 
@@ -94,6 +107,38 @@ if [ "${1:-}" = run ]; then
     same run-hd-nil 0 "error, code 4, 2 steps, 0 words left, 0 wanted
 0 calls, 0 conversions, 2 others" ./run hd-nil
     same run-kind 1 "refused 3 at word 5" ./run kind
+
+    (cd ../.. && ${CC:-cc} $flags -o "$out/price" panel/price.c "$archive")
+    # 125,000 x 8; 12,400 x 27; none of pump 3; 850 x 41: in thousandths of a cent.
+    same price-can 0 "pump 1: 1000 cents
+pump 2: 335 cents
+pump 3: 0 cents
+pump 4: 35 cents
+pump 5: 0 cents
+pump 6: 0 cents
+pump 7: 0 cents
+pump 8: 0 cents
+pump 9: 0 cents
+total: 1370 cents" ./price ../../recipes/can.bin ../../recipes/shop.prices
+    # 9,999 x 100; 10,000 x 201; 99,999 x 301; 100,000 x 402; 0; 1 x 600; 999 x 700; 1,000 x 800; 16,777,215 x 902.
+    same price-nine 0 "pump 1: 1000 cents
+pump 2: 2010 cents
+pump 3: 30100 cents
+pump 4: 40200 cents
+pump 5: 0 cents
+pump 6: 1 cents
+pump 7: 700 cents
+pump 8: 800 cents
+pump 9: 15133048 cents
+total: 15207859 cents" ./price nine-items prices
+    same price-error 0 "error after 2 steps: no charge" ./price tl-nil prices
+    same price-kind 1 "refused 3, place 5" ./price kind prices
+    same price-not-numbers 1 "refused 9, place 0" ./price add prices
+    same price-items 1 "refused 10, place 0" ./price ten-items prices
+    same price-over 1 "refused 11, place 0" ./price no-items over
+    same price-over-first 1 "refused 11, place 0" ./price empty over
+    same price-short 2 "usage: price FILE PRICES
+PRICES has nine rows of three prices: cents for 1,000 pulses." ./price no-items short
 fi
 
 [ "$failed" -eq 0 ] && echo "panel: all as written"
