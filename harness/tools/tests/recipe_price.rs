@@ -196,6 +196,8 @@ fn too_few_rows_and_too_many() {
     said_of(eight.as_bytes(), "line 10, column 1: the table ends after 8 of its nine rows; pump 9 has none");
     said_of(b"", "line 1, column 1: the table ends after 0 of its nine rows; pump 1 has none");
     said_of(b"# none\n", "line 2, column 1: the table ends after 0 of its nine rows; pump 1 has none");
+    // Of two faults the first is told.
+    said_of(b"1 2 3\n1 x\n", "line 2, column 3: x is no number; a price is digits alone, cents for 1,000 pulses");
     let ten = rows(&[]) + "\n  4 5 6\n";
     said_of(ten.as_bytes(), "line 11, column 3: a tenth row; the table has nine, one for each of pumps 1 to 9");
 }

@@ -2,9 +2,10 @@
 
 use crate::engine::RecipePrices;
 use model::price::{BANDS, MOST_PRICE, PUMPS};
+use std::fmt::Display;
 
 /// A word of the text, with its line and its column, both counted from 1.
-#[derive(Clone, Copy, Default)]
+#[derive(Clone, Copy)]
 struct Word<'a> {
     text: &'a str,
     line: usize,
@@ -20,23 +21,12 @@ pub struct Table {
 /// Reads the table from the file that is named.
 pub fn read_prices(name: &str) -> Result<Table, String> {
     let bytes = std::fs::read(name).map_err(|fault| format!("cannot read {name}: {fault}"))?;
-    let text = utf8(&bytes).map_err(|fault| format!("{name}, {fault}"))?;
-    let words = table(text).map_err(|fault| format!("{name}, {fault}"))?;
-    let mut prices = RecipePrices::default();
-    let mut over = None;
-    for (pump, band) in (0..PUMPS).flat_map(|pump| (0..BANDS).map(move |band| (pump, band))) {
-        let word = words[pump][band];
-        let price = price(word).map_err(|fault| format!("{name}, {}", at(word, &fault)))?;
-        prices.cents[pump][band] = price;
-        if price > MOST_PRICE && over.is_none() {
-            over = Some(format!("{name}, {}", at(word, &format!("{price}, of pump {} in band {band}", pump + 1))));
-        }
-    }
-    Ok(Table { prices, over })
+    let table = utf8(&bytes).and_then(table).map_err(|fault| format!("{name}, {fault}"))?;
+    Ok(Table { over: table.over.map(|over| format!("{name}, {over}")), ..table })
 }
 
 /// A sentence with the place that it is about.
-fn at(word: Word<'_>, sentence: &str) -> String {
+fn at(word: Word<'_>, sentence: impl Display) -> String {
     format!("line {}, column {}: {sentence}", word.line, word.column)
 }
 
@@ -50,40 +40,45 @@ fn utf8(bytes: &[u8]) -> Result<&str, String> {
     })
 }
 
-/// The words of the table, or what is wrong with its rows.
-fn table(text: &str) -> Result<[[Word<'_>; BANDS]; PUMPS], String> {
-    let mut words = [[Word::default(); BANDS]; PUMPS];
+/// The table of a text, or the first thing that is wrong with it.
+fn table(text: &str) -> Result<Table, String> {
+    let mut table = Table { prices: RecipePrices::default(), over: None };
     let mut pump = 0;
     for (index, line) in text.lines().enumerate() {
-        let found = line_words(line, index + 1);
-        let Some(first) = found.first() else { continue };
-        let Some(row) = words.get_mut(pump) else {
+        let words = line_words(line, index + 1);
+        let Some(first) = words.first() else { continue };
+        if pump == PUMPS {
             return Err(at(*first, "a tenth row; the table has nine, one for each of pumps 1 to 9"));
-        };
-        *row = three(&found, pump)?;
+        }
+        row(&words, pump, &mut table)?;
         pump += 1;
     }
     let end = Word { text: "", line: text.lines().count() + 1, column: 1 };
     match pump {
-        PUMPS => Ok(words),
-        _ => Err(at(end, &format!("the table ends after {pump} of its nine rows; pump {} has none", pump + 1))),
+        PUMPS => Ok(table),
+        _ => Err(at(end, format!("the table ends after {pump} of its nine rows; pump {} has none", pump + 1))),
     }
 }
 
-/// The three words of a pump's row.
-fn three<'a>(found: &[Word<'a>], pump: usize) -> Result<[Word<'a>; BANDS], String> {
-    let pump = pump + 1;
-    match *found {
-        [low, middle, high] => Ok([low, middle, high]),
-        [_, _, _, fourth, ..] => {
-            Err(at(fourth, &format!("a fourth price for pump {pump}; a row has three, for bands 0, 1 and 2")))
+/// Takes a pump's row of three prices, the pump being counted from 0.
+fn row(words: &[Word<'_>], pump: usize, table: &mut Table) -> Result<(), String> {
+    const THREE: &str = "a row has three, for bands 0, 1 and 2";
+    for (band, word) in words.iter().enumerate() {
+        if band == BANDS {
+            return Err(at(*word, format!("a fourth price for pump {}; {THREE}", pump + 1)));
         }
-        [.., last] => {
-            let behind = Word { column: last.column + last.text.chars().count(), ..last };
-            let band = found.len();
-            Err(at(behind, &format!("pump {pump} has no price for band {band}; a row has three, for bands 0, 1 and 2")))
+        let price = price(word.text).map_err(|fault| at(*word, fault))?;
+        table.prices.cents[pump][band] = price;
+        if price > MOST_PRICE && table.over.is_none() {
+            table.over = Some(at(*word, format!("{price}, of pump {} in band {band}", pump + 1)));
         }
-        [] => unreachable!("a row has words"),
+    }
+    match words {
+        [.., last] if words.len() < BANDS => {
+            let behind = Word { column: last.column + last.text.chars().count(), ..*last };
+            Err(at(behind, format!("pump {} has no price for band {}; {THREE}", pump + 1, words.len())))
+        }
+        _ => Ok(()),
     }
 }
 
@@ -101,9 +96,9 @@ fn line_words(line: &str, number: usize) -> Vec<Word<'_>> {
     found
 }
 
-/// The number that a word is, or what to write in its place.
-fn price(word: Word<'_>) -> Result<u32, String> {
-    let (text, shown) = (word.text, word.text.escape_debug());
+/// The number that a text is, or what to write in its place.
+fn price(text: &str) -> Result<u32, String> {
+    let shown = text.escape_debug();
     let is_number = |text: &str| !text.is_empty() && text.bytes().all(|byte| byte.is_ascii_digit());
     let plain = text.replace(',', "");
     if is_number(text) {
