@@ -99,7 +99,7 @@ fn typed(example: &Example, status: &mut u8) -> String {
     }
 }
 
-/// A folder of its own with the recipes of document 01 in it, where the commands are typed.
+/// A folder of its own with the recipes and prices of recipes/ in it, where the commands are typed.
 fn enter_folder() -> PathBuf {
     let folder = std::env::temp_dir().join(format!("recipes-page-{}", std::process::id()));
     std::fs::create_dir_all(folder.join("recipes")).expect("a folder");
@@ -128,7 +128,7 @@ fn every_command_refusal_end_and_class_is_on_the_page() {
     let page = page();
     let examples = examples(&page);
     let shown = |start: &str| examples.iter().any(|example| example.printed.starts_with(start));
-    for number in 1..=8 {
+    for number in 1..=11 {
         assert!(shown(&format!("refused {number}: ")), "refusal {number}");
     }
     for start in ["value after", "spent after", "full after", "error 300 after"] {
@@ -137,7 +137,7 @@ fn every_command_refusal_end_and_class_is_on_the_page() {
     for class in ["call", "conversion", "other"] {
         assert!(examples.iter().any(|example| example.printed.contains(&format!(" ({class})\n"))), "{class}");
     }
-    for command in ["make", "show", "check", "run", "step"] {
+    for command in ["make", "show", "check", "run", "step", "price"] {
         assert!(examples.iter().any(|example| example.command.contains(&format!("recipe {command}"))), "{command}");
     }
 }
