@@ -1,5 +1,6 @@
 //! The tables of the benchmarks: their figures and their width. Nothing here is timed.
 
+use tools::bench::prices::{self, Priced};
 use tools::bench::table::{head, Measured};
 use tools::bench::{ABOUT, ABOUT_OLD, PARTS};
 
@@ -52,4 +53,15 @@ fn tables_fit_120_columns() {
     for text in head(false).into_iter().chain(head(true)).chain([large.row()]).chain(texts) {
         assert!(text.lines().all(|line| line.len() <= 120), "{text}");
     }
+}
+
+#[test]
+fn a_can_has_the_time_of_a_run_and_of_a_pricing_and_their_ratio() {
+    let can = Priced { name: "can".into(), steps: 9, lent: 64, run: Some(2e-6), price: Some(3e-6) };
+    assert_eq!(figures(&can.row()), ["9", "64", "2000", "3000", "1.50"]);
+    assert_eq!(prices::head().len(), can.row().len());
+    let unknown = Priced { run: None, price: None, ..can };
+    assert_eq!(figures(&unknown.row()), ["9", "64", "-", "-", "-"]);
+    let long = Priced { name: "x".repeat(34), steps: 20_000, lent: 16_384, run: Some(9.0), price: Some(9.0) };
+    assert!(long.row().len() <= 120 && prices::head().len() <= 120);
 }

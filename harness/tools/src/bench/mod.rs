@@ -2,6 +2,7 @@
 
 mod checks;
 mod growth;
+pub mod prices;
 mod recipes;
 mod runs;
 pub mod table;
@@ -16,10 +17,11 @@ pub struct Part {
 }
 
 /// The parts, in the order in which they are printed.
-pub const PARTS: [Part; 3] = [
+pub const PARTS: [Part; 4] = [
     Part { name: "check", about: CHECKS, tables: checks::tables },
     Part { name: "run", about: STEPS, tables: runs::tables },
     Part { name: "growth", about: STEPS, tables: growth::tables },
+    Part { name: "price", about: PRICES, tables: prices::tables },
 ];
 
 /// What holds of all figures, printed before them.
@@ -50,4 +52,10 @@ the file, the first words put into the buffer and the clearing of both buffers a
 are lent of just the words needed (lent: the largest term's or the file's, whichever is more, rounded up to 64); they
 are not cleared beforehand but hold what the last run left. words: of a term, on average. tree/engine over 1 says that
 the engine takes less time, engine/copy over 1 that it takes more.
+";
+
+/// What the figures of cans priced are.
+const PRICES: &str = "\
+price: cans of nine items. run: recipe_run. price: recipe_price of the same file. Both are whole calls, with reading,
+check and clearing, in two buffers of just the words needed (lent). price/run over 1 says that the pricing takes longer.
 ";

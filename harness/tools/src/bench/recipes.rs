@@ -1,5 +1,6 @@
 //! The recipes of the benchmarks, as texts.
 
+use crate::make::cans::{can_text, counted_down};
 use crate::make::{file_of_text, sum};
 
 /// A recipe to measure: its name in a table, and its file.
@@ -22,6 +23,18 @@ pub fn recipes() -> Vec<Recipe> {
         recipe("4,000-word curve", &format!("{{{{N}}}} (ms {{{{N}}}} {})", curve(60, 32))),
         recipe("tree of 1,000 sums", &format!("N {}", sums(1_000))),
         recipe("sums nested 250 deep", &format!("N {}", nested("(add 1 ", 250, "1"))),
+    ]
+}
+
+/// Cans of nine items: as a value, through a pump curve, counted down, and sums in a long file.
+pub fn cans() -> Vec<Recipe> {
+    let items: Vec<String> = (0..9).map(|pump| (pump * 12_345).to_string()).collect();
+    let sums = vec![sums(200); 9];
+    vec![
+        recipe("nine items as a value", &format!("{{N}} {}", can_text(&items))),
+        recipe("nine through a pump curve", &mapped(9)),
+        recipe("nine counted down", &format!("{{N}} {}", counted_down(9))),
+        recipe("nine sums of 200 in 3,600 words", &format!("{{N}} {}", can_text(&sums))),
     ]
 }
 

@@ -51,7 +51,7 @@ fn differences(times: &[f64]) -> (f64, impl Iterator<Item = f64> + '_) {
 }
 
 /// The words of each term that a run reaches, the first included.
-fn sizes(term: &Rc<Ml>, limit: u32) -> Vec<usize> {
+pub fn sizes(term: &Rc<Ml>, limit: u32) -> Vec<usize> {
     let mut term = term.clone();
     let mut sizes = vec![Node::Ml(&term).size()];
     for _ in 0..limit {
@@ -65,7 +65,7 @@ fn sizes(term: &Rc<Ml>, limit: u32) -> Vec<usize> {
 }
 
 /// The words of a buffer: the largest term's or the file's, rounded up.
-fn lent(sizes: &[usize], file_words: usize) -> usize {
+pub fn lent(sizes: &[usize], file_words: usize) -> usize {
     let needed = sizes.iter().copied().fold(file_words, usize::max);
     needed.next_multiple_of(64).min(MOST_WORDS)
 }
