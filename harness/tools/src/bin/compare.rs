@@ -6,7 +6,8 @@ use std::path::Path;
 use std::process::ExitCode;
 use tools::args::Args;
 use tools::compare::{
-    compare_check, compare_list, compare_price, compare_run, compare_stack, missing, table, Counts, Plan,
+    compare_check, compare_list, compare_price, compare_priced_stack, compare_run, compare_stack, missing, table,
+    Counts, Plan,
 };
 use tools::engine::{linked_check, linked_price, linked_run};
 use tools::output::say;
@@ -28,7 +29,7 @@ price        edges of prices, pulses, items and of what is lent, every choice of
              buffers
 list         files at the edges, two long recipes, and those of N random files (3000) that end soon: every byte that the
              listing program, target/bin/listing, prints of each
-stack        the deepest runs of 16,384 words, and the deepest files, on a stack of K KiB (2048)
+stack        the deepest runs of 16,384 words, and the deepest files, run and priced on a stack of K KiB (2048)
 --seed S     random files depend on the seed (1) and their index alone
 --start I    begin with random file I; the files that are the same every time are left out unless I is 0
 --all-reached  fail if a rule, an end, a class of steps before an end (call, conversion, other) or a refusal was never
@@ -111,8 +112,10 @@ fn list(args: Args) -> Result<(), Fault> {
 fn stack(mut args: Args) -> Result<(), Fault> {
     let kib = args.number("--kib", 2_048).map_err(Fault::Usage)?;
     args.finish().map_err(Fault::Usage)?;
-    let engine = linked_run().ok_or(without("run"))?;
-    for line in compare_stack(engine, kib as usize * 1024).map_err(difference)? {
+    let (run, price) = linked_run().zip(linked_price()).ok_or(without("run"))?;
+    let bytes = kib as usize * 1024;
+    let ran = compare_stack(run, bytes).map_err(difference)?;
+    for line in ran.into_iter().chain(compare_priced_stack(price, bytes).map_err(difference)?) {
         say(line);
     }
     say(format!("a stack of {kib} KiB serves"));

@@ -15,8 +15,17 @@ pub struct Known {
 /// All of them: terms that grow as deep as the words allow, lambdas substituted into, and files nested 256 deep.
 pub fn deepest() -> Vec<Known> {
     let grown = GROWING.iter().map(Growing::known);
-    grown.chain(WRAPS.iter().map(Wrap::known)).chain([nested_choices(), nested_types()]).collect()
+    grown.chain(WRAPS.iter().map(|wrap| wrap.known(&[2]))).chain([nested_choices(), nested_types()]).collect()
 }
+
+/// Those that can be priced: terms of type {N}. Their runs end as full, so there is no charge.
+pub fn deepest_cans() -> Vec<Known> {
+    let grown = GROWING.iter().filter(|growing| growing.declared == NUMBERS).map(Growing::known);
+    grown.chain(WRAPS.iter().map(|wrap| wrap.known(&NUMBERS))).collect()
+}
+
+/// The words of {N}.
+const NUMBERS: [u32; 2] = [3, 1];
 
 /// A recipe that grows by the same words at each step, those of its term, and by how many it grows.
 struct Growing {
@@ -84,25 +93,26 @@ impl Wrap {
         [self.before.repeat(rounds), term.to_vec(), self.after.repeat(rounds)].concat()
     }
 
-    /// ms L (app (app w w) 0), where w = fn (fn (app (app v1 v1) (app (fn R) 0))), R being a round around v2: applied to
+    /// ms t (app (app w w) 0), where w = fn (fn (app (app v1 v1) (app (fn R) 0))), R being a round around v2: applied to
     /// itself and to a value, w calls itself with the value in one more round. Rounds nest as deep as the words allow, and
-    /// each applies a lambda around all the others to 0, so that a substitution goes through them to the innermost.
-    fn known(&self) -> Known {
+    /// each applies a lambda around all the others to 0, so that a substitution goes through them to the innermost. The ms
+    /// never comes to its turn, whatever the type t is.
+    fn known(&self, declared: &[u32]) -> Known {
         let round = [&[35, 34][..], &self.around(&[32 + 512], 1), &[33]].concat();
         let again = [&[34, 34, 35, 35, 32 + 256, 32 + 256][..], &round].concat();
         let pair = [&[35][..], &again, &again].concat();
-        let term = [&[30, 2, 35][..], &pair, &[33]].concat();
+        let ms = [&[30][..], declared, &[35]].concat();
+        let term = [&ms[..], &pair, &[33]].concat();
         // The lambda that (app w w) becomes: w's body, w being put in.
         let becomes = [&[34, 35][..], &pair, &round].concat();
-        // ms L (app (app w w) (app (fn R) 0)), and the same one step later, with so many rounds around 0 in R.
-        let waits =
-            |rounds: usize| [&[30, 2, 35][..], &pair, &[35, 34], &self.around(&[33], rounds + 1), &[33]].concat();
+        // ms t (app (app w w) (app (fn R) 0)), and the same one step later, with so many rounds around 0 in R.
+        let waits = |rounds: usize| [&ms[..], &pair, &[35, 34], &self.around(&[33], rounds + 1), &[33]].concat();
         let one_later = |rounds: usize| waits(rounds).len() - pair.len() + becomes.len();
         let rounds = (MOST_WORDS - one_later(0)) / (self.before.len() + self.after.len()) + 1;
         let left = waits(rounds);
         // One call to the lambda at first, three in each round, and one in the round that does not end.
         let answer = full(2 + 3 * rounds, left.len(), one_later(rounds));
-        Known { name: self.name, file: file(&[2], &term), answer, left }
+        Known { name: self.name, file: file(declared, &term), answer, left }
     }
 }
 

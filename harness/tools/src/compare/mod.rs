@@ -20,7 +20,7 @@ pub use list::{compare_list, listed};
 pub use price::{compare_price, PriceCounts};
 pub use report::show_file;
 pub use run::compare_run;
-pub use stack::compare_stack;
+pub use stack::{compare_priced_stack, compare_stack};
 
 /// How many random files, which ones, and whether everything must have been reached.
 #[derive(Clone, Copy)]

@@ -1,25 +1,46 @@
-//! The engine on a small stack: the deepest terms that 16,384 words allow, and the deepest files.
+//! The engine on a small stack: the deepest terms that 16,384 words allow, and the deepest files, run and priced.
 
-use super::deepest::{deepest, Known};
-use crate::engine::Run;
+use super::deepest::{deepest, deepest_cans, Known};
+use crate::engine::{Price, RecipePriced, RecipePrices, Run};
 use model::run::MOST_WORDS;
 use model::stack::on_stack;
+use std::fmt::Debug;
 
 /// Runs each with 16,384 words on a thread with a stack of the given size. A stack that is too small ends the program.
 pub fn compare_stack(engine: Run, bytes: usize) -> Result<Vec<String>, String> {
-    deepest().iter().map(|known| compare(known, engine, bytes)).collect()
+    let run = |known: &Known| {
+        let operation = |first: &mut [u32], second: &mut [u32]| engine(&known.file, u32::MAX, first, second);
+        compare(known, known.answer, bytes, operation)
+    };
+    deepest().iter().map(run).collect()
 }
 
-/// Runs one, and says what it came to.
-fn compare(known: &Known, engine: Run, bytes: usize) -> Result<String, String> {
+/// The same with a pricing of those that can be priced.
+pub fn compare_priced_stack(engine: Price, bytes: usize) -> Result<Vec<String>, String> {
+    let prices = RecipePrices::default();
+    let price = |known: &Known| {
+        let operation = |first: &mut [u32], second: &mut [u32]| engine(&prices, &known.file, u32::MAX, first, second);
+        let answer = RecipePriced { run: known.answer, ..RecipePriced::default() };
+        compare(known, answer, bytes, operation).map(|told| format!("priced: {told}"))
+    };
+    deepest_cans().iter().map(price).collect()
+}
+
+/// Does one, and says what it came to.
+fn compare<A: PartialEq + Debug + Send>(
+    known: &Known,
+    answer: A,
+    bytes: usize,
+    operation: impl FnOnce(&mut [u32], &mut [u32]) -> A + Send,
+) -> Result<String, String> {
     let (seen, words) = on_stack(bytes, || {
         let (mut first, mut second) = (vec![7; MOST_WORDS], vec![7; MOST_WORDS]);
-        let seen = engine(&known.file, u32::MAX, &mut first, &mut second);
+        let seen = operation(&mut first, &mut second);
         (seen, first)
     });
-    let Known { name, answer, left, .. } = known;
-    if seen != *answer || !words.starts_with(left) {
+    let name = known.name;
+    if seen != answer || !words.starts_with(&known.left) {
         return Err(format!("{name}: {answer:?} is due, not {seen:?}, or the words left are others"));
     }
-    Ok(format!("{name}: {} words after {} steps", seen.left, seen.steps))
+    Ok(format!("{name}: {} words after {} steps", known.answer.left, known.answer.steps))
 }
