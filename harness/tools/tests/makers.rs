@@ -1,8 +1,13 @@
 //! The makers make what they promise, and reach every rule, end and refusal.
 
 use model::laws::{try_counts, try_reduction};
+use model::price::items;
 use model::rules::{Rule, RuleCounts};
-use model::{check, on_large_stack, run};
+use model::run::reduce;
+use model::{check, on_large_stack, run, End};
+use std::collections::BTreeSet;
+use tools::make::cans::can_file;
+use tools::make::prices::{any_prices, differing};
 use tools::make::*;
 use tools::random::Random;
 
@@ -16,6 +21,33 @@ fn well_typed_files_are_accepted() {
         assert!(numbers.iter().all(|&number| number == 1), "{numbers:?}");
         assert!(numbers.len() < 30, "{} are too large", numbers.len());
     });
+}
+
+#[test]
+fn cans_are_accepted_and_most_come_to_a_value_of_0_to_12_items() {
+    on_large_stack(|| {
+        let mut numbers = [0; 13];
+        for index in 0..FILES {
+            let recipe = check(&can_file(&mut Random::new(1, index))).expect("accepted");
+            let (ended, left) = reduce(recipe.term, 300, 2_000, &mut RuleCounts::default());
+            if let (End::Value, Some(value)) = (ended.end, left) {
+                let count = items(&value).expect("a list of numbers").len();
+                numbers[count.min(12)] += 1;
+            }
+        }
+        assert!(numbers.iter().all(|&count| count > 20), "{numbers:?}");
+        assert!(numbers.iter().sum::<u64>() > FILES * 2 / 3, "{numbers:?}");
+    });
+}
+
+#[test]
+fn prices_that_differ_and_prices_that_are_refused() {
+    let differ = |cents: [[u32; 3]; 9]| cents.iter().flatten().collect::<BTreeSet<_>>().len() == 27;
+    assert!(differ(differing().cents) && differing().cents.iter().flatten().all(|&price| price <= 1_000_000));
+    let tables: Vec<_> = (0..FILES).map(|index| any_prices(&mut Random::new(1, index)).cents).collect();
+    let over = tables.iter().filter(|cents| cents.iter().flatten().any(|&price| price > 1_000_000)).count();
+    assert!((FILES as usize / 20..FILES as usize / 8).contains(&over), "{over}");
+    assert!(tables.iter().filter(|cents| differ(**cents)).count() > FILES as usize / 3);
 }
 
 #[test]

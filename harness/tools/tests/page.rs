@@ -134,6 +134,10 @@ fn every_command_refusal_end_and_class_is_on_the_page() {
     for start in ["value after", "spent after", "full after", "error 300 after"] {
         assert!(shown(start), "{start}");
     }
+    for last in ["\ntotal                                      1370\n", "\nno charge: the run did not end in a value\n"]
+    {
+        assert!(examples.iter().any(|example| example.printed.ends_with(last)), "{last}");
+    }
     for class in ["call", "conversion", "other"] {
         assert!(examples.iter().any(|example| example.printed.contains(&format!(" ({class})\n"))), "{class}");
     }

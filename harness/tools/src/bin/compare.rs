@@ -13,7 +13,7 @@ use tools::engine::{linked_check, linked_price, linked_run};
 use tools::output::say;
 
 const HELP: &str = "\
-Compares the engine with a checker and a reducer built apart from it.
+Compares the engine with a checker, a reducer and a pricing built apart from it.
 
 usage: compare check [--files N] [--seed S] [--start I] [--all-reached]
        compare run   [--files N] [--seed S] [--start I] [--all-reached]

@@ -129,10 +129,12 @@ fn compare(engine: Run, case: &Case, counts: &mut Counts) -> Result<model::Run, 
     }
 }
 
+/// The model's run.
 fn by_model(case: &Case) -> model::Run {
     model::run(&case.file, case.limit, case.first, case.second)
 }
 
+/// The engine's run with buffers full of rubbish.
 fn by_engine(engine: Run, case: &Case) -> Seen<RecipeRun> {
     lend(case, |first, second| engine(&case.file, case.limit, first, second))
 }

@@ -10,13 +10,14 @@ use model::tree::MOST;
 pub const PULSES: [u32; 15] =
     [0, 1, 2, 999, 1_000, 1_001, 9_998, 9_999, 10_000, 10_001, 99_999, 100_000, 100_001, 16_777_214, 16_777_215];
 
-/// A list of so many pulses: mostly as many as there are pumps or fewer, now and then more.
+/// The pulses of a can: mostly for as many pumps as there are or fewer, now and then for more.
 fn pulses(random: &mut Random) -> Vec<u32> {
     let (few, more) = (random.below(10), 10 + random.below(3));
     let count = random.weighted(&[(70, few), (18, 9), (12, more)]);
     (0..count).map(|_| any_pulses(random)).collect()
 }
 
+/// Telling pulses, or any.
 fn any_pulses(random: &mut Random) -> u32 {
     let (telling, any) = (random.pick(&PULSES), random.word() >> random.weighted(&[(1, 8), (1, 12), (1, 18)]));
     random.weighted(&[(70, telling), (30, any)])
@@ -69,6 +70,7 @@ fn scheme_list(random: &mut Random, numbers: &[u32]) -> String {
     items.iter().rev().fold(end.to_string(), |rest, item| format!("(cons {item} {rest})"))
 }
 
+/// Each number as a term.
 fn items(random: &mut Random, numbers: &[u32], item: fn(&mut Random, u32) -> String) -> Vec<String> {
     numbers.iter().map(|&number| item(random, number)).collect()
 }

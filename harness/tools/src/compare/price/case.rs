@@ -32,6 +32,7 @@ impl PriceCase {
         model::price(&self.prices.cents, file, *limit, *first, *second)
     }
 
+    /// What the engine answers and leaves in buffers full of rubbish.
     fn by_engine(&self, engine: Price) -> Seen<RecipePriced> {
         lend(&self.lent, |first, second| engine(&self.prices, &self.lent.file, self.lent.limit, first, second))
     }
@@ -41,6 +42,7 @@ impl PriceCase {
         self.lent.is_short() && seen_of(&self.by_model()) != self.by_engine(engine)
     }
 
+    /// A smaller case in which the two still differ.
     fn shrunk(&self, engine: Price) -> PriceCase {
         let mut best = self.clone();
         for _ in 0..2 {
@@ -67,6 +69,7 @@ impl PriceCase {
         format!("prices:   {}\n{}", rows.join(", "), self.lent.show())
     }
 
+    /// The case, and what both sides answer and leave.
     fn shown(&self, engine: Price) -> String {
         self.show() + &show_both(&seen_of(&self.by_model()), &self.by_engine(engine))
     }

@@ -10,19 +10,23 @@ use model::{check, Charges, End, Ml, Priced, Refusal};
 /// Counts of pulses at the edges of the bands, and the least and the largest.
 const PULSES: [u32; 6] = [0, 9_999, 10_000, 99_999, 100_000, 16_777_215];
 
+/// All that is counted of pricings.
 #[derive(Default)]
 pub struct PriceCounts {
     pub pricings: u64,
+    /// The ends, the steps to them, and the refusals.
     runs: Counts,
     /// Values of so many items.
     items: [u64; PUMPS + 1],
     /// Ends of lists of ten or more items, by the end; those at a value are refused.
     long: [u64; 4],
+    /// Refusals 10 of runs that had made steps.
     refused_after_steps: u64,
     /// Charges over 0.
     charged: [[u64; BANDS]; PUMPS],
     /// Tables in which this price alone is too large.
     over: [[u64; BANDS]; PUMPS],
+    /// Items of just these pulses.
     pulses: [u64; PULSES.len()],
     /// Charges that were rounded up, that were not, at price 0, at the largest price, and over 32 bits; totals over 32 bits.
     charges: [u64; 5],
@@ -32,6 +36,7 @@ pub struct PriceCounts {
 }
 
 impl PriceCounts {
+    /// Counts a pricing, by what the model answers.
     pub fn count(&mut self, case: &PriceCase, priced: &Priced) {
         self.pricings += 1;
         match &priced.run.result {
@@ -46,6 +51,7 @@ impl PriceCounts {
         }
     }
 
+    /// Counts a refusal, and the price that alone is too large.
     fn refused(&mut self, refusal: &Refusal, case: &PriceCase, priced: &Priced) {
         self.runs.refused(refusal);
         let steps: u64 = Rule::ALL.iter().map(|rule| priced.run.rules.of(*rule)).sum();
@@ -57,6 +63,7 @@ impl PriceCounts {
         }
     }
 
+    /// Counts the items of a value, and what they are charged.
     fn charged(&mut self, case: &PriceCase, charges: &Charges) {
         self.items[charges.items.len()] += 1;
         self.large_totals += u64::from(charges.total > u64::from(u32::MAX));
@@ -98,6 +105,7 @@ impl PriceCounts {
         (0..PUMPS).map(charged).chain((0..PUMPS).map(over)).collect()
     }
 
+    /// The rows of charges and totals.
     fn charge_rows(&self) -> Vec<(String, u64)> {
         let names = ["rounded up", "not rounded", "at price 0", "at price 1,000,000", "over 32 bits"];
         let charges = names.iter().zip(self.charges).map(|(name, count)| (format!("charge {name}"), count));

@@ -16,6 +16,7 @@ pub fn all() -> Vec<PriceCase> {
 /// Words that serve every recipe here but the long lists.
 const PLENTY: usize = 100;
 
+/// A pricing of the recipe of a text.
 fn case(prices: RecipePrices, text: &str, limit: u32, lengths: (usize, usize)) -> PriceCase {
     PriceCase { prices, lent: Case::new(file_of_text(text), limit, lengths.0, lengths.1) }
 }
