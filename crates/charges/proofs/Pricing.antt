@@ -1,7 +1,7 @@
 -- Laws of bands, charges and prices. Assumes nothing.
 use Prim.Native.Nat.{ℕ, zero, suc, _+_, _*_, _/_, _≤_, _<_}
 use mathlib.Core.Bool.{Bool, true, false, cond, _&&_}
-use mathlib.Core.List.{List, [], _∷_}
+use mathlib.Core.List.{List, [], _∷_, _++_}
 use mathlib.Core.Path.{_≡_, refl, sym, ap, _∙_}
 use native.Mathlib.Nat.{zero-mul, mul-le-mul-right, mul-le-mul-left, le-trans}
 use native.Mathlib.Omega.{arith}
@@ -52,6 +52,14 @@ charge-at (row ∷ rows) [] zero h = sym (charge-none (getD row 0 0))
 charge-at (row ∷ rows) [] (suc i) h = charge-at rows [] i (omega arith)
 charge-at (row ∷ rows) (n ∷ ns) zero h = refl
 charge-at (row ∷ rows) (n ∷ ns) (suc i) h = charge-at rows ns i (omega arith)
+
+-- Pumps that give 0 pulses are as those without an item.
+pub charges-zeros : (prices : Prices) (ns : List ℕ) (k : ℕ) → charges prices (ns ++ replicate k 0) ≡ charges prices ns
+unfolding charges
+charges-zeros [] ns k = refl
+charges-zeros (row ∷ rows) [] zero = refl
+charges-zeros (row ∷ rows) [] (suc k) = rw (← (charge-none (getD row 0 0)), charges-zeros rows [] k)
+charges-zeros (row ∷ rows) (n ∷ ns) k = ap (λ (cs : List ℕ). charge n (getD row (band n) 0) ∷ cs) (charges-zeros rows ns k)
 
 -- Charges that are all there need no zeros after them.
 pub padded-all : (n : ℕ) (cs : List ℕ) → length cs ≡ n → padded n (take n cs) ≡ cs

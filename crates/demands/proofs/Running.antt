@@ -30,6 +30,7 @@ use Rattle.engine.specs.declared.runs.Answer.{Answer}
 use Rattle.engine.specs.declared.runs.Answer.the-variants.{Refused, Ended}
 use Rattle.engine.specs.Results.{Line, lineOf, endOf, told}
 use Rattle.engine.specs.Answered.{spoken, Answered}
+use Rattle.engine.proofs.Answering.{passed-by}
 use Rattle.demands.specs.Demanded.{Finishes, refuses, ends, Reduces, Fitting, Over, RefusedBy, Exact, Once, Same}
 use Rattle.engine.specs.Lent.{Lent, Returned, room}
 
@@ -79,12 +80,6 @@ reduce l g e x c o h =
       first = h .first-is ∙ ap (λ (v : Verdict spec.Result). padded (length (l .first)) (leftBy v)) o;
       second = h .second-is;
     }
-
--- Where the answer is an end the specification's result is that end's.
-passed-by : (v : Verdict spec.Result) (x : Report) → passed (told x) ≡ andThen v (λ y. passed (lineOf y))
-    → (r : spec.Result) × (v ≡ passed r) × (told x ≡ lineOf r)
-passed-by (refused n p) x q = absurd (not-both n p (told x) (sym q))
-passed-by (passed r) x q = (r, refl, passed-injective (told x) (lineOf r) q)
 
 -- A run's first words are those that it leaves.
 front : (l : Lent) (g : Returned) (r : spec.Result) → operate (l .bytes) (l .limit) (length (l .first)) (length (l .second)) ≡ passed r → Promised l g

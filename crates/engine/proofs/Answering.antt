@@ -12,10 +12,11 @@ use Rattle.calculus.specs.Kinds.{term}
 use Rattle.calculus.specs.Verdicts.{Verdict, refused, passed, andThen}
 use Rattle.calculus.specs.Run as spec
 use Rattle.calculus.specs.File.{wordsOf, Recipe, check, runIn, operate}
+use Rattle.calculus.proofs.Verdicts.{not-both, passed-injective}
 use Rattle.calculus.proofs.Sizes.{tree-length}
 use Rattle.calculus.proofs.Checks.{passes-in-order}
 use Rattle.nodes.specs.declared.refusals.Refusal.{Refusal}
-use Rattle.nodes.specs.Refusals.{refusal}
+use Rattle.nodes.specs.Refusals.{numberOf, placeOf, refusal}
 use Rattle.writing.specs.Wrote.{Wrote}
 use Rattle.checker.proofs.Admitting.{term-at, Admits}
 use Rattle.engine.specs.declared.ends.Report.{Report}
@@ -36,6 +37,16 @@ answered-as : {v w : Verdict spec.Result} {x : Answer} {first second first′ se
     → Answered w x first second first′ second′
 answered-as {x = x} {first = first} {second = second} {first′ = first′} {second′ = second′} e h =
     subst (λ (u : Verdict spec.Result). Answered u x first second first′ second′) e h
+
+-- Where the answer is an end the specification's result is that end's; where it is a refusal, the specification refuses so.
+pub passed-by : (v : Verdict spec.Result) (x : Report) → passed (told x) ≡ andThen v (λ y. passed (lineOf y))
+    → (r : spec.Result) × (v ≡ passed r) × (told x ≡ lineOf r)
+passed-by (refused n p) x q = absurd (not-both n p (told x) (sym q))
+passed-by (passed r) x q = (r, refl, passed-injective (told x) (lineOf r) q)
+
+pub refused-by : (v : Verdict spec.Result) (r : Refusal) → refusal r ≡ andThen v (λ y. passed (lineOf y)) → v ≡ refusal r
+refused-by (refused n p) r q = let z : _≡_ {A = Verdict spec.Result} (refused n p) (refusal r) = cc in z
+refused-by (passed y) r q = absurd (not-both (numberOf r) (placeOf r) (lineOf y) q)
 
 words-size : (e : Term ml) → length (words e) ≡ size e
 words-size e = omega (arith, tree-length (term ml) e [])
