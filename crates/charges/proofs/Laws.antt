@@ -1,15 +1,15 @@
 -- The laws of prices and charges. Assumes nothing.
-use Prim.Native.Nat.{ℕ, zero, suc, _+_, _*_, _≤_}
+use Prim.Native.Nat.{ℕ, zero, suc, _+_, _*_, _≤_, _<_}
 use mathlib.Core.Bool.{Bool, true, false, _&&_, false≢true}
 use mathlib.Core.List.{List, [], _∷_}
-use mathlib.Core.Path.{_≡_, refl}
+use mathlib.Core.Path.{_≡_, refl, sym}
 use native.Mathlib.Nat.{mul-le-mul-right, mul-le-mul-left, le-trans}
 use native.Mathlib.Omega.{arith}
 use lib.Dec.{leb}
 use lib.ListN.{length, getD}
-use borrow.Author.Tests.{le-leb, leb-true}
+use borrow.Author.Tests.{le-leb, leb-true, leb-false}
 use Rattle.charges.specs.Prices.{Prices, price, band, charge, charges, total, mostCents, within, allWithin}
-use Rattle.charges.specs.Laws.{RoundedUp, ForEach, Within, Tested, Widths}
+use Rattle.charges.specs.Laws.{RoundedUp, ForEach, Within, Overpriced, Tested, Widths}
 use Rattle.charges.proofs.Pricing.{charges-length}
 
 pub rounded-up : RoundedUp
@@ -53,8 +53,36 @@ unfolding allWithin
 all-all [] h = refl
 all-all (row ∷ rows) h = rw (row-all row (h 0), all-all rows (λ p. h (suc p)))
 
+-- The first price that is over, where the test fails.
+row-over : (row : List ℕ) → within row ≡ false → (band : ℕ) × (mostCents < getD row band 0)
+unfolding within
+row-over [] h = absurd (false≢true (sym h))
+row-over (cents ∷ more) h = by (leb cents mostCents) refl h (λ q. row-over more q)
+  where
+    by : (b : Bool) → leb cents mostCents ≡ b → b && within more ≡ false → (within more ≡ false → (band : ℕ) × (mostCents < getD more band 0))
+        → (band : ℕ) × (mostCents < getD (cents ∷ more) band 0)
+    by true q e rest = let r = rest e in (suc (r .0), r .1)
+    by false q e rest = (0, leb-false cents mostCents q)
+
+all-over : (prices : Prices) → allWithin prices ≡ false → Overpriced prices
+unfolding allWithin
+all-over [] h = absurd (false≢true (sym h))
+all-over (row ∷ rows) h = by (within row) refl h (λ q. all-over rows q)
+  where
+    by : (b : Bool) → within row ≡ b → b && allWithin rows ≡ false → (allWithin rows ≡ false → Overpriced rows) → Overpriced (row ∷ rows)
+    by true q e rest = let r = rest e in record { pump = suc (r .pump); band = r .band; over = r .over }
+    by false q e rest = let r = row-over row q in record { pump = 0; band = r .0; over = r .1 }
+
+not-within : (prices : Prices) (b : Bool) → allWithin prices ≡ b → Overpriced prices → allWithin prices ≡ false
+not-within prices true q o = absurd (omega (arith, all-yes prices q (o .pump) (o .band), o .over))
+not-within prices false q o = q
+
 pub tested : Tested
-tested = record { tested = λ prices. (all-yes prices, all-all prices) }
+tested =
+    record {
+      all-within = λ prices. (all-yes prices, all-all prices);
+      one-over = λ prices. (all-over prices, not-within prices (allWithin prices) refl);
+    }
 
 -- The widest charge.
 charge-fits : (p q : ℕ) → p ≤ 4294967295 → q ≤ mostCents → charge p q ≤ 4294967295000

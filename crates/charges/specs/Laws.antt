@@ -1,6 +1,6 @@
 -- Laws of prices and charges, the statements alone; proofs/Laws.antt proves them.
-use Prim.Native.Nat.{ℕ, _*_, _≤_}
-use mathlib.Core.Bool.{true}
+use Prim.Native.Nat.{ℕ, _*_, _≤_, _<_}
+use mathlib.Core.Bool.{true, false}
 use mathlib.Core.List.{List}
 use mathlib.Core.Logic.{_↔_}
 use mathlib.Core.Path.{_≡_}
@@ -21,8 +21,15 @@ pub record ForEach : Type 0 where
 abbrev pub Within : Prices → Type 0
 Within prices = (pump band : ℕ) → price prices pump band ≤ mostCents
 
+-- Some price is.
+pub record Overpriced (prices : Prices) : Type 0 where
+  pub pump : ℕ
+  pub band : ℕ
+  pub over : mostCents < price prices pump band
+
 pub record Tested : Type 0 where
-  pub tested : (prices : Prices) → (allWithin prices ≡ true) ↔ Within prices
+  pub all-within : (prices : Prices) → (allWithin prices ≡ true) ↔ Within prices
+  pub one-over : (prices : Prices) → (allWithin prices ≡ false) ↔ Overpriced prices
 
 -- The widest numbers, for counts of up to 4,294,967,295 pulses: 13 digits for a charge, 14 for a total of nine.
 pub record Widths : Type 0 where

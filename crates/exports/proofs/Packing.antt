@@ -36,7 +36,7 @@ within-more a b (refused n p) h i = omega (arith, i)
 within-more a b (passed x) h i = tt
 
 -- Where the size is refused, the place is 0; else the file has at most 4,096 words.
-check-within : (bytes : List ℕ) → PlaceWithin 4096 (check bytes)
+pub check-within : (bytes : List ℕ) → PlaceWithin 4096 (check bytes)
 unfolding check
 check-within bytes = by (isSize (length bytes)) refl
   where

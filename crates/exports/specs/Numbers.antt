@@ -7,7 +7,12 @@ use Rattle.calculus.specs.File.{firstAfter, secondAfter}
 use Rattle.engine.specs.Results.{numberOfEnd, Line, lineOf, told}
 use Rattle.engine.specs.Lent.{Lent, operated}
 use Rattle.engine.specs.declared.ends.Report.{Report}
+use Rattle.charges.specs.Prices.{Prices}
+use Rattle.charges.specs.declared.Charges.{Charges}
+use Rattle.pricing.specs.Pricing.{Bill}
+use Rattle.pricing.specs.Answered.{chargesOf, ran, priced}
 use Rattle.exports.specs.declared.runs.RecipeRun.{RecipeRun}
+use Rattle.exports.specs.declared.prices.RecipePriced.{RecipePriced}
 
 -- 0 for accepted, else the refusal's number + 256 × its place.
 abbrev pub checkNumber : Verdict (Unit {0}) → ℕ
@@ -50,3 +55,19 @@ firstOf l = firstAfter (length (l .first)) (operated l)
 
 abbrev pub secondOf : Lent → List ℕ
 secondOf l = secondAfter (length (l .second)) (operated l)
+
+-- The numbers of a pricing of what is lent: the run's, the total and each charge; and what it leaves in both buffers.
+abbrev pub packedNumbers : RecipeRun → Charges → RecipePriced
+packedNumbers run charges = record { run = run; total = charges .total; charge = charges .charge }
+
+abbrev pub pricedNumbers : Verdict Bill → RecipePriced
+pricedNumbers v = packedNumbers (runNumbers (andThen (ran v) (λ x. passed (lineOf x)))) (chargesOf v)
+
+abbrev pub pricedNumbersOf : Prices → Lent → RecipePriced
+pricedNumbersOf prices l = pricedNumbers (priced prices l)
+
+abbrev pub pricedFirstOf : Prices → Lent → List ℕ
+pricedFirstOf prices l = firstAfter (length (l .first)) (ran (priced prices l))
+
+abbrev pub pricedSecondOf : Prices → Lent → List ℕ
+pricedSecondOf prices l = secondAfter (length (l .second)) (ran (priced prices l))

@@ -1,5 +1,6 @@
 // The functions that a C program calls; include/recipe.h declares them.
 
+pub mod prices;
 pub mod runs;
 
 use checker::Checked;

@@ -3,13 +3,14 @@
 use engine::ends::Report;
 use engine::runs::Answer;
 use engine::runs::run;
+use nodes::refusals::Numbers;
 use nodes::refusals::Refusal;
 use nodes::refusals::numbered;
 ghost use mathlib.Core.Path.{_≡_};
 ghost use Prim.Native.Nat.{_≤_};
 ghost use Rattle.nodes.specs.Refusals.{placeOf, refusal};
 ghost use Rattle.engine.specs.Lent.{lent};
-ghost use Rattle.exports.specs.Numbers.{endedNumbers, runNumbers, numbersOf, firstOf, secondOf};
+ghost use Rattle.exports.specs.Numbers.{refusedNumbers, endedNumbers, runNumbers, numbersOf, firstOf, secondOf};
 
 #[repr(C)]
 pub struct RecipeRun {
@@ -32,11 +33,11 @@ fn narrow(n: usize) -> u32
     n as u32
 }
 
-fn refused_by(r: Refusal) -> RecipeRun
-    requires { ⌜ placeOf r ≤ 4096 ⌝ }
-    ensures { λ x. ⌜ x ≡ runNumbers (refusal r) ⌝ }
+// A refusal of this number and place.
+pub fn refused(told: Numbers) -> RecipeRun
+    requires { ⌜ told .place ≤ 4096 ⌝ }
+    ensures { λ x. ⌜ x ≡ refusedNumbers (told .number) (told .place) ⌝ }
 {
-    let told = numbered(r);
     RecipeRun {
         refusal: told.number,
         place: narrow(told.place),
@@ -51,7 +52,14 @@ fn refused_by(r: Refusal) -> RecipeRun
     }
 }
 
-fn ended(x: Report) -> RecipeRun
+fn refused_by(r: Refusal) -> RecipeRun
+    requires { ⌜ placeOf r ≤ 4096 ⌝ }
+    ensures { λ x. ⌜ x ≡ runNumbers (refusal r) ⌝ }
+{
+    refused(numbered(r))
+}
+
+pub fn ended(x: Report) -> RecipeRun
     requires { ⌜ (x .left ≤ 16384) × (x .wanted ≤ 268435456) ⌝ }
     ensures { λ r. ⌜ r ≡ endedNumbers x ⌝ }
 {

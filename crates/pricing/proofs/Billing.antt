@@ -17,6 +17,7 @@ use Rattle.calculus.specs.Inference.{sameType}
 use Rattle.calculus.specs.Run.{End, valued, spent, error, full, uncounted, Result, run, capacity}
 use Rattle.calculus.specs.File.{wordsOf, Recipe, check, runIn, padded, firstAfter, secondAfter}
 use Rattle.calculus.proofs.Checks.{passes-in-order}
+use Rattle.calculus.proofs.Inference.{same-iff}
 use Rattle.calculus.proofs.Types.{equal-by-words}
 use Rattle.calculus.proofs.Verdicts.{unless-iff, passed-injective}
 use Rattle.calculus.proofs.Sizes.{tree-length}
@@ -230,9 +231,6 @@ run-refused prices limit ws first second {r = r} b h =
     }
 
 -- Refusal 9, or the run: by the declared type.
-is-list : (τ : Ty) → sameType ml τ (list N) ≡ true → τ ≡ list N
-is-list τ q = equal-by-words .equal τ (list N) .1 (equal-by-words .same τ (list N) .0 q)
-
 module _ (prices : Prices) (limit : ℕ) (ws : List ℕ) (n : ℕ) (first second : List ℕ) {p : Priced} {first′ second′ : List ℕ} where
   pub bill-other : {r : Bool} → Declares (take n (drop 4 ws)) r → r ≡ false → Answered (refusal u.Declared) p first second first′ second′
       → Bills prices limit ws n first second p first′ second′
@@ -246,7 +244,7 @@ module _ (prices : Prices) (limit : ℕ) (ws : List ℕ) (n : ℕ) (first second
       record {
         of = λ τ e i.
             let t = sym (d .of τ (i .types-are)) ∙ f in
-            let q = is-list τ t in
+            let q = same-iff ml τ (list N) .0 t in
             answered-as
             (sym (rw t (ap (λ (σ : Ty). andThen (runIn limit (capacity (length first) (length second)) (σ, e)) (λ r. bill prices r (r .end))) q)))
             (a .of e (subst (λ (σ : Ty). TermOf σ (drop (4 + n) ws) e) q (i .term-is)));
@@ -254,7 +252,7 @@ module _ (prices : Prices) (limit : ℕ) (ws : List ℕ) (n : ℕ) (first second
 
 pub of-numbers : {ws : List ℕ} {n : ℕ} {r : Bool} → Recipes ws n → Declares (take n (drop 4 ws)) r → r ≡ true → OfNumbers (drop (4 + n) ws)
 of-numbers {ws} {n} m d f =
-    let q = is-list (m .declared) (sym (d .of (m .declared) (m .is .types-are)) ∙ f) in
+    let q = same-iff ml (m .declared) (list N) .0 (sym (d .of (m .declared) (m .is .types-are)) ∙ f) in
     record {
       few = omega (arith, m .few, length-drop (4 + n) ws);
       term = m .term;

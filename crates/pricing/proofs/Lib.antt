@@ -2,3 +2,4 @@ pub mod Listing
 pub mod Reading
 pub mod Valued
 pub mod Billing
+pub mod Laws
