@@ -1,2 +1,3 @@
 pub mod Running
 pub mod Demanding
+pub mod Costing

@@ -39,7 +39,7 @@ abbrev pub Promised : Lent → Returned → Type 0
 Promised l g =
     Answered (operate (l .bytes) (l .limit) (length (l .first)) (length (l .second))) (g .answer) (l .first) (l .second) (g .first) (g .second)
 
-numbered : (x : Refusal) → (1 ≤ numberOf x) × (numberOf x ≤ 8)
+pub numbered : (x : Refusal) → (1 ≤ numberOf x) × (numberOf x ≤ 8)
 numbered r.Bytes = (omega arith, omega arith)
 numbered r.Header = (omega arith, omega arith)
 numbered (r.Word p) = (omega arith, omega arith)
@@ -82,7 +82,7 @@ reduce l g e x c o h =
     }
 
 -- A run's first words are those that it leaves.
-front : (l : Lent) (g : Returned) (r : spec.Result) → operate (l .bytes) (l .limit) (length (l .first)) (length (l .second)) ≡ passed r → Promised l g
+pub front : (l : Lent) (g : Returned) (r : spec.Result) → operate (l .bytes) (l .limit) (length (l .first)) (length (l .second)) ≡ passed r → Promised l g
     → take (length (r .left)) (g .first) ≡ r .left
 front l g r o h =
     let n = operate-bounded (l .bytes) (l .limit) (length (l .first)) (length (l .second)) r o .0 in
@@ -122,10 +122,10 @@ unfolding operate runIn
 over-as l (τ, e, a, s) = rw (check-iff (l .bytes) τ e .1 a, lt-leb (size e) (room l) s)
 
 -- A refusal is its number and place.
-refused-injective : {A : Type 0} (n p m q : ℕ) → _≡_ {A = Verdict A} (refused n p) (refused m q) → (n ≡ m) × (p ≡ q)
+pub refused-injective : {A : Type 0} (n p m q : ℕ) → _≡_ {A = Verdict A} (refused n p) (refused m q) → (n ≡ m) × (p ≡ q)
 refused-injective n p m q e = (cc, cc)
 
-is-capacity : (x : Refusal) → numberOf x ≡ 8 → x ≡ r.Capacity
+pub is-capacity : (x : Refusal) → numberOf x ≡ 8 → x ≡ r.Capacity
 is-capacity r.Bytes q = absurd (omega (arith, q))
 is-capacity r.Header q = absurd (omega (arith, q))
 is-capacity (r.Word p) q = absurd (omega (arith, q))
@@ -161,7 +161,7 @@ way l = by (check (l .bytes)) refl
     by (refused n p) q = fails n p q
     by (passed x) q = sized (x .0) (x .1) (check-iff (l .bytes) (x .0) (x .1) .0 q) (leb (size (x .1)) (room l)) refl
 
-reduces-of : (l : Lent) (g : Returned) → Promised l g → (τ : Ty) (e : Term ml) → Accepted (l .bytes) τ e → size e ≤ room l → Reduces l g e
+pub reduces-of : (l : Lent) (g : Returned) → Promised l g → (τ : Ty) (e : Term ml) → Accepted (l .bytes) τ e → size e ≤ room l → Reduces l g e
 reduces-of l g h τ e a s =
     let x = ending (l .limit) (room l) e τ (a .typed) in
     let q = ends-iff (l .limit) (room l) e τ (a .typed) (x .result) .0 (x .ends) in

@@ -1,12 +1,17 @@
 // The demands as contracts of code that calls the public operations. Each is proved from what these promise and from nothing else of them: if one
 // promised less, no proof here would stand.
 
+use charges::Prices;
 use checker::Checked;
 use checker::check;
 use engine::runs::Answer;
 use engine::runs::run;
+use pricing::Priced;
+use pricing::price;
 ghost use Rattle.engine.specs.Lent.{lent, returned};
+ghost use Rattle.pricing.specs.Answered as pricing;
 ghost use Rattle.demands.specs.Demanded.{Checks, Once, Twice};
+ghost use Rattle.demands.specs.Priced.{PricedOnce, PricedTwice};
 
 // Three answers on one file: the check's, and those of two runs.
 pub struct Answers {
@@ -56,6 +61,56 @@ pub fn run_twice(
     let later = run(file, limit_2, first_2, second_2);
     Answers {
         checked: checked,
+        earlier: earlier,
+        later: later,
+    }
+}
+
+// The answers of two pricings.
+pub struct PricedAnswers {
+    pub earlier: Priced,
+    pub later: Priced,
+}
+
+// Demands 1 and 2 of pricing: of these prices, this file, this limit and these buffers.
+pub fn price_once(
+    prices: Prices,
+    file: &[u8],
+    limit: u32,
+    first: &mut [u32],
+    second: &mut [u32],
+) -> Priced
+    ensures { λ p. ⌜
+        PricedOnce prices
+        (lent (now (file .entry)) limit (now (first .entry)) (now (second .entry)))
+        (pricing.returned p (now (first .exit)) (now (second .exit)))
+        ⌝ }
+{
+    price(prices, file, limit, first, second)
+}
+
+// Demand 3's growth, for two pricings of this file.
+pub fn price_twice(
+    prices: Prices,
+    file: &[u8],
+    limit: u32,
+    first: &mut [u32],
+    second: &mut [u32],
+    limit_2: u32,
+    first_2: &mut [u32],
+    second_2: &mut [u32],
+) -> PricedAnswers
+    ensures { λ r. ⌜
+        PricedTwice prices
+        (lent (now (file .entry)) limit (now (first .entry)) (now (second .entry)))
+        (pricing.returned (r .earlier) (now (first .exit)) (now (second .exit)))
+        (lent (now (file .entry)) limit_2 (now (first_2 .entry)) (now (second_2 .entry)))
+        (pricing.returned (r .later) (now (first_2 .exit)) (now (second_2 .exit)))
+        ⌝ }
+{
+    let earlier = price(prices, file, limit, first, second);
+    let later = price(prices, file, limit_2, first_2, second_2);
+    PricedAnswers {
         earlier: earlier,
         later: later,
     }

@@ -3,8 +3,9 @@ use Prim.Native.Nat.{ℕ, _≤_}
 use mathlib.Core.List.{List, [], _∷_, _++_}
 use mathlib.Core.Path.{_≡_, refl, sym, ap, ap₂, _∙_, subst}
 use native.Mathlib.Omega.{arith}
+use lib.ListN.{getD, drop}
 use Rattle.calculus.specs.Trees.{Ty, N, L, list, _to_, ml, Term, num, nil, cons}
-use Rattle.calculus.specs.Words.{words}
+use Rattle.calculus.specs.Words.{put, putTy, words}
 use Rattle.calculus.specs.Limits.{InRange}
 use Rattle.calculus.specs.Typing.{Typed}
 use Rattle.calculus.specs.Rules.{Value, lamV, numV, nilV, consV, lumpV}
@@ -61,3 +62,12 @@ items-of (n ∷ ns) = ap (λ (l : List ℕ). n ∷ l) (items-of ns)
 pub items-in : (ns : List ℕ) → InRange (listOf ns) → itemsIn (words (listOf ns)) ≡ ns
 unfolding itemsIn
 items-in ns h = ap (λ o. found o [] items) (whole-tree (term ml) (listOf ns) h) ∙ items-of ns
+
+-- Words are those of one list at most.
+pub lists-once : (ns ms : List ℕ) → words (listOf ns) ≡ words (listOf ms) → ns ≡ ms
+unfolding listOf put putTy
+lists-once [] [] e = refl
+lists-once [] (m ∷ ms) e = absurd (omega (arith, ap (λ (l : List ℕ). getD l 0 0) e))
+lists-once (n ∷ ns) [] e = absurd (omega (arith, ap (λ (l : List ℕ). getD l 0 0) e))
+lists-once (n ∷ ns) (m ∷ ms) e =
+    let same : n ≡ m = omega (arith, ap (λ (l : List ℕ). getD l 1 0) e) in rw (same, lists-once ns ms (ap (drop 2) e))
