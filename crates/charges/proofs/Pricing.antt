@@ -24,15 +24,6 @@ use Rattle.charges.specs.Charged.{mostCharge, Small}
 pub product : (p q : ℕ) → p ≤ 4294967295 → q ≤ 4294967295 → p * q ≤ 18446744065119617025
 product p q h k = le-trans (mul-le-mul-right q h) (mul-le-mul-left 4294967295 k)
 
--- There are three bands.
-pub band-few : (n : ℕ) → band n ≤ 2
-band-few n = by (ltb n 10000) (ltb n 100000)
-  where
-    by : (b c : Bool) → cond b 0 (cond c 1 2) ≤ 2
-    by true c = omega arith
-    by false true = omega arith
-    by false false = omega arith
-
 -- No pulses cost nothing.
 charge-none : (cents : ℕ) → 0 ≡ charge 0 cents
 charge-none cents = rw (zero-mul cents)
@@ -129,7 +120,8 @@ module _ (row : List ℕ) (three : length row ≡ 3) where
       (λ a b c h k. rw (le-leb a mostCents h, le-leb b mostCents k) (sym (and-true (leb c mostCents))))
 
 -- The rows from one on.
-pub rows-within : (prices : Prices) (i : ℕ) → i < length prices → allWithin (drop i prices) ≡ within (getD prices i []) && allWithin (drop (suc i) prices)
+pub rows-within : (prices : Prices) (i : ℕ) → i < length prices
+    → allWithin (drop i prices) ≡ within (getD prices i []) && allWithin (drop (suc i) prices)
 unfolding allWithin
 rows-within prices i h = ap allWithin (drop-cons prices i [] h)
 

@@ -21,6 +21,7 @@ pub struct Charges {
 // "Band 0 is under 10,000 pulses, band 1 under 100,000, band 2 the rest."
 fn band(pulses: u32) -> usize
     ensures { λ r. ⌜ r ≡ band pulses ⌝ }
+    ensures small { λ r. ⌜ r ≤ 2 ⌝ }
 {
     if pulses < 10000 {
         return 0;
@@ -45,7 +46,8 @@ fn charge_of(prices: Prices, pump: usize, pulses: u32) -> u64
     ensures { λ r. ⌜ r ≡ charge pulses (price prices pump (band pulses)) ⌝ }
     ensures small { λ r. ⌜ r ≤ mostCharge ⌝ }
 {
-    charge(pulses, prices[pump][band(pulses)])
+    let b = band(pulses);
+    charge(pulses, prices[pump][b])
 }
 
 // Each charge. A pump without an item gives 0 pulses.
@@ -68,10 +70,10 @@ fn total(charge: [u64; 9]) -> u64
     ensures { λ r. ⌜ r ≡ total charge ⌝ }
 {
     let mut sum = 0;
-    let mut pump = 0;
-    while pump < 9 {
-        sum += charge[pump];
-        pump += 1;
+    let mut added = 0;
+    while added < 9 {
+        sum += charge[added];
+        added += 1;
     }
     sum
 }

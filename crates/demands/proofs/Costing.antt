@@ -138,7 +138,8 @@ module _ (prices : Prices) (l : Lent) (g : Returned) (h : Pricing prices l g) wh
     costs : (v : Verdict Bill) → verdict ≡ v → laws.Costs prices (spec.run (l .limit) (room l) spec.uncounted e) v → Costs prices l g e
     costs v q (laws.nothing n) =
         let o = own-of _ q e a s in
-        nothing o (λ z. n (ap (λ (r : spec.Result). r .end) (result-is (list N) (a .typed) (o .reduces .by-rules)) ∙ z)) (h .charges-are ∙ ap chargesOf q)
+        nothing o (λ z. n (ap (λ (r : spec.Result). r .end) (result-is (list N) (a .typed) (o .reduces .by-rules)) ∙ z))
+        (h .charges-are ∙ ap chargesOf q)
     costs v q (laws.refused-10 ns y n) =
         let x = ending (l .limit) (room l) e (list N) (a .typed) in
         let r = told-refused g verdict 10 0 (h .answer-is) q in

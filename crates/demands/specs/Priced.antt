@@ -1,4 +1,5 @@
--- Document 02, U2: the demands of pricing, of one call, or of one pair of calls: what the contracts of `price_once` and `price_twice` in src/lib.rt say.
+-- Document 02, U2: the demands of pricing, of one call, or of one pair of calls: what the contracts of `price_once` and `price_twice` in
+-- src/lib.rt say.
 use Prim.Native.Nat.{ℕ, _≤_, _<_}
 use mathlib.Core.List.{List}
 use mathlib.Core.Logic.{_↔_}
@@ -73,8 +74,9 @@ abbrev pub OtherType : Lent → Type 0
 OtherType l = (τ : Ty) × (e : Term ml) × Accepted (l .bytes) τ e × ¬ (τ ≡ list N)
 
 abbrev pub TooMany : Lent → Type 0
-TooMany l = (e : Term ml) × Accepted (l .bytes) (list N) e × (size e ≤ room l) × (x : Ending (l .limit) (room l) e) × (ns : List ℕ) × ValueOf (x .result) ns
-    × (9 < length ns)
+TooMany l =
+    (e : Term ml) × Accepted (l .bytes) (list N) e × (size e ≤ room l)
+    × (x : Ending (l .limit) (room l) e) × (ns : List ℕ) × ValueOf (x .result) ns × (9 < length ns)
 
 -- Demands 1 and 2 of one pricing: it finishes, as the way says that its prices and its file go, and by 11, 9 and 10 exactly where they are due.
 pub record PricedOnce (prices : Prices) (l : Lent) (g : Returned) : Type 0 where

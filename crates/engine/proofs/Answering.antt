@@ -28,7 +28,7 @@ use Rattle.engine.specs.Ran.{Reduced}
 use Rattle.engine.specs.Results.{lineOf, told}
 use Rattle.engine.specs.Answered.{Answered, Begun}
 
--- A refusal, with both buffers wiped.
+-- A refusal, with both buffers all zero.
 pub answered-refused : {r : Refusal} {first second first′ second′ : List ℕ} → Settled [] first second first′ second′
     → Answered (refusal r) (a.Refused r) first second first′ second′
 answered-refused s = record { answer-is = refl; first-is = s .first-is; second-is = s .second-is }

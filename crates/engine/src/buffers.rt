@@ -2,15 +2,16 @@
 
 use writing::clear;
 use writing::copy;
-ghost use mathlib.Core.List.{[]};
 ghost use lib.ListN.{take};
 ghost use Rattle.engine.specs.Buffered.{Room, held, Settled};
 
-// Both buffers all zero.
-pub fn wipe(first: &mut [u32], second: &mut [u32])
-    ensures { λ _. ⌜ Settled [] (now (first .entry)) (now (second .entry)) (now (first .exit)) (now (second .exit)) ⌝ }
+// The first n words of the first buffer stay; every other word of both becomes zero.
+pub fn keep(first: &mut [u32], second: &mut [u32], n: usize)
+    ensures { λ _. ⌜
+        Settled (take n (now (first .entry))) (now (first .entry)) (now (second .entry)) (now (first .exit)) (now (second .exit))
+        ⌝ }
 {
-    clear(first, 0);
+    clear(first, n);
     clear(second, 0);
 }
 
@@ -23,11 +24,9 @@ pub fn settle(front: bool, first: &mut [u32], second: &mut [u32], n: usize)
         ⌝ }
 {
     if front {
-        clear(first, n);
-        clear(second, 0);
+        keep(first, second, n);
         return;
     }
     copy(&second[..n], first, 0);
-    clear(first, n);
-    clear(second, 0);
+    keep(first, second, n);
 }

@@ -1,6 +1,6 @@
 // A run of a file: read, checked, and reduced to an end.
 
-use crate::buffers::wipe;
+use crate::buffers::keep;
 use crate::ends::Report;
 use crate::reductions::reduce;
 use checker::admit;
@@ -22,7 +22,7 @@ pub enum Answer {
 fn refused(r: Refusal, first: &mut [u32], second: &mut [u32]) -> Answer
     ensures { λ x. ⌜ Answered (refusal r) x (now (first .entry)) (now (second .entry)) (now (first .exit)) (now (second .exit)) ⌝ }
 {
-    wipe(first, second);
+    keep(first, second, 0);
     Answer::Refused(r)
 }
 

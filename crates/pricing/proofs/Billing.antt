@@ -123,8 +123,8 @@ module _ {x : Report} {first second : List ℕ} {found : Items} (short : Short x
       let g = reads .of (y .0) front in
       (y .0, ap itemsIn (y .1) ∙ items-in (y .0) (y .2), g .0, g .1)
 
-  pub too-many : {prices : Prices} {p : Priced} {first′ second′ : List ℕ} → 9 < found .count → Answered (refusal u.Items) p first second first′ second′
-      → AtValue prices x first second p first′ second′
+  pub too-many : {prices : Prices} {p : Priced} {first′ second′ : List ℕ} → 9 < found .count
+      → Answered (refusal u.Items) p first second first′ second′ → AtValue prices x first second p first′ second′
   too-many {prices} h a =
       record {
         of = λ r l v.
@@ -194,7 +194,8 @@ module _ (limit : ℕ) (ws first second : List ℕ) {first₁ second₁ : List �
   short n =
       let r = result (n .is) in
       let y = fits limit cap (n .term) (r .0) (r .1) in
-      let k : x .left ≡ length (run limit cap uncounted (n .term) .left) = ap (λ (z : Line). z .left) (r .2) ∙ ap (λ (z : Result). length (z .left)) (sym (y .1)) in
+      let k : x .left ≡ length (run limit cap uncounted (n .term) .left) =
+      ap (λ (z : Line). z .left) (r .2) ∙ ap (λ (z : Result). length (z .left)) (sym (y .1)) in
       let few = run-few limit cap (n .term) (y .0) in
       record { few = omega (arith, k, few); within = omega (arith, k, few, f) }
 
@@ -207,7 +208,8 @@ module _ (limit : ℕ) (ws first second : List ℕ) {first₁ second₁ : List �
         told-is = r .2;
         first-is = y .first-is ∙ rw (r .1, f);
         second-is = y .second-is ∙ rw s;
-        value-is = λ v. subst (λ (z : Result). Listed (z .left)) same (run-listed limit cap e (t .ranged) (t .typed) (ap (λ (z : Result). z .end) same ∙ v));
+        value-is = λ v. subst (λ (z : Result). Listed (z .left)) same
+            (run-listed limit cap e (t .ranged) (t .typed) (ap (λ (z : Result). z .end) same ∙ v));
       }
 
   pub run-ended : (prices : Prices) {p : Priced} {first′ second′ : List ℕ} → AtEnd prices x first₁ second₁ p first′ second′

@@ -28,7 +28,8 @@ use Rattle.charges.specs.Laws.{Within}
 use Rattle.charges.proofs.Laws.{tested}
 use Rattle.pricing.specs.Items.{itemsIn}
 use Rattle.pricing.specs.Pricing.{Bill, bill, billed, pricing}
-use Rattle.pricing.specs.Laws.{Way, overpriced, unaccepted, of-another-type, too-large, run-of, ValueOf, Costs, nothing, refused-10, charges-of, Gives}
+use Rattle.pricing.specs.Laws.{Way, overpriced, unaccepted, of-another-type, too-large, run-of, ValueOf, Gives}
+use Rattle.pricing.specs.Laws.{Costs, nothing, refused-10, charges-of}
 use Rattle.pricing.specs.Laws.{Exactly, OwnRun, Grows}
 use Rattle.pricing.proofs.Listing.{items-in}
 use Rattle.pricing.proofs.Valued.{run-listed}

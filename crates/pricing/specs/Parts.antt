@@ -80,7 +80,8 @@ pub record Recipes (ws : List ℕ) (n : ℕ) : Type 0 where
 -- Refusal 8, or a run of such a term with what it costs; and with refusal 9 before it.
 pub record Runs (prices : Prices) (limit : ℕ) (ws first second : List ℕ) (p : Priced) (first′ second′ : List ℕ) : Type 0 where
   pub of : (e : Term ml) → TermOf (list N) ws e
-      → Answered (andThen (runIn limit (capacity (length first) (length second)) (list N, e)) (λ r. bill prices r (r .end))) p first second first′ second′
+      → Answered (andThen (runIn limit (capacity (length first) (length second)) (list N, e)) (λ r. bill prices r (r .end)))
+      p first second first′ second′
 
 pub record Bills (prices : Prices) (limit : ℕ) (ws : List ℕ) (n : ℕ) (first second : List ℕ) (p : Priced) (first′ second′ : List ℕ) : Type 0 where
   pub of : (τ : Ty) (e : Term ml) → RecipeIn ws n τ e

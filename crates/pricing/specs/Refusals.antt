@@ -6,7 +6,7 @@ use Rattle.nodes.specs.Refusals as nodes
 use Rattle.pricing.specs.declared.Unpriced.{Unpriced}
 use Rattle.pricing.specs.declared.Unpriced.the-variants.{Prices, Recipe, Declared, Items}
 
-abbrev plain : ℕ → Numbers
+abbrev pub plain : ℕ → Numbers
 plain n = record { number = n; place = 0 }
 
 abbrev pub numbered : Unpriced → Numbers

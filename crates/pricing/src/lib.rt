@@ -7,7 +7,7 @@ use charges::Prices;
 use charges::charged;
 use charges::within;
 use checker::admit;
-use engine::buffers::wipe;
+use engine::buffers::keep;
 use engine::ends::End;
 use engine::ends::Report;
 use engine::runs::Answer;
@@ -19,7 +19,7 @@ ghost use mathlib.Core.Path.{_≡_};
 ghost use Prim.Native.Nat.{_≤_};
 ghost use lib.ListN.{length};
 ghost use Rattle.engine.specs.Lent.{lent};
-ghost use Rattle.pricing.specs.Refusals.{numbered, refusal};
+ghost use Rattle.pricing.specs.Refusals.{plain, numbered, refusal};
 ghost use Rattle.pricing.specs.Answered.{noCharges, uncharged, Answered, Pricing, returned};
 ghost use Rattle.pricing.specs.Parts.{Declares, Short, AtValue, AtEnd, OfNumbers, Runs, Recipes, Bills};
 
@@ -42,24 +42,25 @@ pub struct Priced {
     pub charges: Charges,
 }
 
+// "each with place 0".
+fn plain(number: u32) -> Numbers
+    ensures { λ r. ⌜ r ≡ plain number ⌝ }
+{
+    Numbers {
+        number: number,
+        place: 0,
+    }
+}
+
 // A refusal's number, and its place in the file.
 pub fn numbered(u: Unpriced) -> Numbers
     ensures { λ r. ⌜ r ≡ numbered u ⌝ }
 {
     match u {
-        Unpriced::Prices => Numbers {
-            number: 11,
-            place: 0,
-        },
+        Unpriced::Prices => plain(11),
         Unpriced::Recipe(r) => nodes::refusals::numbered(r),
-        Unpriced::Declared => Numbers {
-            number: 9,
-            place: 0,
-        },
-        Unpriced::Items => Numbers {
-            number: 10,
-            place: 0,
-        },
+        Unpriced::Declared => plain(9),
+        Unpriced::Items => plain(10),
     }
 }
 
@@ -77,7 +78,7 @@ fn none() -> Charges
 fn refused(u: Unpriced, first: &mut [u32], second: &mut [u32]) -> Priced
     ensures { λ x. ⌜ Answered (refusal u) x (now (first .entry)) (now (second .entry)) (now (first .exit)) (now (second .exit)) ⌝ }
 {
-    wipe(first, second);
+    keep(first, second, 0);
     Priced {
         outcome: Outcome::Refused(u),
         charges: none(),

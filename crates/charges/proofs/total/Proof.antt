@@ -12,10 +12,10 @@ use Rattle.charges.proofs.total.Statement.{statement}
 use Rattle.charges.proofs.total.Tie as tie
 
 abbrev Inv-loop : tie.InvT-loop
-Inv-loop charge sum₀ pump₀ sum pump = (pump ≤ 9) × (sum ≤ pump * mostCharge) × (sum + total (drop pump charge) ≡ total charge)
+Inv-loop charge sum₀ added₀ sum added = (added ≤ 9) × (sum ≤ added * mostCharge) × (sum + total (drop added charge) ≡ total charge)
 
 abbrev μ-loop : tie.MeasureT-loop
-μ-loop charge sum₀ pump₀ sum pump = 9 - pump
+μ-loop charge sum₀ added₀ sum added = 9 - added
 
 -- There are nine charges.
 module _ (c : tie.Start Inv-loop μ-loop) where
@@ -28,7 +28,7 @@ loop-holds c = (omega arith, omega arith, omega arith)
 add-sum : tie.Need-add-sum Inv-loop μ-loop
 add-sum c =
     let l = c .before .loop in
-    record { fits = omega (arith, l .inv .0, l .inv .1, c .before .before .pre .each (l .pump)) }
+    record { fits = omega (arith, l .inv .0, l .inv .1, c .before .before .pre .each (l .added)) }
 
 loop-again : tie.Need-loop-again Inv-loop μ-loop
 loop-again c =
@@ -36,15 +36,15 @@ loop-again c =
     let s = c .before .before in
     let cs = s .args .t1 in (
       omega arith,
-      omega (arith, l .inv .1, s .pre .each (l .pump)),
-      rw (add-one (l .pump)) (omega (arith, l .inv .2, total-more cs (l .pump) (omega (arith, nine s)))),
+      omega (arith, l .inv .1, s .pre .each (l .added)),
+      rw (add-one (l .added)) (omega (arith, l .inv .2, total-more cs (l .added) (omega (arith, nine s)))),
     )
 
 returns : tie.Need-returns Inv-loop μ-loop
 returns c =
     let l = c .before .loop in
     let s = c .before .before in
-    omega (arith, l .inv .2, total-none (s .args .t1) (l .pump) (omega (arith, nine s, c .loop-test .left)))
+    omega (arith, l .inv .2, total-none (s .args .t1) (l .added) (omega (arith, nine s, c .loop-test .left)))
 
 pub total-spec : {M : Type 1} → statement M
 total-spec =

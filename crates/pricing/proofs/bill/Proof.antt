@@ -47,7 +47,8 @@ returns-2 c =
     let a = start k .args in
     let y = after-run .run in
     bill-run _ _ _ _ _ _ (declared k) (not-false (k .is-numbers .result) (else1 .if1 .left))
-    (subst (λ (ws : List ℕ). Runs (a .prices) (a .limit) ws (a .first .now) (a .second .now) (y .result) (y .last .1 .1 .1 .0) (y .last .1 .1 .1 .1 .0))
+    (subst
+    (λ (ws : List ℕ). Runs (a .prices) (a .limit) ws (a .first .now) (a .second .now) (y .result) (y .last .1 .1 .1 .0) (y .last .1 .1 .1 .1 .0))
     (rest k) (y .ensures))
 
 pub bill-spec : {M : Type 1} → statement M

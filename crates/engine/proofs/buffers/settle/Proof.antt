@@ -12,9 +12,8 @@ use Rattle.engine.proofs.buffers.settle.Tie as tie
 
 returns : tie.Need-returns
 returns c =
-    let second = c .before .before in
-    let first = second .before .before .before .before in
-    rw (first .before .before .if1 .taken) (record { first-is = first .clear .ensures; second-is = second .clear2 .ensures })
+    let kept = c .before .before .before .before in
+    rw (kept .before .before .before .if1 .taken) (record { first-is = kept .keep .ensures .first-is; second-is = kept .keep .ensures .second-is })
 
 slice-aggregate-copy : tie.Need-slice-aggregate-copy
 slice-aggregate-copy c = let s = c .before .before .before .before in sym (length-take-le (s .args .n) (s .args .second .now) (s .pre .in-second))
@@ -26,9 +25,8 @@ copy-requires c κs =
 
 returns-2 : tie.Need-returns-2
 returns-2 c =
-    let second = c .before .before in
-    let first = second .before .before .before .before in
-    let after-copy = first .before .before .before .before in
+    let kept = c .before .before .before .before in
+    let after-copy = kept .before .before .before .before .before in
     let more = after-copy .before .before .before in
     let s = more .before .before .before in
     let copied = after-copy .copy in
@@ -36,9 +34,9 @@ returns-2 c =
     (s .pre .in-first) (copied .ensures) in
     rw (more .if1 .left)
     (record {
-      first-is = first .clear3 .ensures
+      first-is = kept .keep2 .ensures .first-is
           ∙ ap (λ (k : ℕ). padded k (take (s .args .n) (copied .last .1 .0))) (copied .kept .1 .0) ∙ ap (padded (length (s .args .first .now))) front;
-      second-is = second .clear4 .ensures;
+      second-is = kept .keep2 .ensures .second-is;
     })
 
 pub settle-spec : {M : Type 1} → statement M
@@ -46,14 +44,12 @@ settle-spec =
     tie.close
     (tie.spec
     (λ c κs. search needs)
-    (λ c κs. search needs)
     (λ c. search needs)
     (λ c. search needs)
     returns
     (λ c. search needs)
     slice-aggregate-copy
     copy-requires
-    (λ c κs. search needs)
     (λ c κs. search needs)
     (λ c. search needs)
     (λ c. search needs)
