@@ -3,3 +3,4 @@ pub mod Reading
 pub mod Valued
 pub mod Billing
 pub mod Laws
+pub mod Cans

@@ -4,3 +4,4 @@ pub mod Refusals
 pub mod Laws
 pub mod Answered
 pub mod Parts
+pub mod Cans

@@ -22,14 +22,14 @@ returns c =
     let then1 = after-refused .before .before .before in
     let after-read = then1 .before .before in
     let s = after-read .before .before .before .before in
-    too-many (s .pre) (after-read .read .ensures) (then1 .if1 .taken) (after-refused .refused .ensures)
+    too-many (s .pre) (after-read .read .ensures) (omega (arith, then1 .if1 .taken)) (after-refused .refused .ensures)
 
 returns-2 : tie.Need-returns-2
 returns-2 c =
     let else1 = c .before .before in
     let after-read = else1 .before .before in
     let s = after-read .before .before .before .before in
-    in-full (s .pre) (after-read .read .ensures) (rw (c .charged .ensures)) (else1 .if1 .left)
+    in-full (s .pre) (after-read .read .ensures) (rw (c .charged .ensures)) (omega (arith, else1 .if1 .left))
 
 pub at-value-spec : {M : Type 1} → statement M
 at-value-spec =
