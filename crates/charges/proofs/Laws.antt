@@ -1,5 +1,5 @@
 -- The laws of prices and charges. Assumes nothing.
-use Prim.Native.Nat.{ℕ, zero, suc, _+_, _*_, _≤_, _<_}
+use Prim.Native.Nat.{ℕ, zero, suc, _*_, _≤_, _<_}
 use mathlib.Core.Bool.{Bool, true, false, _&&_, false≢true}
 use mathlib.Core.List.{List, [], _∷_}
 use mathlib.Core.Path.{_≡_, refl, sym}
@@ -8,7 +8,7 @@ use native.Mathlib.Omega.{arith}
 use lib.Dec.{leb}
 use lib.ListN.{length, getD}
 use borrow.Author.Tests.{le-leb, leb-true, leb-false}
-use Rattle.charges.specs.Prices.{Prices, price, band, charge, charges, total, mostCents, within, allWithin}
+use Rattle.charges.specs.Prices.{Prices, band, charge, charges, total, mostCents, within, allWithin}
 use Rattle.charges.specs.Laws.{RoundedUp, ForEach, Within, Overpriced, Tested, Widths}
 use Rattle.charges.proofs.Pricing.{charges-length}
 

@@ -1,15 +1,18 @@
 -- What `price` promises meets demands 1 and 2, and demand 3's growth of two pricings. Assumes nothing.
 use Prim.Native.Nat.{ℕ, _≤_, _<_}
+use mathlib.Core.Bool.{cond}
 use mathlib.Core.List.{List, []}
 use mathlib.Core.Path.{_≡_, refl, sym, ap, _∙_, subst}
 use native.Mathlib.Omega.{arith}
-use lib.ListN.{length, take, replicate}
+use lib.Dec.{eqb}
+use lib.ListN.{length, take}
+use borrow.Author.Tests.{ne-eqb}
 use Rattle.calculus.specs.Trees.{Ty, N, list, ml, Term}
 use Rattle.calculus.specs.Words.{size}
 use Rattle.calculus.specs.Verdicts.{Verdict, refused, passed, andThen}
 use Rattle.calculus.specs.Run as spec
 use Rattle.calculus.specs.Endings.{Ending}
-use Rattle.calculus.specs.File.{check, operate, padded}
+use Rattle.calculus.specs.File.{check}
 use Rattle.calculus.specs.Accepted.{Accepted}
 use Rattle.calculus.specs.Typing.{Typed}
 use Rattle.calculus.proofs.Verdicts.{not-both, passed-injective}
@@ -23,13 +26,12 @@ use Rattle.engine.specs.Results.{Line, lineOf, endOf, told}
 use Rattle.engine.specs.Lent.{Lent, room}
 use Rattle.engine.specs.Lent as engine
 use Rattle.charges.specs.Prices.{Prices}
-use Rattle.charges.specs.Charged.{charged}
 use Rattle.charges.specs.Laws.{Within, Overpriced}
 use Rattle.pricing.specs.Pricing.{Bill, pricing}
 use Rattle.pricing.specs.Refusals.{numberOf, placeOf, refusal}
 use Rattle.pricing.specs.Laws as laws
 use Rattle.pricing.specs.Laws.{Way, overpriced, unaccepted, of-another-type, too-large, run-of, ValueOf, Gives}
-use Rattle.pricing.specs.Answered.{spoken, noCharges, chargesOf, ran, Returned, Pricing, priced}
+use Rattle.pricing.specs.Answered.{spoken, chargesOf, ran, Returned, Pricing, priced}
 use Rattle.pricing.specs.declared.Unpriced.{Unpriced}
 use Rattle.pricing.specs.declared.Unpriced.the-variants as u
 use Rattle.pricing.specs.declared.Outcome.{Outcome}
@@ -39,38 +41,34 @@ use Rattle.pricing.proofs.Laws.{exactly, own-run, grows}
 use Rattle.demands.specs.Priced.{outcome, Finishes, refuses, ends, RefusedBy, OwnRun, Costs, nothing, too-many, charges, Answers, OtherType}
 use Rattle.demands.specs.Priced.{TooMany, PricedOnce, SamePrice, PricedTwice}
 use Rattle.demands.proofs.Running as running
-use Rattle.demands.proofs.Running.{Promised, front, reduces-of, is-capacity, refused-injective}
+use Rattle.demands.proofs.Running.{Promised, front, reduces-of, refused-injective}
+use Rattle.demands.proofs.Demanding as demanding
 
--- Every refusal of pricing is one of the eleven, and each of its own is told by its number.
+-- Every refusal of pricing is one of the eleven.
 numbered : (x : Unpriced) → (1 ≤ numberOf x) × (numberOf x ≤ 11)
 numbered u.Prices = (omega arith, omega arith)
 numbered (u.Recipe r) = let n = running.numbered r in (n .0, omega (arith, n .1))
 numbered u.Declared = (omega arith, omega arith)
 numbered u.Items = (omega arith, omega arith)
 
-is-prices : (x : Unpriced) → numberOf x ≡ 11 → x ≡ u.Prices
-is-prices u.Prices q = refl
-is-prices (u.Recipe r) q = absurd (omega (arith, q, running.numbered r))
-is-prices u.Declared q = absurd (omega (arith, q))
-is-prices u.Items q = absurd (omega (arith, q))
+-- A refusal is its number and place.
+abbrev unpricedOf : ℕ → ℕ → Unpriced
+unpricedOf n p = cond (eqb n 11) u.Prices (cond (eqb n 9) u.Declared (cond (eqb n 10) u.Items (u.Recipe (demanding.numbered n p))))
 
-is-declared : (x : Unpriced) → numberOf x ≡ 9 → x ≡ u.Declared
-is-declared u.Prices q = absurd (omega (arith, q))
-is-declared (u.Recipe r) q = absurd (omega (arith, q, running.numbered r))
-is-declared u.Declared q = refl
-is-declared u.Items q = absurd (omega (arith, q))
+of-the-recipe : (n p : ℕ) → n ≤ 8 → unpricedOf n p ≡ u.Recipe (demanding.numbered n p)
+of-the-recipe n p h =
+    rw (
+      ne-eqb n 11 (λ e. omega (arith, e, h)),
+      ne-eqb n 9 (λ e. omega (arith, e, h)),
+      ne-eqb n 10 (λ e. omega (arith, e, h)),
+    )
 
-is-items : (x : Unpriced) → numberOf x ≡ 10 → x ≡ u.Items
-is-items u.Prices q = absurd (omega (arith, q))
-is-items (u.Recipe r) q = absurd (omega (arith, q, running.numbered r))
-is-items u.Declared q = absurd (omega (arith, q))
-is-items u.Items q = refl
-
-is-recipe : (x : Unpriced) → numberOf x ≡ 8 → x ≡ u.Recipe Capacity
-is-recipe u.Prices q = absurd (omega (arith, q))
-is-recipe (u.Recipe r) q = ap u.Recipe (is-capacity r q)
-is-recipe u.Declared q = absurd (omega (arith, q))
-is-recipe u.Items q = absurd (omega (arith, q))
+unpriced-is : (x : Unpriced) → unpricedOf (numberOf x) (placeOf x) ≡ x
+unpriced-is u.Prices = refl
+unpriced-is (u.Recipe r) =
+    of-the-recipe (numberOf (u.Recipe r)) (placeOf (u.Recipe r)) (running.numbered r .1) ∙ ap u.Recipe (demanding.numbered-is r)
+unpriced-is u.Declared = refl
+unpriced-is u.Items = refl
 
 -- The number of an outcome, 0 for an end.
 abbrev numberOfOutcome : Outcome → ℕ
@@ -94,6 +92,12 @@ told-refused g v n p h q = by (outcome g) refl (h ∙ ap (λ (w : Verdict Bill).
     by (Refused y) w e =
         let i = refused-injective (numberOf y) (placeOf y) n p e in record { refusal = y; refused = w; number = i .0; place = i .1 }
     by (Ended x) w e = absurd (not-both n p (told x) (sym e))
+
+told-as : (g : Returned) (v : Verdict Bill) (n p : ℕ) → spoken (outcome g) ≡ andThen (ran v) (λ r. passed (lineOf r)) → v ≡ refused n p
+    → outcome g ≡ Refused (unpricedOf n p)
+told-as g v n p h q =
+    let r = told-refused g v n p h q in
+    r .refused ∙ ap Refused (sym (unpriced-is (r .refusal)) ∙ rw (r .number, r .place))
 
 verdict-ended : (v : Verdict Bill) (x : Report) → passed (told x) ≡ andThen (ran v) (λ r. passed (lineOf r))
     → (b : Bill) × (v ≡ passed b) × (told x ≡ lineOf (b .run))
@@ -142,9 +146,7 @@ module _ (prices : Prices) (l : Lent) (g : Returned) (h : Pricing prices l g) wh
         (h .charges-are ∙ ap chargesOf q)
     costs v q (laws.refused-10 ns y n) =
         let x = ending (l .limit) (room l) e (list N) (a .typed) in
-        let r = told-refused g verdict 10 0 (h .answer-is) q in
-        too-many x ns (subst (λ (r : spec.Result). ValueOf r ns) (result-is (list N) (a .typed) x) y) n
-        (r .refused ∙ ap Refused (is-items (r .refusal) (r .number)))
+        too-many x ns (subst (λ (r : spec.Result). ValueOf r ns) (result-is (list N) (a .typed) x) y) n (told-as g verdict 10 0 (h .answer-is) q)
     costs v q (laws.charges-of ns y n) =
         let o = own-of _ q e a s in
         charges o ns (subst (λ (r : spec.Result). ValueOf r ns) (result-is (list N) (a .typed) (o .reduces .by-rules)) y) n
@@ -153,14 +155,11 @@ module _ (prices : Prices) (l : Lent) (g : Returned) (h : Pricing prices l g) wh
   gives : (w : Way prices (l .bytes) (room l)) → Gives (l .limit) w verdict
   gives w = exactly .gives prices (l .bytes) (l .limit) (length (l .first)) (length (l .second)) w
 
-  refused-with : (n p : ℕ) → verdict ≡ refused n p → RefusedBy g n p
-  refused-with n p q = told-refused g verdict n p (h .answer-is) q
-
   answers : (w : Way prices (l .bytes) (room l)) → Gives (l .limit) w verdict → Answers prices l w g
-  answers (overpriced o) q = let r = refused-with 11 0 q in r .refused ∙ ap Refused (is-prices (r .refusal) (r .number))
-  answers (unaccepted w n p c) q = refused-with n p q
-  answers (of-another-type w τ e a o) q = let r = refused-with 9 0 q in r .refused ∙ ap Refused (is-declared (r .refusal) (r .number))
-  answers (too-large w e a o) q = let r = refused-with 8 0 q in r .refused ∙ ap Refused (is-recipe (r .refusal) (r .number))
+  answers (overpriced o) q = told-as g verdict 11 0 (h .answer-is) q
+  answers (unaccepted w n p c) q = told-refused g verdict n p (h .answer-is) q
+  answers (of-another-type w τ e a o) q = told-as g verdict 9 0 (h .answer-is) q
+  answers (too-large w e a o) q = told-as g verdict 8 0 (h .answer-is) q
   answers (run-of w e a s) q = costs e a s verdict refl q
 
   -- Demand 1.
@@ -281,9 +280,8 @@ module _ (prices : Prices) (l m : Lent) (g h : Returned) (b : l .bytes ≡ m .by
           let t : _≡_ {A = Verdict Bill} (refused n k) (refused 10 0) = cc in
           let more = grows .items prices (l .bytes) (l .limit) (length (l .first)) (length (l .second)) (m .limit) (length (m .first))
           (length (m .second)) i j (w ∙ t) in
-          let r = told-refused h (priced prices m) 10 0 (q .answer-is)
-          (subst (λ (bs : List ℕ). pricing prices bs (m .limit) (length (m .first)) (length (m .second)) ≡ refused 10 0) b more) in
-          r .refused ∙ ap Refused (is-items (r .refusal) (r .number))
+          told-as h (priced prices m) 10 0 (q .answer-is)
+          (subst (λ (bs : List ℕ). pricing prices bs (m .limit) (length (m .first)) (length (m .second)) ≡ refused 10 0) b more)
 
 pub priced-twice : (prices : Prices) (l m : Lent) (g h : Returned) → l .bytes ≡ m .bytes → Pricing prices l g → Pricing prices m h
     → PricedTwice prices l g m h

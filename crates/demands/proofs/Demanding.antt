@@ -23,12 +23,12 @@ use Rattle.engine.specs.Lent.{Lent, Returned}
 use Rattle.demands.proofs.Running.{Promised, grow}
 
 -- A refusal is its number and place.
-abbrev numbered : ℕ → ℕ → Refusal
+abbrev pub numbered : ℕ → ℕ → Refusal
 numbered n p =
     cond (eqb n 1) r.Bytes (cond (eqb n 2) r.Header (cond (eqb n 3) (r.Word p) (cond (eqb n 4) (r.Nesting p)
     (cond (eqb n 5) (r.Variable p) (cond (eqb n 6) (r.Untyped p) (cond (eqb n 7) (r.Mistyped p) r.Capacity))))))
 
-numbered-is : (x : Refusal) → numbered (numberOf x) (placeOf x) ≡ x
+pub numbered-is : (x : Refusal) → numbered (numberOf x) (placeOf x) ≡ x
 numbered-is r.Bytes = refl
 numbered-is r.Header = refl
 numbered-is (r.Word p) = refl

@@ -125,7 +125,7 @@ over-as l (τ, e, a, s) = rw (check-iff (l .bytes) τ e .1 a, lt-leb (size e) (r
 pub refused-injective : {A : Type 0} (n p m q : ℕ) → _≡_ {A = Verdict A} (refused n p) (refused m q) → (n ≡ m) × (p ≡ q)
 refused-injective n p m q e = (cc, cc)
 
-pub is-capacity : (x : Refusal) → numberOf x ≡ 8 → x ≡ r.Capacity
+is-capacity : (x : Refusal) → numberOf x ≡ 8 → x ≡ r.Capacity
 is-capacity r.Bytes q = absurd (omega (arith, q))
 is-capacity r.Header q = absurd (omega (arith, q))
 is-capacity (r.Word p) q = absurd (omega (arith, q))

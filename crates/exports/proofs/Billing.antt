@@ -11,7 +11,7 @@ use Rattle.calculus.proofs.Verdicts.{not-both, passed-injective}
 use Rattle.calculus.proofs.Bounds.{operate-bounded}
 use Rattle.calculus.proofs.Refusing.{PlaceWithin}
 use Rattle.engine.specs.declared.ends.Report.{Report}
-use Rattle.engine.specs.Results.{Line, lineOf, told}
+use Rattle.engine.specs.Results.{Line, lineOf}
 use Rattle.engine.proofs.Answering.{passed-by}
 use Rattle.charges.specs.Prices.{Prices}
 use Rattle.charges.specs.declared.Charges.{Charges}

@@ -1,6 +1,6 @@
 -- The price of a run: refused, without a charge, or charged as the specification says. Assumes nothing.
 use Prim.Native.Nat.{ℕ, _+_, _-_, _≤_, _<_}
-use mathlib.Core.Bool.{Bool, true, false, cond, false≢true}
+use mathlib.Core.Bool.{Bool, true, false, false≢true}
 use mathlib.Core.List.{List, [], _∷_, _++_}
 use mathlib.Core.Path.{_≡_, refl, sym, ap, _∙_, subst}
 use native.Mathlib.Omega.{arith}
@@ -10,19 +10,15 @@ use lib.Seq.{take-all, length-take-le}
 use borrow.Author.Tests.{le-leb, lt-leb, leb-true, eqb-true}
 use Rattle.calculus.specs.Trees.{Ty, N, list, ml, Term}
 use Rattle.calculus.specs.Words.{putTy, words, wordsTy, size}
-use Rattle.calculus.specs.Limits.{InRange}
-use Rattle.calculus.specs.Typing.{Typed}
-use Rattle.calculus.specs.Verdicts.{Verdict, refused, passed, andThen, unless}
+use Rattle.calculus.specs.Verdicts.{Verdict, passed, andThen}
 use Rattle.calculus.specs.Inference.{sameType}
-use Rattle.calculus.specs.Run.{End, valued, spent, error, full, uncounted, Result, run, capacity}
+use Rattle.calculus.specs.Run.{End, valued, uncounted, Result, run, capacity}
 use Rattle.calculus.specs.File.{wordsOf, Recipe, check, runIn, padded, firstAfter, secondAfter}
 use Rattle.calculus.proofs.Checks.{passes-in-order}
 use Rattle.calculus.proofs.Inference.{same-iff}
 use Rattle.calculus.proofs.Types.{equal-by-words}
 use Rattle.calculus.proofs.Verdicts.{unless-iff, passed-injective}
-use Rattle.calculus.proofs.Sizes.{tree-length}
 use Rattle.calculus.specs.Kinds.{term}
-use Rattle.calculus.proofs.Continuing.{run-keeps}
 use Rattle.file.proofs.Padding.{padded-take}
 use Rattle.checker.proofs.Admitting.{Admits}
 use Rattle.nodes.specs.declared.refusals.Refusal.{Refusal}
@@ -34,7 +30,7 @@ use Rattle.engine.specs.Answered.{Begun}
 use Rattle.engine.specs.Ran.{Good}
 use Rattle.engine.specs.Results.{Line, lineOf, endOf, told}
 use Rattle.engine.proofs.Answering.{passed-by, refused-by, term-within}
-use Rattle.charges.specs.Prices.{Prices, charges, total, allWithin}
+use Rattle.charges.specs.Prices.{Prices, charges, allWithin}
 use Rattle.charges.specs.Charged.{charged}
 use Rattle.charges.proofs.Pricing.{charges-zeros}
 use Rattle.pricing.specs.Items.{listOf, itemsIn}
@@ -45,7 +41,6 @@ use Rattle.pricing.specs.Answered.{Answered}
 use Rattle.pricing.specs.Parts.{Declares, Short, Left, Reads, AtValue, AtEnd, TermOf, OfNumbers, RecipeIn, Recipes, Runs, Bills}
 use Rattle.pricing.specs.declared.items.Items.{Items}
 use Rattle.pricing.specs.declared.Priced.{Priced}
-use Rattle.pricing.specs.declared.Unpriced.{Unpriced}
 use Rattle.pricing.specs.declared.Unpriced.the-variants as u
 use Rattle.pricing.specs.declared.Outcome.{Outcome}
 use Rattle.pricing.specs.declared.Outcome.the-variants as o

@@ -1,21 +1,20 @@
 -- The laws of pricing. Assumes nothing.
-use Prim.Native.Nat.{ℕ, _≤_, _<_}
+use Prim.Native.Nat.{ℕ, _≤_}
 use mathlib.Core.Bool.{Bool, true, false, false≢true}
 use mathlib.Core.List.{List, []}
 use mathlib.Core.Path.{_≡_, refl, sym, ap, _∙_, subst}
 use native.Mathlib.Decide.{decLe}
 use native.Mathlib.Omega.{arith}
-use lib.Dec.{leb}
 use lib.ListN.{length}
 use borrow.Author.Tests.{le-leb, lt-leb}
 use Rattle.calculus.specs.Trees.{Ty, N, list, ml, Term}
 use Rattle.calculus.specs.Words.{size}
-use Rattle.calculus.specs.Verdicts.{Verdict, refused, passed, andThen}
+use Rattle.calculus.specs.Verdicts.{Verdict, refused, passed}
 use Rattle.calculus.specs.Limits.{InRange}
 use Rattle.calculus.specs.Typing.{Typed}
 use Rattle.calculus.specs.Inference.{sameType}
 use Rattle.calculus.specs.Run.{End, valued, spent, error, full, Final, uncounted, Result, run, capacity}
-use Rattle.calculus.specs.File.{Recipe, check, runIn, operate}
+use Rattle.calculus.specs.File.{Recipe, check, runIn}
 use Rattle.calculus.specs.Accepted.{Accepted}
 use Rattle.calculus.proofs.Checks.{check-iff, operate-iff}
 use Rattle.calculus.proofs.Growth.{run-more}
@@ -23,7 +22,7 @@ use Rattle.calculus.proofs.Refusing.{Numbered, number-in-table}
 use Rattle.calculus.proofs.Inference.{same-iff}
 use Rattle.calculus.proofs.Verdicts.{not-both, passed-injective}
 use Rattle.engine.specs.Results.{numberOfEnd}
-use Rattle.charges.specs.Prices.{Prices, allWithin, mostCents}
+use Rattle.charges.specs.Prices.{Prices, allWithin}
 use Rattle.charges.specs.Laws.{Within}
 use Rattle.charges.proofs.Laws.{tested}
 use Rattle.pricing.specs.Items.{itemsIn}

@@ -4,8 +4,8 @@ use mathlib.Core.List.{List, [], _∷_, _++_}
 use mathlib.Core.Path.{_≡_}
 use lib.ListN.{replicate}
 use Rattle.calculus.specs.Verdicts.{refused, passed}
-use Rattle.calculus.specs.Run.{valued, spent, Counts, uncounted, ended}
-use Rattle.calculus.specs.Recipes.{bytesOf, fileOf, Allowed, allowed, plenty, counting}
+use Rattle.calculus.specs.Run.{valued, spent, uncounted, ended}
+use Rattle.calculus.specs.Recipes.{bytesOf, fileOf, Allowed, allowed, plenty}
 use Rattle.charges.specs.Prices.{Prices}
 use Rattle.pricing.specs.Pricing.{Bill, uncharged, pricing}
 

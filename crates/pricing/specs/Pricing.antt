@@ -1,6 +1,6 @@
 -- Document 02, U2: pricing, "an operation of its own: a run whose result gains, at a value, each charge and the total".
 use Prim.Native.Nat.{ℕ}
-use mathlib.Core.List.{List, []}
+use mathlib.Core.List.{List}
 use lib.Dec.{leb}
 use lib.ListN.{length, replicate}
 use Rattle.calculus.specs.Trees.{N, list, ml}

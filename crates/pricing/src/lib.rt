@@ -16,8 +16,6 @@ use file::Opened;
 use nodes::refusals::Numbers;
 use nodes::refusals::Refusal;
 ghost use mathlib.Core.Path.{_≡_};
-ghost use Prim.Native.Nat.{_≤_};
-ghost use lib.ListN.{length};
 ghost use Rattle.engine.specs.Lent.{lent};
 ghost use Rattle.pricing.specs.Refusals.{plain, numbered, refusal};
 ghost use Rattle.pricing.specs.Answered.{noCharges, uncharged, Answered, Pricing, returned};

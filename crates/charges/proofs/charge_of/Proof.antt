@@ -1,7 +1,6 @@
 -- `charges::charge_of` meets its contract. Assumes nothing.
 use borrow.Author.Needs.{needs}
 use mathlib.Core.Path.{_∙_}
-use native.Mathlib.Omega.{arith}
 use Rattle.charges.proofs.charge_of.Statement.{statement}
 use Rattle.charges.proofs.charge_of.Tie as tie
 

@@ -1,5 +1,4 @@
 -- `charges::charged` meets its contract. Assumes nothing.
-use mathlib.Core.Path.{_∙_, ap}
 use borrow.Author.Needs.{needs}
 use Rattle.charges.specs.Prices.{total}
 use Rattle.charges.proofs.charged.Statement.{statement}

@@ -1,6 +1,6 @@
 -- `charges::each_charge` meets its contract: before each turn the charges of the pumps so far are there, and zeros after them. Assumes nothing.
 use Prim.Native.Nat.{_-_, _≤_}
-use mathlib.Core.Path.{_≡_, refl, sym, ap, _∙_, subst}
+use mathlib.Core.Path.{_≡_, ap, _∙_}
 use native.Mathlib.Omega.{arith}
 use lib.ListN.{take, length}
 use borrow.Author.Needs.{needs}

@@ -1,9 +1,9 @@
 -- `charges::total` meets its contract: before each turn the sum so far and what is still to be added up are the total. Assumes nothing.
 use Prim.Native.Nat.{_+_, _*_, _-_, _≤_}
-use mathlib.Core.Path.{_≡_, ap, sym}
+use mathlib.Core.Path.{_≡_}
 use native.Mathlib.Numerals.{add-one}
 use native.Mathlib.Omega.{arith}
-use lib.ListN.{length, drop, drop-of-length-le}
+use lib.ListN.{length, drop}
 use borrow.Author.Needs.{needs}
 use Rattle.charges.specs.Prices.{total}
 use Rattle.charges.specs.Charged.{mostCharge}

@@ -1,5 +1,5 @@
 -- `pricing::ended` meets its contract, end by end. Assumes nothing.
-use mathlib.Core.Path.{refl, sym, ap, _∙_}
+use mathlib.Core.Path.{refl, ap}
 use borrow.Author.Needs.{needs}
 use Rattle.calculus.specs.Run.{spent, error, full}
 use Rattle.engine.specs.Results.{endOf}

@@ -1,6 +1,4 @@
 -- `pricing::run` meets its contract. Assumes nothing.
-use mathlib.Core.List.{List}
-use Prim.Native.Nat.{ℕ}
 use borrow.Author.Needs.{needs}
 use Rattle.engine.specs.declared.runs.Answer.the-variants.{Ended}
 use Rattle.engine.specs.Answered.{Begun}

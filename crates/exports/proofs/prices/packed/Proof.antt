@@ -1,6 +1,5 @@
 -- `exports::prices::packed` meets its contract. Assumes nothing.
 use mathlib.Core.Path.{refl}
-use borrow.Author.Needs.{needs}
 use Rattle.exports.proofs.prices.packed.Statement.{statement}
 use Rattle.exports.proofs.prices.packed.Tie as tie
 
