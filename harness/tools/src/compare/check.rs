@@ -4,7 +4,6 @@ use super::report::show_file;
 use super::{Counts, Plan};
 use crate::engine::Check;
 use crate::make::*;
-use crate::progress::Progress;
 use crate::random::Random;
 use crate::shrink::shrink;
 use model::check;
@@ -16,13 +15,7 @@ pub fn compare_check(engine: Check, plan: Plan) -> Result<Counts, String> {
     if plan.start == 0 {
         fixed(engine, &mut counts)?;
     }
-    let mut progress = Progress::new("files", plan.files);
-    for index in plan.start..plan.start + plan.files {
-        let file = random_file(plan.seed, index);
-        compare(engine, &file, &mut counts)
-            .map_err(|shown| format!("random file {index} of seed {}\n{shown}", plan.seed))?;
-        progress.done(index - plan.start);
-    }
+    plan.each_file(|index| compare(engine, &random_file(plan.seed, index), &mut counts))?;
     Ok(counts)
 }
 

@@ -4,7 +4,6 @@ use super::plan::follow;
 use super::report::show_file;
 use super::{Counts, Plan};
 use crate::make::*;
-use crate::progress::Progress;
 use crate::random::Random;
 use model::file::file;
 use model::text::parse_recipe;
@@ -36,16 +35,14 @@ pub fn compare_list(program: &Path, plan: Plan) -> Result<Counts, String> {
             compare(program, &file, &mut counts)?;
         }
     }
-    let mut progress = Progress::new("files", plan.files);
-    for index in plan.start..plan.start + plan.files {
+    plan.each_file(|index| {
         let mut random = Random::new(plan.seed, index);
         let file = if random.chance(75) { well_typed_file(&mut random) } else { damaged_file(&mut random) };
-        if follow(&file).ends {
-            compare(program, &file, &mut counts)
-                .map_err(|shown| format!("random file {index} of seed {}\n{shown}", plan.seed))?;
+        match follow(&file).ends {
+            true => compare(program, &file, &mut counts),
+            false => Ok(()),
         }
-        progress.done(index - plan.start);
-    }
+    })?;
     Ok(counts)
 }
 

@@ -13,6 +13,8 @@ mod run;
 mod seen;
 mod stack;
 
+use crate::progress::Progress;
+
 pub use case::Case;
 pub use check::compare_check;
 pub use counts::{missing, table, Counts};
@@ -28,4 +30,16 @@ pub struct Plan {
     pub files: u64,
     pub seed: u64,
     pub start: u64,
+}
+
+impl Plan {
+    /// Compares each of the random files, by its index, and shows how far that is. A difference says which file it is.
+    fn each_file(&self, mut compare: impl FnMut(u64) -> Result<(), String>) -> Result<(), String> {
+        let mut progress = Progress::new("files", self.files);
+        for index in self.start..self.start + self.files {
+            compare(index).map_err(|shown| format!("random file {index} of seed {}\n{shown}", self.seed))?;
+            progress.done(index - self.start);
+        }
+        Ok(())
+    }
 }

@@ -8,7 +8,6 @@ use super::seen::{lend, show_both, Seen};
 use super::{Counts, Plan};
 use crate::engine::{RecipeRun, Run};
 use crate::make::*;
-use crate::progress::Progress;
 use crate::random::Random;
 use crate::stand_in::told;
 use model::laws::{ends_alike, try_counts, try_reduction};
@@ -21,12 +20,7 @@ pub fn compare_run(engine: Run, plan: Plan) -> Result<Counts, String> {
     if plan.start == 0 {
         fixed(engine, &mut counts)?;
     }
-    let mut progress = Progress::new("files", plan.files);
-    for index in plan.start..plan.start + plan.files {
-        random_file(engine, plan.seed, index, &mut counts)
-            .map_err(|shown| format!("random file {index} of seed {}\n{shown}", plan.seed))?;
-        progress.done(index - plan.start);
-    }
+    plan.each_file(|index| random_file(engine, plan.seed, index, &mut counts))?;
     Ok(counts)
 }
 

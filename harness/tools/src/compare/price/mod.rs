@@ -12,7 +12,6 @@ use crate::engine::Price;
 use crate::make::cans::can_file;
 use crate::make::prices::{any_prices, differing};
 use crate::make::*;
-use crate::progress::Progress;
 use crate::random::Random;
 use model::laws::ends_alike;
 use model::{End, Priced};
@@ -27,12 +26,7 @@ pub fn compare_price(engine: Price, plan: Plan) -> Result<PriceCounts, String> {
     if plan.start == 0 {
         fixed(engine, &mut counts)?;
     }
-    let mut progress = Progress::new("files", plan.files);
-    for index in plan.start..plan.start + plan.files {
-        random_file(engine, plan.seed, index, &mut counts)
-            .map_err(|shown| format!("random file {index} of seed {}\n{shown}", plan.seed))?;
-        progress.done(index - plan.start);
-    }
+    plan.each_file(|index| random_file(engine, plan.seed, index, &mut counts))?;
     Ok(counts)
 }
 
