@@ -10,7 +10,8 @@ ghost use Rattle.charges.specs.Charged.{charged, mostCharge, Small};
 // A price for each pump and band, in cents per 1,000 pulses.
 pub type Prices = [[u32; 3]; 9];
 
-pub const MOST_CENTS: u32 = 1000000;
+// The largest price that is no refusal.
+const MOST_CENTS: u32 = 1000000;
 
 // Each charge and their total, in cents.
 pub struct Charges {

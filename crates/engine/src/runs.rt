@@ -6,7 +6,6 @@ use crate::reductions::reduce;
 use checker::admit;
 use file::Opened;
 use nodes::refusals::Refusal;
-ghost use mathlib.Core.Path.{_≡_};
 ghost use Prim.Native.Nat.{_≤_};
 ghost use lib.ListN.{length};
 ghost use Rattle.engine.specs.Lent.{lent, returned};

@@ -88,7 +88,7 @@ answered-for f s h =
     record { answer-is = h .answer-is; charges-are = h .charges-are; first-is = h .first-is ∙ rw f; second-is = h .second-is ∙ rw s }
 
 -- An outcome without a charge, where both buffers hold what the run left.
-answered-uncharged : {v : Verdict Bill} {p : Priced} (x : Outcome) {first second first′ second′ : List ℕ} → p ≡ spec.uncharged x
+pub answered-uncharged : {v : Verdict Bill} {p : Priced} (x : Outcome) {first second first′ second′ : List ℕ} → p ≡ spec.uncharged x
     → spec.spoken x ≡ andThen (spec.ran v) (λ r. passed (lineOf r)) → spec.noCharges ≡ spec.chargesOf v
     → first′ ≡ firstAfter (length first) (spec.ran v) → second′ ≡ secondAfter (length second) (spec.ran v)
     → Answered v p first second first′ second′

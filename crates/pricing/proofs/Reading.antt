@@ -18,7 +18,7 @@ use Rattle.writing.specs.Spans.{span}
 use Rattle.writing.proofs.Measures.{span-tree}
 use Rattle.writing.proofs.Stores.{sets-snoc}
 use Rattle.pricing.specs.Items.{listOf}
-use Rattle.pricing.specs.Parts.{Lists, Reads}
+use Rattle.pricing.specs.Parts.{Puts, Reads}
 
 -- `count` items are read, which stand before the place `at`; the list goes on from there.
 pub record Reading (ws b pulses : List ℕ) (count at : ℕ) : Type 0 where
@@ -86,7 +86,7 @@ module _ {ws b pulses : List ℕ} {count at : ℕ} (r : Reading ws b pulses coun
           )
 
   -- Where no cons follows all items are read.
-  pub ends : ltb at (length ws) && eqb (getD ws at 0) 25 ≡ false → Lists ws b count pulses
+  pub ends : ltb at (length ws) && eqb (getD ws at 0) 25 ≡ false → Puts ws b count pulses
   ends f = record { of = λ ns e. by ns (r .of ns e) (drop count ns) refl }
     where
       by : (ns : List ℕ) → (count ≤ length ns) × (drop at ws ≡ words (listOf (drop count ns))) × (pulses ≡ sets b 0 (take count ns))
@@ -115,5 +115,5 @@ sets-zeros zero ns = sets-nowhere 0 ns ∙ rw (zero-sub (length ns))
 sets-zeros (suc n) [] = rw (sub-zero (suc n))
 sets-zeros (suc n) (x ∷ xs) = sets-suc x (replicate n 0) 0 xs ∙ rw (sets-zeros n xs, suc-sub-suc n (length xs))
 
-pub listed : {ws pulses : List ℕ} {count : ℕ} → Lists ws (replicate 9 0) count pulses → Reads ws (record { pulses = pulses; count = count })
+pub listed : {ws pulses : List ℕ} {count : ℕ} → Puts ws (replicate 9 0) count pulses → Reads ws (record { pulses = pulses; count = count })
 listed l = record { of = λ ns e. let w = l .of ns e in (omega (arith, w .place), w .stored ∙ sets-zeros 9 ns) }

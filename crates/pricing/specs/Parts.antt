@@ -23,7 +23,7 @@ use Rattle.pricing.specs.declared.items.Items.{Items}
 use Rattle.pricing.specs.declared.Priced.{Priced}
 
 -- The items of words which are those of a list of numbers, put into a buffer.
-pub record Lists (ws pulses : List ℕ) (count : ℕ) (pulses′ : List ℕ) : Type 0 where
+pub record Puts (ws pulses : List ℕ) (count : ℕ) (pulses′ : List ℕ) : Type 0 where
   pub of : (ns : List ℕ) → ws ≡ words (listOf ns) → Wrote pulses 0 ns count pulses′
 
 -- How many they are, and the pulses of pumps 1 to 9, 0 where there is no item.

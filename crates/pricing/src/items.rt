@@ -9,7 +9,7 @@ ghost use Prim.Native.Nat.{_≤_};
 ghost use lib.Dec.{eqb, ltb};
 ghost use lib.ListN.{length, getD};
 ghost use Rattle.writing.specs.Given.{mostWords, Given};
-ghost use Rattle.pricing.specs.Parts.{Lists, Reads};
+ghost use Rattle.pricing.specs.Parts.{Puts, Reads};
 
 // How many items there are, and the pulses of the first nine.
 pub struct Items {
@@ -30,7 +30,7 @@ fn is_cons(words: &[u32], at: usize) -> bool
 // The items of the list of numbers that the words are: those that there is room for are put into the buffer. Returns how many there are.
 fn read_into(table: &Kinds, words: &[u32], pulses: &mut [u32]) -> usize
     requires { ⌜ Given (now table) (now words) ⌝ }
-    ensures { λ r. ⌜ Lists (now (words .entry)) (now (pulses .entry)) r (now (pulses .exit)) ⌝ }
+    ensures { λ r. ⌜ Puts (now (words .entry)) (now (pulses .entry)) r (now (pulses .exit)) ⌝ }
 {
     let mut count = 0;
     let mut at = 0;

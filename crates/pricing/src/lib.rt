@@ -72,17 +72,6 @@ fn none() -> Charges
     }
 }
 
-// A refusal of pricing's own, or of what comes before the run: both buffers all zero.
-fn refused(u: Unpriced, first: &mut [u32], second: &mut [u32]) -> Priced
-    ensures { λ x. ⌜ Answered (refusal u) x (now (first .entry)) (now (second .entry)) (now (first .exit)) (now (second .exit)) ⌝ }
-{
-    keep(first, second, 0);
-    Priced {
-        outcome: Outcome::Refused(u),
-        charges: none(),
-    }
-}
-
 // An outcome without a charge.
 fn uncharged(o: Outcome) -> Priced
     ensures { λ x. ⌜ x ≡ uncharged o ⌝ }
@@ -91,6 +80,14 @@ fn uncharged(o: Outcome) -> Priced
         outcome: o,
         charges: none(),
     }
+}
+
+// A refusal of pricing's own, or of what comes before the run: both buffers all zero.
+fn refused(u: Unpriced, first: &mut [u32], second: &mut [u32]) -> Priced
+    ensures { λ x. ⌜ Answered (refusal u) x (now (first .entry)) (now (second .entry)) (now (first .exit)) (now (second .exit)) ⌝ }
+{
+    keep(first, second, 0);
+    uncharged(Outcome::Refused(u))
 }
 
 // Whether the words of a declared type are those of {N}.
