@@ -5,7 +5,7 @@ use mathlib.Core.List.{List, []}
 use mathlib.Core.Path.{_≡_, refl, sym, ap, _∙_, subst}
 use native.Mathlib.Omega.{arith}
 use lib.Dec.{eqb}
-use lib.ListN.{length, take}
+use lib.ListN.{length}
 use borrow.Author.Tests.{ne-eqb}
 use Rattle.calculus.specs.Trees.{Ty, N, list, ml, Term}
 use Rattle.calculus.specs.Words.{size}
@@ -37,11 +37,12 @@ use Rattle.pricing.specs.declared.Unpriced.the-variants as u
 use Rattle.pricing.specs.declared.Outcome.{Outcome}
 use Rattle.pricing.specs.declared.Outcome.the-variants.{Refused, Ended}
 use Rattle.pricing.proofs.Listing.{lists-once}
+use Rattle.pricing.proofs.Billing.{billed-by}
 use Rattle.pricing.proofs.Laws.{exactly, own-run, grows}
 use Rattle.demands.specs.Priced.{outcome, Finishes, refuses, ends, RefusedBy, OwnRun, Costs, nothing, too-many, charges, Answers, OtherType}
 use Rattle.demands.specs.Priced.{TooMany, PricedOnce, SamePrice, PricedTwice}
 use Rattle.demands.proofs.Running as running
-use Rattle.demands.proofs.Running.{Promised, front, reduces-of, refused-injective}
+use Rattle.demands.proofs.Running.{Promised, reduces-of, refused-injective}
 use Rattle.demands.proofs.Demanding as demanding
 
 -- Every refusal of pricing is one of the eleven.
@@ -99,10 +100,9 @@ told-as g v n p h q =
     let r = told-refused g v n p h q in
     r .refused ∙ ap Refused (sym (unpriced-is (r .refusal)) ∙ rw (r .number, r .place))
 
-verdict-ended : (v : Verdict Bill) (x : Report) → passed (told x) ≡ andThen (ran v) (λ r. passed (lineOf r))
-    → (b : Bill) × (v ≡ passed b) × (told x ≡ lineOf (b .run))
-verdict-ended (refused n p) x q = absurd (not-both n p (told x) (sym q))
-verdict-ended (passed b) x q = (b, refl, passed-injective (told x) (lineOf (b .run)) q)
+-- What a run gives back that ends with this report and leaves what the pricing leaves.
+abbrev ended-as : Report → Returned → engine.Returned
+ended-as x g = engine.returned (answer.Ended x) (g .first) (g .second)
 
 -- A run has one result.
 result-is : {limit cap : ℕ} {e : Term ml} (τ : Ty) → Typed [] e τ → (x : Ending limit cap e) → spec.run limit cap spec.uncounted e ≡ x .result
@@ -117,7 +117,7 @@ module _ (prices : Prices) (l : Lent) (g : Returned) (h : Pricing prices l g) wh
 
   -- A pricing that ended is a run.
   as-run : (x : Report) (b : Bill) → outcome g ≡ Ended x → verdict ≡ passed b
-      → Promised l (engine.returned (answer.Ended x) (g .first) (g .second))
+      → Promised l (ended-as x g)
   as-run x b o q =
       let w = own-run .own prices (l .bytes) (l .limit) (length (l .first)) (length (l .second)) b q in
       record {
@@ -134,7 +134,7 @@ module _ (prices : Prices) (l : Lent) (g : Returned) (h : Pricing prices l g) wh
       record {
         report = x .0;
         ended = x .1;
-        reduces = reduces-of l (engine.returned (answer.Ended (x .0)) (g .first) (g .second)) (as-run (x .0) b (x .1) q) (list N) e a s;
+        reduces = reduces-of l (ended-as (x .0) g) (as-run (x .0) b (x .1) q) (list N) e a s;
       }
 
   -- What the run costs.
@@ -249,27 +249,22 @@ module _ (prices : Prices) (l m : Lent) (g h : Returned) (b : l .bytes ≡ m .by
     (i : l .limit ≤ m .limit) (j : room l ≤ room m) where
   grow : (x : Report) → outcome g ≡ Ended x → spec.Final (endOf (x .end)) → SamePrice x g h
   grow x o f =
-      let y = verdict-ended (priced prices l) x (ap spoken (sym o) ∙ p .answer-is) in
+      let y = billed-by (priced prices l) x (ap spoken (sym o) ∙ p .answer-is) in
       let final = subst spec.Final (ap (λ (z : Line). z .end) (y .2)) f in
       let more = grows .bill prices (l .bytes) (l .limit) (length (l .first)) (length (l .second)) (m .limit) (length (m .first)) (length (m .second))
       i j (y .0) (y .1) final in
       let later : priced prices m ≡ passed (y .0) =
       subst (λ (bs : List ℕ). pricing prices bs (m .limit) (length (m .first)) (length (m .second)) ≡ passed (y .0)) b more in
       let z = told-ended (outcome h) (priced prices m) (y .0) (q .answer-is) later in
-      let n : x .left ≡ length (y .0 .run .left) = ap (λ (z : Line). z .left) (y .2) in
+      let same = running.grow l m (ended-as x g) (ended-as (z .0) h) x b i j
+      (as-run prices l g p x (y .0) o (y .1)) (as-run prices m h q (z .0) (y .0) (z .1) later) refl f in
       record {
         report = z .0;
         ended = z .1;
         numbers = z .2 ∙ sym (y .2);
         charges = q .charges-are ∙ ap chargesOf (later ∙ sym (y .1)) ∙ sym (p .charges-are);
-        words = rw n (stands m h q (z .0) (y .0) (z .1) later ∙ sym (stands l g p x (y .0) o (y .1)));
+        words = same .words;
       }
-    where
-      stands : (l : Lent) (g : Returned) (p : Pricing prices l g) (x : Report) (c : Bill) → outcome g ≡ Ended x → priced prices l ≡ passed c
-          → take (length (c .run .left)) (g .first) ≡ c .run .left
-      stands l g p x c o v =
-          front l (engine.returned (answer.Ended x) (g .first) (g .second)) (c .run)
-          (own-run .own prices (l .bytes) (l .limit) (length (l .first)) (length (l .second)) c v) (as-run prices l g p x c o v)
 
   stay : outcome g ≡ Refused u.Items → outcome h ≡ Refused u.Items
   stay o = by (priced prices l) refl (ap spoken (sym o) ∙ p .answer-is)

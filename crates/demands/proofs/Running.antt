@@ -82,7 +82,7 @@ reduce l g e x c o h =
     }
 
 -- A run's first words are those that it leaves.
-pub front : (l : Lent) (g : Returned) (r : spec.Result) → operate (l .bytes) (l .limit) (length (l .first)) (length (l .second)) ≡ passed r
+front : (l : Lent) (g : Returned) (r : spec.Result) → operate (l .bytes) (l .limit) (length (l .first)) (length (l .second)) ≡ passed r
     → Promised l g → take (length (r .left)) (g .first) ≡ r .left
 front l g r o h =
     let n = operate-bounded (l .bytes) (l .limit) (length (l .first)) (length (l .second)) r o .0 in

@@ -1,18 +1,16 @@
 -- The numbers of a pricing fit 32 bits, as those of its run do. Assumes nothing.
 use Prim.Native.Nat.{ℕ, _≤_}
 use mathlib.Core.List.{List}
-use mathlib.Core.Path.{_≡_, refl, sym, ap, _∙_, subst}
+use mathlib.Core.Path.{_≡_, sym, ap, _∙_, subst}
 use native.Mathlib.Omega.{arith}
 use lib.ListN.{length}
 use Rattle.calculus.specs.Verdicts.{Verdict, refused, passed, andThen}
 use Rattle.calculus.specs.Run.{Result, capacity}
 use Rattle.calculus.specs.File.{Recipe}
-use Rattle.calculus.proofs.Verdicts.{not-both, passed-injective}
 use Rattle.calculus.proofs.Bounds.{operate-bounded}
 use Rattle.calculus.proofs.Refusing.{PlaceWithin}
 use Rattle.engine.specs.declared.ends.Report.{Report}
 use Rattle.engine.specs.Results.{Line, lineOf}
-use Rattle.engine.proofs.Answering.{passed-by}
 use Rattle.charges.specs.Prices.{Prices}
 use Rattle.charges.specs.declared.Charges.{Charges}
 use Rattle.pricing.specs.Pricing.{Bill, pricing}
@@ -22,16 +20,12 @@ use Rattle.pricing.specs.Answered.{spoken, ran, chargesOf}
 use Rattle.pricing.specs.declared.Unpriced.{Unpriced}
 use Rattle.pricing.specs.declared.Outcome.{Outcome}
 use Rattle.pricing.specs.declared.Outcome.the-variants.{Refused, Ended}
+use Rattle.pricing.proofs.Billing.{billed-by}
 use Rattle.pricing.proofs.Laws.{exactly, own-run}
 use Rattle.exports.specs.declared.runs.RecipeRun.{RecipeRun}
 use Rattle.exports.specs.declared.prices.RecipePriced.{RecipePriced}
 use Rattle.exports.specs.Numbers.{endedNumbers, runNumbers, packedNumbers, pricedNumbers}
 use Rattle.exports.proofs.Packing.{check-within}
-
--- Where a verdict has a run it has a bill.
-ran-passed : (v : Verdict Bill) (r : Result) → ran v ≡ passed r → (b : Bill) × (v ≡ passed b) × (b .run ≡ r)
-ran-passed (refused n p) r q = absurd (not-both n p r q)
-ran-passed (passed b) r q = (b, refl, passed-injective (b .run) r q)
 
 module _ (prices : Prices) (bytes : List ℕ) (limit n m : ℕ) where
   abbrev verdict : Verdict Bill
@@ -64,11 +58,10 @@ module _ (prices : Prices) (bytes : List ℕ) (limit n m : ℕ) where
     -- The words left and the words wanted.
     pub price-words : (x : Report) → o ≡ Ended x → (x .left ≤ 16384) × (x .wanted ≤ 268435456)
     price-words x q =
-        let y = passed-by (ran verdict) x (sym (ap spoken q) ∙ h) in
-        let l : x .left ≡ length (y .0 .left) = ap (λ (z : Line). z .left) (y .2) in
-        let w : x .wanted ≡ y .0 .wanted = ap (λ (z : Line). z .wanted) (y .2) in
-        let k = ran-passed verdict (y .0) (y .1) in
-        let b = operate-bounded bytes limit n m (y .0) (own-run .own prices bytes limit n m (k .0) (k .1) ∙ ap passed (k .2)) in
+        let y = billed-by verdict x (sym (ap spoken q) ∙ h) in
+        let l : x .left ≡ length (y .0 .run .left) = ap (λ (z : Line). z .left) (y .2) in
+        let w : x .wanted ≡ y .0 .run .wanted = ap (λ (z : Line). z .wanted) (y .2) in
+        let b = operate-bounded bytes limit n m (y .0 .run) (own-run .own prices bytes limit n m (y .0) (y .1)) in
         (omega (arith, l, b .0), omega (arith, w, b .1))
 
     -- Either case of an answer.

@@ -10,14 +10,14 @@ use lib.Seq.{take-all, length-take-le}
 use borrow.Author.Tests.{le-leb, lt-leb, leb-true, eqb-true}
 use Rattle.calculus.specs.Trees.{Ty, N, list, ml, Term}
 use Rattle.calculus.specs.Words.{putTy, words, wordsTy, size}
-use Rattle.calculus.specs.Verdicts.{Verdict, passed, andThen}
+use Rattle.calculus.specs.Verdicts.{Verdict, refused, passed, andThen}
 use Rattle.calculus.specs.Inference.{sameType}
 use Rattle.calculus.specs.Run.{End, valued, uncounted, Result, run, capacity}
 use Rattle.calculus.specs.File.{wordsOf, Recipe, check, runIn, padded, firstAfter, secondAfter}
 use Rattle.calculus.proofs.Checks.{passes-in-order}
 use Rattle.calculus.proofs.Inference.{same-iff}
 use Rattle.calculus.proofs.Types.{equal-by-words}
-use Rattle.calculus.proofs.Verdicts.{unless-iff, passed-injective}
+use Rattle.calculus.proofs.Verdicts.{not-both, unless-iff, passed-injective}
 use Rattle.calculus.specs.Kinds.{term}
 use Rattle.file.proofs.Padding.{padded-take}
 use Rattle.checker.proofs.Admitting.{Admits}
@@ -86,6 +86,12 @@ answered-for : {v : Verdict Bill} {x : Priced} {first second first₁ second₁ 
     → length second₁ ≡ length second → Answered v x first₁ second₁ first′ second′ → Answered v x first second first′ second′
 answered-for f s h =
     record { answer-is = h .answer-is; charges-are = h .charges-are; first-is = h .first-is ∙ rw f; second-is = h .second-is ∙ rw s }
+
+-- Where the outcome is an end there is a bill, and its run's result is that end's.
+pub billed-by : (v : Verdict Bill) (x : Report) → passed (told x) ≡ andThen (spec.ran v) (λ r. passed (lineOf r))
+    → (b : Bill) × (v ≡ passed b) × (told x ≡ lineOf (b .run))
+billed-by (refused n p) x q = absurd (not-both n p (told x) (sym q))
+billed-by (passed b) x q = (b, refl, passed-injective (told x) (lineOf (b .run)) q)
 
 -- An outcome without a charge, where both buffers hold what the run left.
 pub answered-uncharged : {v : Verdict Bill} {p : Priced} (x : Outcome) {first second first′ second′ : List ℕ} → p ≡ spec.uncharged x

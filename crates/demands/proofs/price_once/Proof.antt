@@ -4,17 +4,8 @@ use Rattle.demands.proofs.Costing.{priced-once}
 use Rattle.demands.proofs.price_once.Statement.{statement}
 use Rattle.demands.proofs.price_once.Tie as tie
 
-price-requires : tie.Need-price-requires
-price-requires c κs = search needs
-
-same-length : tie.Need-same-length
-same-length c = search needs
-
-same-length-2 : tie.Need-same-length-2
-same-length-2 c = search needs
-
 returns : tie.Need-returns
 returns c = priced-once _ _ _ (c .before .before .before .before .price .ensures)
 
 pub price-once-spec : {M : Type 1} → statement M
-price-once-spec = tie.close (tie.spec price-requires same-length same-length-2 returns)
+price-once-spec = tie.close (tie.spec (λ c κs. search needs) (λ c. search needs) (λ c. search needs) returns)
