@@ -34,6 +34,7 @@ pub mod Endings
 pub mod Growth
 pub mod Continuing
 pub mod Files
+pub mod Padding
 pub mod Checks
 pub mod Refusing
 pub mod Demands

@@ -16,7 +16,6 @@ use denote.Laws.{Is}
 use lib.ListN.{length, getD, set, take, drop, replicate, drop-of-length-le}
 use lib.Seq.{drop-cons, take-all}
 use Rattle.calculus.specs.File.{padded}
-use Rattle.file.proofs.Padding.{padded-take, padded-length}
 use Rattle.charges.specs.Prices.{Prices, price, band, charge, charges, total, mostCents, within, allWithin}
 use Rattle.charges.specs.Charged.{mostCharge, Small}
 
@@ -51,13 +50,6 @@ charges-zeros [] ns k = refl
 charges-zeros (row ∷ rows) [] zero = refl
 charges-zeros (row ∷ rows) [] (suc k) = rw (← (charge-none (getD row 0 0)), charges-zeros rows [] k)
 charges-zeros (row ∷ rows) (n ∷ ns) k = ap (λ (cs : List ℕ). charge n (getD row (band n) 0) ∷ cs) (charges-zeros rows ns k)
-
--- Charges that are all there need no zeros after them.
-pub padded-all : (n : ℕ) (cs : List ℕ) → length cs ≡ n → padded n (take n cs) ≡ cs
-padded-all n cs h =
-    ap (padded n) (take-all n cs (omega arith))
-    ∙ sym (take-all n (padded n cs) (omega (arith, padded-length n cs)))
-    ∙ padded-take n n cs (omega arith) (sym h)
 
 -- One charge more, and none yet.
 pub small-set : (cs : List ℕ) (i c : ℕ) → Small cs → c ≤ mostCharge → Small (set cs i c)

@@ -19,7 +19,7 @@ use Rattle.calculus.proofs.Verdicts.{not-both, passed-injective}
 use Rattle.calculus.proofs.Endings.{ends-iff, ending}
 use Rattle.calculus.proofs.Refusing.{Numbered, number-in-table}
 use Rattle.nodes.specs.declared.refusals.Refusal.the-variants.{Capacity}
-use Rattle.file.proofs.Padding.{padded-none}
+use Rattle.calculus.proofs.Padding.{padded-none}
 use Rattle.engine.specs.declared.ends.Report.{Report}
 use Rattle.engine.specs.declared.runs.Answer.the-variants as answer
 use Rattle.engine.specs.Results.{Line, lineOf, endOf, told}

@@ -24,7 +24,7 @@ use Rattle.calculus.proofs.Demands.{demand-3}
 use Rattle.nodes.specs.declared.refusals.Refusal.{Refusal}
 use Rattle.nodes.specs.declared.refusals.Refusal.the-variants as r
 use Rattle.nodes.specs.Refusals.{numberOf, placeOf, refusal}
-use Rattle.file.proofs.Padding.{padded-none, padded-take}
+use Rattle.calculus.proofs.Padding.{padded-none, padded-take}
 use Rattle.engine.specs.declared.ends.Report.{Report}
 use Rattle.engine.specs.declared.runs.Answer.{Answer}
 use Rattle.engine.specs.declared.runs.Answer.the-variants.{Refused, Ended}

@@ -1,4 +1,3 @@
 pub mod Bytes
-pub mod Padding
 pub mod Tests
 pub mod Opening

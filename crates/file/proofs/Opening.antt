@@ -10,7 +10,7 @@ use Rattle.calculus.specs.File.{wordsOf, isSize, isHeader, typeCount, Recipe, c
 use Rattle.calculus.proofs.Verdicts.{not-both}
 use Rattle.file.specs.Opening.{opening, kept}
 use Rattle.file.proofs.Bytes.{words-length}
-use Rattle.file.proofs.Padding.{padded-take, padded-length}
+use Rattle.calculus.proofs.Padding.{padded-take, padded-length}
 use Rattle.file.proofs.Tests.{HeaderFits, header-fits, size-fits}
 
 module _ (bs : List ℕ) (s : isSize (length bs) ≡ true) where

@@ -10,7 +10,7 @@ use Rattle.calculus.specs.Run.{End, valued, spent, error, full, Result}
 use Rattle.calculus.specs.File.{operate, leftBy, firstAfter}
 use Rattle.calculus.proofs.Refusing.{operate-number}
 use Rattle.calculus.proofs.Bounds.{operate-bounded}
-use Rattle.file.proofs.Padding.{padded-take, padded-length}
+use Rattle.calculus.proofs.Padding.{padded-take, padded-length}
 use Rattle.engine.specs.Results.{lineOf, numberOfEnd}
 use Rattle.exports.specs.Numbers.{runNumbers}
 use Rattle.exports.specs.declared.runs.RecipeRun.{RecipeRun}

@@ -19,7 +19,7 @@ use Rattle.calculus.proofs.Inference.{same-iff}
 use Rattle.calculus.proofs.Types.{equal-by-words}
 use Rattle.calculus.proofs.Verdicts.{not-both, unless-iff, passed-injective}
 use Rattle.calculus.specs.Kinds.{term}
-use Rattle.file.proofs.Padding.{padded-take}
+use Rattle.calculus.proofs.Padding.{padded-take}
 use Rattle.checker.proofs.Admitting.{Admits}
 use Rattle.nodes.specs.declared.refusals.Refusal.{Refusal}
 use Rattle.nodes.specs.Refusals as nodes

@@ -34,9 +34,9 @@ listWords ns = cells ns (24 ∷ 1 ∷ [])
 abbrev pub can : List ℕ → List ℕ
 can terms = fileOf (3 ∷ 1 ∷ []) terms
 
--- A file is priced, with what is lent: to a bill, or refused.
-abbrev pub Costs : Prices → List ℕ → Allowed → Bill → Type 0
-Costs prices file x b = pricing prices (bytesOf file) (x .limit) (x .room) (x .room) ≡ passed b
+-- A file is priced, with what is lent: as a bill says, or refused.
+abbrev pub PricedAs : Prices → List ℕ → Allowed → Bill → Type 0
+PricedAs prices file x b = pricing prices (bytesOf file) (x .limit) (x .room) (x .room) ≡ passed b
 
 abbrev pub Refuses : Prices → List ℕ → Allowed → ℕ → Type 0
 Refuses prices file x number = pricing prices (bytesOf file) (x .limit) (x .room) (x .room) ≡ refused number 0
@@ -51,15 +51,15 @@ ten = cells (1 ∷ 2 ∷ 3 ∷ 4 ∷ 5 ∷ 6 ∷ 7 ∷ 8 ∷ 9 ∷ []) (25 ∷ 2
 
 pub record Tried : Type 0 where
   -- the edges of the bands: 999.9 cents and 30,099.699 are rounded up, 2,010 and 40,200 are exact
-  pub edges : Costs shop (can (listWords (9999 ∷ 10000 ∷ 99999 ∷ 100000 ∷ []))) plenty
+  pub edges : PricedAs shop (can (listWords (9999 ∷ 10000 ∷ 99999 ∷ 100000 ∷ []))) plenty
       (atOnce (9999 ∷ 10000 ∷ 99999 ∷ 100000 ∷ []) (1000 ∷ 2010 ∷ 30100 ∷ 40200 ∷ 0 ∷ 0 ∷ 0 ∷ 0 ∷ 0 ∷ []) 73310)
   -- the largest count in the ninth pump, and pumps that give nothing
-  pub largest : Costs shop (can (listWords (replicate 8 0 ++ 16777215 ∷ []))) plenty
+  pub largest : PricedAs shop (can (listWords (replicate 8 0 ++ 16777215 ∷ []))) plenty
       (atOnce (replicate 8 0 ++ 16777215 ∷ []) (replicate 8 0 ++ 15133048 ∷ []) 15133048)
-  pub empty : Costs shop (can (listWords [])) plenty (atOnce [] (replicate 9 0) 0)
+  pub empty : PricedAs shop (can (listWords [])) plenty (atOnce [] (replicate 9 0) 0)
   -- ten items are 10 at the value; a run of them that is spent has no charge
   pub too-many : Refuses shop (can ten) plenty 10
-  pub not-yet : Costs shop (can ten) (allowed 0 4096) (uncharged (ended spent 0 uncounted ten 0))
+  pub not-yet : PricedAs shop (can ten) (allowed 0 4096) (uncharged (ended spent 0 uncounted ten 0))
   -- 11 before 1; 9, also before 8; 8 before 10
   pub over : Refuses dear [] plenty 11
   pub no-file : Refuses shop [] plenty 1

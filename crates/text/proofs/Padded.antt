@@ -7,7 +7,7 @@ use native.Mathlib.Omega.{arith}
 use lib.ListN.{length, take}
 use lib.Seq.{take-all, length-take-le}
 use Rattle.calculus.specs.File.{padded}
-use Rattle.file.proofs.Padding.{padded-cut}
+use Rattle.calculus.proofs.Padding.{padded-cut}
 use Rattle.writing.specs.Wrote.{Wrote}
 use Rattle.writing.proofs.Stores.{sets-cut, wrote-length}
 use Rattle.writing.proofs.Clearing.{front-copied}

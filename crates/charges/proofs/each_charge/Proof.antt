@@ -5,10 +5,10 @@ use native.Mathlib.Omega.{arith}
 use lib.ListN.{take, length}
 use borrow.Author.Needs.{needs}
 use Rattle.calculus.specs.File.{padded}
-use Rattle.file.proofs.Padding.{padded-none, padded-more}
+use Rattle.calculus.proofs.Padding.{padded-none, padded-more, padded-all}
 use Rattle.charges.specs.Prices.{charges}
 use Rattle.charges.specs.Charged.{Small}
-use Rattle.charges.proofs.Pricing.{charges-length, charge-at, padded-all, small-set, small-none}
+use Rattle.charges.proofs.Pricing.{charges-length, charge-at, small-set, small-none}
 use Rattle.charges.proofs.each_charge.Statement.{statement}
 use Rattle.charges.proofs.each_charge.Tie as tie
 

@@ -10,7 +10,7 @@ use borrow.Author.Tests.{not-true, not-false}
 use Rattle.calculus.specs.File.{isSize, wordsOf, padded}
 use Rattle.file.specs.Opening.{headed}
 use Rattle.file.proofs.Bytes.{words-length}
-use Rattle.file.proofs.Padding.{padded-length}
+use Rattle.calculus.proofs.Padding.{padded-length}
 use Rattle.file.proofs.Tests.{size-fits}
 use Rattle.file.proofs.Opening.{front-is}
 use Rattle.file.proofs.open.Statement.{statement}

@@ -1,5 +1,5 @@
 -- Words with zeros after them. Assumes nothing.
-use mathlib.Core.Path.{_≡_, sym, ap}
+use mathlib.Core.Path.{_≡_, sym, ap, _∙_}
 use mathlib.Core.List.{List, [], append-assoc}
 use native.Mathlib.Nat.{sub-zero}
 use Prim.Native.Nat.{ℕ, suc, _+_, _-_, _≤_, _<_, min}
@@ -57,3 +57,9 @@ padded-cut n k ws e = cut (decLe (length ws) n)
 pub padded-length : (n : ℕ) (ws : List ℕ) → length (padded n ws) ≡ n
 unfolding padded
 padded-length n ws = simp (length-append, length-take, length-replicate) (omega arith)
+
+-- Words that fill all places have no zeros after them.
+pub padded-all : (n : ℕ) (ws : List ℕ) → length ws ≡ n → padded n (take n ws) ≡ ws
+padded-all n ws h =
+    ap (padded n) (take-all n ws (omega arith)) ∙ sym (take-all n (padded n ws) (omega (arith, padded-length n ws)))
+    ∙ padded-take n n ws (omega arith) (sym h)
