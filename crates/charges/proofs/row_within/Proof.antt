@@ -1,6 +1,7 @@
 -- `charges::row_within` meets its contract. Assumes nothing.
 use mathlib.Core.List.{[]}
 use mathlib.Core.Path.{_≡_, sym}
+use native.Mathlib.Omega.{arith}
 use lib.ListN.{length, getD}
 use borrow.Author.Needs.{needs}
 use Rattle.charges.proofs.Pricing.{over-first, over-second, by-third, row-length}
@@ -18,7 +19,7 @@ returns-2 : tie.Need-returns-2
 returns-2 c =
     let else1 = c .before .before in
     let s = else1 .before .before in
-    sym (over-second (getD (s .args .t1) (s .args .pump) []) (three s) (else1 .if1 .left) (c .if2 .taken))
+    sym (over-second (getD (s .args .t1) (s .args .pump) []) (three s) (else1 .if1 .left) (omega (arith, else1 .if1 .left, c .if2 .taken)))
 
 returns-3 : tie.Need-returns-3
 returns-3 c =
