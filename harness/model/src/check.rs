@@ -30,13 +30,23 @@ impl Refusal {
 pub fn read_recipe(bytes: &[u8], deepest: usize) -> Result<Recipe, Refusal> {
     let words = words_of(bytes)?;
     let regions = regions(&words)?;
-    let declared = read_type(regions.declared, 4, deepest)?;
-    let term = read_ml(regions.term, 4 + regions.declared.len(), deepest)?;
+    read_words(regions.declared, regions.term, deepest)
+}
+
+/// Reads the words of a declared type and of a term, with places in the file that has them: refusals 3 and 4.
+pub fn read_words(declared: &[u32], term: &[u32], deepest: usize) -> Result<Recipe, Refusal> {
+    let start = 4 + declared.len();
+    let declared = read_type(declared, 4, deepest)?;
+    let term = read_ml(term, start, deepest)?;
     Ok(Recipe { declared, term })
 }
 
 pub fn check(bytes: &[u8]) -> Result<Recipe, Refusal> {
-    let recipe = read_recipe(bytes, DEEPEST)?;
+    judged(read_recipe(bytes, DEEPEST)?)
+}
+
+/// A recipe that is read, unless it is refused by 5, 6 or 7.
+pub fn judged(recipe: Recipe) -> Result<Recipe, Refusal> {
     if let Some(before) = unbound(&recipe.term) {
         let first = 4 + crate::node::Node::Type(&recipe.declared).size();
         return Err(Refusal::new(5, first + before));

@@ -54,6 +54,11 @@ impl ClassCounts {
         self.0[class as usize]
     }
 
+    /// Each with the other's added to it.
+    pub fn added(&self, other: &ClassCounts) -> ClassCounts {
+        ClassCounts([0, 1, 2].map(|class| self.0[class] + other.0[class]))
+    }
+
     /// All three together.
     pub fn sum(&self) -> u32 {
         self.0.iter().sum()

@@ -1,10 +1,11 @@
-//! Demand 3 and the law of the counts as tests of terms and runs: what the proofs say of the definitions, tried on the
-//! definitions here.
+//! Demand 3, the law of the counts and the law of going on as tests of terms and runs: what the proofs say of the
+//! definitions, tried on the definitions here.
 
-use crate::check::Recipe;
+use crate::check::{check, Recipe, Refusal};
 use crate::class::{Class, ClassCounts};
 use crate::node::{ml_words, Node};
-use crate::run::{End, Ended, Run};
+use crate::run::{run, End, Ended, Run};
+use crate::save::save;
 use crate::scope::unbound;
 use crate::step::{step, turn, Step};
 use crate::tree::{Ml, Type};
@@ -85,10 +86,51 @@ fn class_at(word: u32) -> Class {
     }
 }
 
+/// What became of a run that was to be saved and to go on.
+#[derive(Debug, PartialEq, Eq)]
+pub enum WentOn {
+    /// The run was refused, or came to a value or an error.
+    NothingLeft,
+    /// The save was refused.
+    Unsaved(Refusal),
+    /// The ends of the first run and of the second.
+    Ended(End, End),
+}
+
+/// "Running, saving and running again in the same capacity ends, after an accepted save and reading, as one run under the
+/// summed limit does: end, code, words, and steps and U1's counts added up. The save of such a run is refused only by 4, 12
+/// or 13." The buffer lent to the save has `room` bytes; the second limit is at least 1.
+pub fn try_going_on(bytes: &[u8], limits: [u32; 2], lengths: [usize; 2], room: usize) -> Result<WentOn, String> {
+    let lent = |bytes: &[u8], limit: u32| run(bytes, limit, lengths[0], lengths[1]);
+    let first = lent(bytes, limits[0]);
+    let (Ok(recipe), Ok(made)) = (check(bytes), first.result) else { return Ok(WentOn::NothingLeft) };
+    if is_final(&made) {
+        return Ok(WentOn::NothingLeft);
+    }
+    let saved = save(&Node::Type(&recipe.declared).words(), left(&first), room);
+    let length = match saved.result {
+        Err(refusal) if matches!(refusal.number, 4 | 12 | 13) => return Ok(WentOn::Unsaved(refusal)),
+        Err(refusal) => return Err(format!("the save of a run is refused by {}", refusal.number)),
+        Ok(length) => length,
+    };
+    let (second, whole) = (lent(&saved.buffer[..length], limits[1]), lent(bytes, limits[0] + limits[1]));
+    let together = second.result.map(|more| added(&made, more));
+    match together == whole.result && (&second.first, &second.second) == (&whole.first, &whole.second) {
+        true => Ok(WentOn::Ended(made.end, second.result.map_or(End::Error, |more| more.end))),
+        false => Err(format!("{together:?} after a save, but {:?} in one run", whole.result)),
+    }
+}
+
+/// The second end, with the steps of both runs and where they went.
+fn added(first: &Ended, second: Ended) -> Ended {
+    Ended { steps: first.steps + second.steps, classes: first.classes.added(&second.classes), ..second }
+}
+
 fn is_final(ended: &Ended) -> bool {
     matches!(ended.end, End::Value | End::Error)
 }
 
+/// The words that a run leaves.
 fn left(run: &Run) -> &[u32] {
     match &run.result {
         Ok(ended) => &run.first[..ended.left as usize],

@@ -1,7 +1,8 @@
 //! Recipes on trees, written from documents 01 and 02 alone and apart from the engine.
 //!
-//! `check` answers a file with a recipe or a refusal; `run` reduces it to one of the four ends; `price` prices the value.
-//! Trees nest as deep as they have words: call all three within `on_large_stack`.
+//! `check` answers a file with a recipe or a refusal; `run` reduces it to one of the four ends; `price` prices the value;
+//! `save` makes what is left into a file again. Trees nest as deep as they have words: call all four within
+//! `on_large_stack`.
 
 #![forbid(unsafe_code)]
 
@@ -16,6 +17,7 @@ pub mod price;
 pub mod read;
 pub mod rules;
 pub mod run;
+pub mod save;
 pub mod scope;
 pub mod stack;
 pub mod step;
@@ -30,5 +32,6 @@ pub use check::{check, Recipe, Refusal};
 pub use class::{Class, ClassCounts};
 pub use price::{price, Charges, Priced, Prices};
 pub use run::{run, End, Ended, Run};
+pub use save::{save, Saved};
 pub use stack::on_large_stack;
 pub use tree::{Ml, Scheme, Test, Type};
