@@ -1,11 +1,13 @@
-/* The recipe engine, for the controller's engineer: check a recipe file, run it, and price the can that it fills.
+/* The recipe engine, for the controller's engineer: check a recipe file, run it, price the can that it fills, and save a run
+ * that has not come to its end, to go on with it later.
  *
- * The three functions take any bytes, any prices, any limit and any buffers, down to length 0, and always come back. They
- * keep nothing between calls, allocate nothing and call nothing of yours, so they may be used from several threads at
- * once.
+ * The four functions take any bytes, any words, any prices, any limit and any buffers, down to length 0, and always come
+ * back. They keep nothing between calls, allocate nothing and call nothing of yours, so they may be used from several
+ * threads at once.
  *
- * Pointers. A pointer must not be null, also where its length is 0: hand over the address of any object then. The file
- * and the prices are only read. The two buffers are written; they must overlap neither each other nor what is read.
+ * Pointers. A pointer must not be null, also where its length is 0: hand over the address of any object then. The file, the
+ * prices and the words to be saved are only read. The two buffers of a run and the one of a save are written; they must
+ * overlap neither each other nor what is read. What is only read may overlap.
  *
  * Stack. See RECIPE_STACK_BYTES.
  *
@@ -27,7 +29,7 @@ extern "C" {
  * Measured on x86-64 with the deepest terms: 1,280 KiB serve, 1,152 do not. `compare stack` in harness/ tries a figure. */
 #define RECIPE_STACK_BYTES (2u * 1024u * 1024u)
 
-/* A file has 24 to 16,384 bytes. Of a buffer, words past the 16,384th are never used, but they are set to 0. */
+/* A file has 24 to 16,384 bytes. Of a run's buffer, words past the 16,384th are never used, but they are set to 0. */
 #define RECIPE_FILE_BYTES 16384u
 #define RECIPE_BUFFER_WORDS 16384u
 
@@ -45,9 +47,15 @@ extern "C" {
  *   9  the declared type is not {N}, a list of numbers (recipe_price alone, as are the next two)
  *  10  the value has more than nine items
  *  11  a price is over 1,000,000 cents for 1,000 pulses
+ *  12  the file would have more than 16,384 bytes (recipe_save alone, as is the next)
+ *  13  the buffer is shorter than the file
  *
  * Where several fit, the first in this order is given: 11, before the file is read; 1; 2; 3 and 4, by whichever word comes
- * first; 5; 6; 7; 9; 8; and when the run has come to a value, 10. */
+ * first; 5; 6; 7; 9; 8; and when the run has come to a value, 10.
+ *
+ * recipe_save is handed words, not a file, and gives, in this order: 12, from the two lengths alone; 3 and 4, by whichever
+ * word comes first, the declared type's before the term's; 5; 6; 7; 13. Places are those in the file to be written: the
+ * declared type begins at place 4, the term behind it. An empty type is 3 at place 4, an empty term 3 one past the type. */
 enum {
     RECIPE_SIZE = 1,
     RECIPE_HEADER = 2,
@@ -59,7 +67,9 @@ enum {
     RECIPE_CAPACITY = 8,
     RECIPE_NOT_NUMBERS = 9,
     RECIPE_ITEMS = 10,
-    RECIPE_PRICES = 11
+    RECIPE_PRICES = 11,
+    RECIPE_FILE_TOO_LONG = 12,
+    RECIPE_BUFFER_TOO_SHORT = 13
 };
 
 /* Checks a file. 0: accepted; else the refusal's number + 256 * its place. */
@@ -128,6 +138,31 @@ typedef struct {
  * 10, which comes when the run has ended, all words of both are 0 and no steps are told. */
 RecipePriced recipe_price(const RecipePrices *prices, const uint8_t *file, size_t file_len, uint32_t limit,
                           uint32_t *first, size_t first_len, uint32_t *second, size_t second_len);
+
+/* What recipe_save tells. */
+typedef struct {
+    uint32_t refusal; /* 0: the file is written; else the refusal's number */
+    uint32_t place;   /* of the refusal, in the file to be written */
+    uint32_t bytes;   /* the length of the file; 0 after a refusal */
+} RecipeSaved;
+
+/* Saves the words of a declared type and of a term as a recipe file, which stands first in `out`; every byte behind it is 0.
+ * After a refusal all of `out` is 0. Whatever it held does not matter. A buffer of RECIPE_FILE_BYTES serves every file.
+ *
+ * To go on later with a run that ended as spent or full, hand over what it left and the type that its file declares, and run
+ * the saved file instead of the old one. The term is the first `left` words of the run's first buffer. The type is in the
+ * file, which the run has accepted: bytes 0 to 3 are its count of words, bytes 16 and up the words, 4 bytes each, the lowest
+ * first.
+ *
+ * In the same capacity the second run ends as one run under both limits together would have, if the second limit is at
+ * least 1 and the sum at most 4,294,967,295: the same end, code, words left and wanted; steps, calls, conversions and others
+ * are to be added up. After full it is full again, unless it is lent more words: at least as many as the first wanted. The
+ * save of such a run is refused by 4, 12 or 13 alone. 4 and 12 are no fault of the recipe: the term nests deeper or is
+ * larger, at this step, than a file may; some steps further it may be smaller again.
+ *
+ * Any other words may be handed over too: a file that is written is one that recipe_check accepts. */
+RecipeSaved recipe_save(const uint32_t *type, size_t type_len, const uint32_t *term, size_t term_len,
+                        uint8_t *out, size_t out_len);
 
 #ifdef __cplusplus
 }
