@@ -35,6 +35,15 @@ pub struct RecipePriced {
     pub charge: [u64; 9],
 }
 
+/// A save's answer as the engine gives it: refusal 0 if the file is written, and its length.
+#[repr(C)]
+#[derive(Clone, Copy, Debug, Default, PartialEq, Eq)]
+pub struct RecipeSaved {
+    pub refusal: u32,
+    pub place: u32,
+    pub bytes: u32,
+}
+
 /// The check of a file: 0 for accepted, else number + 256 x place.
 pub type Check = fn(&[u8]) -> u64;
 
@@ -43,6 +52,9 @@ pub type Run = fn(&[u8], u32, &mut [u32], &mut [u32]) -> RecipeRun;
 
 /// The pricing of a file by a price table, under a limit with two lent buffers.
 pub type Price = fn(&RecipePrices, &[u8], u32, &mut [u32], &mut [u32]) -> RecipePriced;
+
+/// The save of a declared type's words and a term's in a lent buffer.
+pub type Save = fn(&[u32], &[u32], &mut [u8]) -> RecipeSaved;
 
 #[cfg(feature = "check")]
 mod linked {
@@ -72,6 +84,15 @@ mod linked {
                 second: *mut u32,
                 second_len: usize,
             ) -> super::super::RecipePriced;
+            #[cfg(feature = "run")]
+            pub fn recipe_save(
+                declared: *const u32,
+                declared_len: usize,
+                term: *const u32,
+                term_len: usize,
+                out: *mut u8,
+                out_len: usize,
+            ) -> super::super::RecipeSaved;
         }
     }
 
@@ -101,6 +122,14 @@ mod linked {
         // Safe: the prices are a reference; pointers and lengths are those of slices, the two that are written being apart.
         unsafe { c::recipe_price(prices, file.as_ptr(), file.len(), limit, first, first_len, second, second_len) }
     }
+
+    #[cfg(feature = "run")]
+    pub fn save(declared: &[u32], term: &[u32], out: &mut [u8]) -> super::RecipeSaved {
+        let (declared, declared_len) = (declared.as_ptr(), declared.len());
+        let (out, out_len) = (out.as_mut_ptr(), out.len());
+        // Safe: pointers and lengths are those of slices, the one that is written being apart from both that are read.
+        unsafe { c::recipe_save(declared, declared_len, term.as_ptr(), term.len(), out, out_len) }
+    }
 }
 
 /// The engine's check, if it is linked.
@@ -123,6 +152,14 @@ pub fn linked_run() -> Option<Run> {
 pub fn linked_price() -> Option<Price> {
     #[cfg(feature = "run")]
     return Some(linked::price);
+    #[cfg(not(feature = "run"))]
+    None
+}
+
+/// The engine's save, if it is linked.
+pub fn linked_save() -> Option<Save> {
+    #[cfg(feature = "run")]
+    return Some(linked::save);
     #[cfg(not(feature = "run"))]
     None
 }

@@ -1,6 +1,6 @@
-//! The model in the engine's place: its check, its run and its pricing with the engine's own signatures.
+//! The model in the engine's place: its check, its run, its pricing and its save with the engine's own signatures.
 
-use crate::engine::{RecipePriced, RecipePrices, RecipeRun};
+use crate::engine::{RecipePriced, RecipePrices, RecipeRun, RecipeSaved};
 use model::check::answer;
 use model::{Charges, Class, Ended, Priced, Refusal};
 
@@ -43,4 +43,19 @@ pub fn told_priced(priced: &Priced) -> RecipePriced {
         None => (0, [0; 9]),
     };
     RecipePriced { run: told(&priced.run.result), total, charge }
+}
+
+/// The model's save in a lent buffer.
+pub fn save(declared: &[u32], term: &[u32], out: &mut [u8]) -> RecipeSaved {
+    let saved = model::save(declared, term, out.len());
+    out.copy_from_slice(&saved.buffer);
+    told_saved(&saved.result)
+}
+
+/// A save as the engine tells it.
+pub fn told_saved(result: &Result<usize, Refusal>) -> RecipeSaved {
+    match *result {
+        Ok(length) => RecipeSaved { refusal: 0, place: 0, bytes: length as u32 },
+        Err(Refusal { number, place }) => RecipeSaved { refusal: number, place, bytes: 0 },
+    }
 }
