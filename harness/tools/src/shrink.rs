@@ -1,4 +1,4 @@
-//! A file made smaller as long as a property holds, so that what is shown of a difference is small.
+//! A file, or words, made smaller as long as a property holds, so that what is shown of a difference is small.
 
 use model::file::{bytes_of, file, regions, words_of};
 use model::kinds::{row_of, Sort};
@@ -26,20 +26,38 @@ impl Budget {
 
 /// A smaller file for which the property still holds. It holds for the file given.
 pub fn shrink(start: Vec<u8>, holds: &mut dyn FnMut(&[u8]) -> bool) -> Vec<u8> {
+    smallest(start, &Ways { candidates, measure }, holds)
+}
+
+/// The same of the words of one node, or of any words.
+pub fn shrink_words(start: Vec<u32>, holds: &mut dyn FnMut(&[u32]) -> bool) -> Vec<u32> {
+    let measure = |words: &[u32]| (words.len(), words.iter().map(|&word| u64::from(word)).sum());
+    smallest(start, &Ways { candidates: word_candidates, measure }, holds)
+}
+
+/// How something is made smaller: it calls with one candidate after another until the answer is that it is enough, and
+/// measures them.
+struct Ways<T> {
+    candidates: fn(&[T], &mut dyn FnMut(Vec<T>) -> bool) -> bool,
+    measure: fn(&[T]) -> (usize, u64),
+}
+
+/// The smallest that is found within the budget.
+fn smallest<T>(start: Vec<T>, ways: &Ways<T>, holds: &mut dyn FnMut(&[T]) -> bool) -> Vec<T> {
     let mut best = start;
     let mut budget = Budget { attempts: 0, started: Instant::now() };
-    while let Some(smaller) = improve(&best, holds, &mut budget) {
+    while let Some(smaller) = improve(&best, ways, holds, &mut budget) {
         best = smaller;
     }
     best
 }
 
 /// The first candidate that is smaller and has the property.
-fn improve(best: &[u8], holds: &mut dyn FnMut(&[u8]) -> bool, budget: &mut Budget) -> Option<Vec<u8>> {
+fn improve<T>(best: &[T], ways: &Ways<T>, holds: &mut dyn FnMut(&[T]) -> bool, budget: &mut Budget) -> Option<Vec<T>> {
     let mut found = None;
-    candidates(best, &mut |candidate| {
+    (ways.candidates)(best, &mut |candidate| {
         budget.attempts += 1;
-        if !budget.is_spent() && measure(&candidate) < measure(best) && holds(&candidate) {
+        if !budget.is_spent() && (ways.measure)(&candidate) < (ways.measure)(best) && holds(&candidate) {
             found = Some(candidate);
         }
         found.is_some() || budget.is_spent()
@@ -62,6 +80,22 @@ fn candidates(bytes: &[u8], enough: &mut dyn FnMut(Vec<u8>) -> bool) -> bool {
         },
         Err(_) => (0..bytes.len()).any(|length| enough(bytes[..length].to_vec())),
     }
+}
+
+/// Words past which only large parts are cut out, or all words become the same.
+const LONG: usize = 300;
+
+/// The words of one node, or any words.
+fn word_candidates(words: &[u32], enough: &mut dyn FnMut(Vec<u32>) -> bool) -> bool {
+    let length = words.len();
+    [0, 1, 17].into_iter().any(|word| enough(vec![word; length]))
+        || match length > LONG {
+            true => {
+                let large = |cut: &(usize, usize)| cut.1 - cut.0 > length / 64;
+                cuts(length).into_iter().filter(large).any(|(from, to)| enough(without(words, from, to)))
+            }
+            false => changed(words, enough),
+        }
 }
 
 /// Any words: one fewer, or one of them smaller.

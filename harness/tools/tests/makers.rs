@@ -1,13 +1,16 @@
 //! The makers make what they promise, and reach every rule, end and refusal.
 
-use model::laws::{try_counts, try_reduction};
+use model::laws::{try_counts, try_going_on, try_reduction, WentOn};
+use model::node::{ml_words, Node};
 use model::price::items;
 use model::rules::{Rule, RuleCounts};
 use model::run::reduce;
-use model::{check, on_large_stack, run, End};
+use model::step::{step, Step};
+use model::{check, on_large_stack, run, save, End};
 use std::collections::BTreeSet;
 use tools::make::cans::can_file;
 use tools::make::prices::{any_prices, differing};
+use tools::make::saves::{any_room, any_words, outgrowing};
 use tools::make::*;
 use tools::random::Random;
 
@@ -48,6 +51,53 @@ fn prices_that_differ_and_prices_that_are_refused() {
     let over = tables.iter().filter(|cents| cents.iter().flatten().any(|&price| price > 1_000_000)).count();
     assert!((FILES as usize / 20..FILES as usize / 8).contains(&over), "{over}");
     assert!(tables.iter().filter(|cents| differ(**cents)).count() > FILES as usize / 3);
+}
+
+#[test]
+fn words_to_save_meet_every_refusal_and_are_empty_now_and_then() {
+    on_large_stack(|| {
+        let (mut met, mut empty) = ([0; 14], [0; 2]);
+        for index in 0..10 * FILES {
+            let mut random = Random::new(1, index);
+            let (declared, term) = any_words(&mut random);
+            let room = any_room(&mut random, 16 + 4 * (declared.len() + term.len()));
+            let number = save(&declared, &term, room).result.map_or_else(|refusal| refusal.number, |_| 0);
+            met[number as usize] += 1;
+            empty[0] += u32::from(declared.is_empty());
+            empty[1] += u32::from(term.is_empty());
+        }
+        for number in [0, 3, 4, 5, 6, 7, 12, 13] {
+            assert!(met[number] > 5, "{number}: {met:?}");
+        }
+        assert!(empty.iter().all(|&count| count > 100), "{empty:?}");
+    });
+}
+
+/// Of a recipe that is accepted, the refusals that a save after each of its first steps meets.
+fn unsaved(file: &[u8], steps: usize) -> BTreeSet<u32> {
+    let recipe = check(file).expect("accepted");
+    let declared = Node::Type(&recipe.declared).words();
+    let (mut term, mut met) = (recipe.term, BTreeSet::new());
+    for _ in 0..steps {
+        met.extend(save(&declared, &ml_words(&term), 16_384).result.err().map(|refusal| refusal.number));
+        match step(&term) {
+            Step::Next(_, next) if Node::Ml(&next).size() <= 16_384 => term = next,
+            _ => break,
+        }
+    }
+    met
+}
+
+#[test]
+fn runs_outgrow_a_file_and_some_come_back() {
+    on_large_stack(|| {
+        let ends = |file: &[u8]| run(file, 2_000, 16_384, 16_384).result.is_ok_and(|ended| ended.end == End::Value);
+        let (back, endless): (Vec<_>, Vec<_>) = outgrowing().into_iter().partition(|file| ends(file));
+        let met = |files: &[Vec<u8>]| files.iter().map(|file| unsaved(file, 400)).collect::<BTreeSet<_>>();
+        // Some always fit a file.
+        assert_eq!(met(&back), [vec![], vec![4], vec![12]].map(BTreeSet::from_iter).into());
+        assert!(met(&endless).iter().flatten().any(|&number| number == 4));
+    });
 }
 
 #[test]
@@ -98,6 +148,23 @@ fn counts_add_up_and_are_counts_over_the_reduction() {
             }
         }
         assert!(steps > 10_000, "{steps}");
+    });
+}
+
+#[test]
+fn saved_runs_go_on_as_one_run() {
+    on_large_stack(|| {
+        let mut pairs = 0;
+        for index in 0..FILES {
+            let mut random = Random::new(5, index);
+            let file = well_typed_file(&mut random);
+            let limits = [random.below(20) as u32, 1 + random.below(60) as u32];
+            let lengths = [40 + random.below(400), 40 + random.below(400)];
+            let went = try_going_on(&file, limits, lengths, 16_384);
+            let went = went.unwrap_or_else(|law| panic!("file {index}: {law}"));
+            pairs += u32::from(matches!(went, WentOn::Ended(..)));
+        }
+        assert!(pairs > 500, "{pairs}");
     });
 }
 

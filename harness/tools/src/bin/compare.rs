@@ -1,4 +1,5 @@
-//! Compares the engine with the model: `compare check`, `compare run`, `compare price`, `compare list`, `compare stack`.
+//! Compares the engine with the model: `compare check`, `compare run`, `compare price`, `compare save`, `compare list`,
+//! `compare stack`.
 #![forbid(unsafe_code)]
 
 use model::on_large_stack;
@@ -6,18 +7,19 @@ use std::path::Path;
 use std::process::ExitCode;
 use tools::args::Args;
 use tools::compare::{
-    compare_check, compare_list, compare_price, compare_priced_stack, compare_run, compare_stack, missing, table,
-    Counts, Plan,
+    compare_check, compare_list, compare_price, compare_priced_stack, compare_run, compare_save, compare_saved_stack,
+    compare_stack, missing, table, Counts, Plan, SavingEngine,
 };
-use tools::engine::{linked_check, linked_price, linked_run};
+use tools::engine::{linked_check, linked_price, linked_run, linked_save};
 use tools::output::say;
 
 const HELP: &str = "\
-Compares the engine with a checker, a reducer and a pricing built apart from it.
+Compares the engine with a checker, a reducer, a pricing and a save built apart from it.
 
 usage: compare check [--files N] [--seed S] [--start I] [--all-reached]
        compare run   [--files N] [--seed S] [--start I] [--all-reached]
        compare price [--files N] [--seed S] [--start I] [--all-reached]
+       compare save  [--files N] [--seed S] [--start I] [--all-reached]
        compare list  [--files N] [--seed S] [--start I] [--all-reached]
        compare stack [--kib K]
 
@@ -27,13 +29,17 @@ run          every small recipe, edges of files and of what is lent, and N rando
 price        edges of prices, pulses, items and of what is lent, every choice of faults, every small recipe, edges of
              files, and N random files (100000) under random price tables: result, charges, total and every word of both
              buffers
+save         words at the edges, every choice of faults, every term of up to 3 words, and N times (20000) random words in a
+             random buffer: answer and every byte of the buffer; runs that are saved and go on, of every small recipe, of
+             recipes that outgrow a file, and N times of a random recipe: as one run, result and every word of both buffers
 list         files at the edges, two long recipes, and those of N random files (3000) that end soon: every byte that the
              listing program, target/bin/listing, prints of each
-stack        the deepest runs of 16,384 words, and the deepest files, run and priced on a stack of K KiB (2048)
+stack        the deepest runs of 16,384 words, and the deepest files, run, priced and saved on a stack of K KiB (2048)
 --seed S     random files depend on the seed (1) and their index alone
 --start I    begin with random file I; the files that are the same every time are left out unless I is 0
 --all-reached  fail if a rule, an end, a class of steps before an end (call, conversion, other) or a refusal was never
-             reached; of pricings, also an order of two refusals, a number of items, a pump or a band
+             reached; of pricings, also an order of two refusals, a number of items, a pump or a band; of saves, also an
+             order, a place, a length of the buffer, two ends of a run and the one that goes on, or 20,000 of these
 
 Status 0: no difference; 1: a difference, shrunk and shown; 2: not understood, or built without the engine.
 ";
@@ -51,9 +57,10 @@ fn main() -> ExitCode {
         Some("check") => check(args),
         Some("run") => run(args),
         Some("price") => price(args),
+        Some("save") => save(args),
         Some("list") => list(args),
         Some("stack") => stack(args),
-        _ => Err(Fault::Usage("check, run, price, list or stack is due; see --help".into())),
+        _ => Err(Fault::Usage("check, run, price, save, list or stack is due; see --help".into())),
     };
     match outcome {
         Ok(()) => ExitCode::SUCCESS,
@@ -98,6 +105,16 @@ fn price(args: Args) -> Result<(), Fault> {
     finish(counts.rows(), all_reached)
 }
 
+fn save(args: Args) -> Result<(), Fault> {
+    let (plan, all_reached) = plan(args, 20_000)?;
+    let linked = linked_check().zip(linked_run()).zip(linked_save());
+    let ((check, run), save) = linked.ok_or(without("run"))?;
+    let engine = SavingEngine { check, run, save };
+    let counts = on_large_stack(|| compare_save(engine, plan)).map_err(difference)?;
+    say(format!("{} saves, {} runs saved and gone on with, no difference", counts.saves, counts.pairs));
+    finish(counts.rows(), all_reached)
+}
+
 fn list(args: Args) -> Result<(), Fault> {
     let (plan, all_reached) = plan(args, 3_000)?;
     let program = Path::new(LISTING);
@@ -112,11 +129,12 @@ fn list(args: Args) -> Result<(), Fault> {
 fn stack(mut args: Args) -> Result<(), Fault> {
     let kib = args.number("--kib", 2_048).map_err(Fault::Usage)?;
     args.finish().map_err(Fault::Usage)?;
-    let (run, price) = linked_run().zip(linked_price()).ok_or(without("run"))?;
+    let linked = linked_run().zip(linked_price()).zip(linked_save());
+    let ((run, price), save) = linked.ok_or(without("run"))?;
     let bytes = kib as usize * 1024;
-    let ran = compare_stack(run, bytes).map_err(difference)?;
-    for line in ran.into_iter().chain(compare_priced_stack(price, bytes).map_err(difference)?) {
-        say(line);
+    let told = [compare_stack(run, bytes), compare_priced_stack(price, bytes), compare_saved_stack(save, bytes)];
+    for lines in told {
+        lines.map_err(difference)?.into_iter().for_each(say);
     }
     say(format!("a stack of {kib} KiB serves"));
     Ok(())

@@ -85,6 +85,18 @@ fn class_row(end: End, class: Class) -> String {
     }
 }
 
+/// Of an order of refusals, for each the least count over those that come after it; `before` counts those that were given
+/// while another fits, by both numbers. 3 and 4 are given by whichever word comes first.
+pub fn order_rows<const N: usize>(order: &[u32], before: &[[u64; N]; N]) -> Vec<(String, u64)> {
+    let row = |given: u32, others: &[u32]| {
+        let least = others.iter().map(|&other| before[given as usize][other as usize]).min().unwrap_or(0);
+        let named = others.iter().map(u32::to_string).collect::<Vec<_>>().join(", ");
+        let each = if others.len() > 1 { "each of " } else { "" };
+        (format!("refusal {given} before {each}{named}, where both fit"), least)
+    };
+    (1..order.len()).map(|at| row(order[at - 1], &order[at..])).chain([row(4, &[3])]).collect()
+}
+
 pub fn table(rows: &[(String, u64)]) -> String {
     let mut text = String::new();
     for (name, count) in rows {

@@ -1,7 +1,7 @@
 //! The recipes that take the most stack, with what is known of their runs beforehand.
 
-use crate::engine::RecipeRun;
-use model::file::file;
+use crate::engine::{RecipeRun, RecipeSaved};
+use model::file::{file, regions, words_of, Regions};
 use model::run::MOST_WORDS;
 
 /// A recipe, its run's answer, and the words left.
@@ -23,6 +23,36 @@ pub fn deepest_cans() -> Vec<Known> {
     let grown = GROWING.iter().filter(|growing| growing.declared == NUMBERS).map(Growing::known);
     grown.chain(WRAPS.iter().map(|wrap| wrap.known(&NUMBERS))).collect()
 }
+
+/// Words to save that go as deep as a file does, and deeper, with the answer that is due.
+pub struct KnownSave {
+    pub name: &'static str,
+    pub declared: Vec<u32>,
+    pub term: Vec<u32>,
+    pub answer: RecipeSaved,
+}
+
+/// The files nested 256 deep, which are written as they are; and terms of as many words as a file may have, each nested in the
+/// one before, which the save leaves at the first word that is too deep.
+pub fn deepest_saves() -> Vec<KnownSave> {
+    let written = [nested_choices(), nested_types()].map(|Known { name, file, .. }| {
+        let words = words_of(&file).expect("a file");
+        let Regions { declared, term } = regions(&words).expect("a header in order");
+        let answer = RecipeSaved { bytes: file.len() as u32, ..RecipeSaved::default() };
+        KnownSave { name, declared: declared.to_vec(), term: term.to_vec(), answer }
+    });
+    // The node at level 256 begins behind 255 of so many words each; its first part is too deep.
+    let too_deep = |name, level: &[u32]| {
+        let term = level.iter().copied().cycle().take(MOST_SAVED - 1).collect();
+        let answer = RecipeSaved { refusal: 4, place: 5 + 255 * level.len() as u32 + 1, bytes: 0 };
+        KnownSave { name, declared: vec![1], term, answer }
+    };
+    let fixes = too_deep("fix nested 4,091 deep", &[20]);
+    written.into_iter().chain([fixes, too_deep("if0 nested in the third part", &[23, 17, 17])]).collect()
+}
+
+/// Words of type and term that a file holds.
+const MOST_SAVED: usize = 4_092;
 
 /// The words of {N}.
 const NUMBERS: [u32; 2] = [3, 1];

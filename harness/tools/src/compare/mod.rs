@@ -1,4 +1,5 @@
-//! The comparison of the engine with the model: the check, the run, the pricing, the listing, and what is printed of them.
+//! The comparison of the engine with the model: the check, the run, the pricing, the save, the listing, and what is printed of
+//! them.
 
 mod case;
 mod check;
@@ -10,6 +11,7 @@ mod plan;
 pub mod price;
 mod report;
 mod run;
+pub mod save;
 mod seen;
 mod stack;
 
@@ -22,7 +24,8 @@ pub use list::{compare_list, listed};
 pub use price::{compare_price, PriceCounts};
 pub use report::show_file;
 pub use run::compare_run;
-pub use stack::{compare_priced_stack, compare_stack};
+pub use save::{compare_save, SaveCounts, SavingEngine};
+pub use stack::{compare_priced_stack, compare_saved_stack, compare_stack};
 
 /// How many random files, which ones, and whether everything must have been reached.
 #[derive(Clone, Copy)]

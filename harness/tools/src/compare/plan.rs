@@ -43,7 +43,20 @@ impl Followed {
         random.weighted(&[(8, 0), (8, 1), (40, any), (44, large)])
     }
 
-    fn capacity(&self, random: &mut Random) -> usize {
+    /// How many steps a run in a capacity makes, as far as the reduction was followed, and whether it ends there.
+    pub fn steps_in(&self, capacity: usize) -> (u32, bool) {
+        match self.sizes.iter().skip(1).position(|&size| size > capacity) {
+            Some(steps) => (steps as u32, true),
+            None => (self.sizes.len() as u32 - 1, self.ends),
+        }
+    }
+
+    /// A capacity that serves the first term, but not the largest where that is another.
+    pub fn too_small(&self, random: &mut Random) -> usize {
+        self.sizes[0] + random.below((self.largest() - self.sizes[0]).max(1))
+    }
+
+    pub fn capacity(&self, random: &mut Random) -> usize {
         let (largest, first) = (self.largest(), self.sizes[0]);
         // One less than the largest term, where that is not the first: the run then ends as full.
         let full = if largest > first { largest - 1 } else { largest };
@@ -73,7 +86,7 @@ pub fn plans(random: &mut Random, file: Vec<u8>) -> (Case, Case) {
 }
 
 /// Two lengths of which the shorter is the capacity.
-fn lengths(random: &mut Random, capacity: usize) -> (usize, usize) {
+pub fn lengths(random: &mut Random, capacity: usize) -> (usize, usize) {
     let longer = capacity + 1 + random.below(20);
     random.weighted(&[(2, (capacity, capacity)), (1, (longer, capacity)), (1, (capacity, longer))])
 }

@@ -1,6 +1,6 @@
 //! A file shown readably: its words, and its term as an s-expression where the words are in order.
 
-use model::check::read_recipe;
+use model::check::{read_recipe, read_words};
 use model::file::words_of;
 use model::node::Node;
 use model::text::{describe, flat, pretty};
@@ -26,6 +26,16 @@ pub fn show_file(bytes: &[u8]) -> String {
             let what = word.map_or(String::new(), |word| format!(" ({word}: {})", describe(*word)));
             let _ = writeln!(text, "not in order: {} at place {}{what}", refusal.number, refusal.place);
         }
+    }
+    text
+}
+
+/// Words of a type and of a term, and what they say where they are in order.
+pub fn show_words(declared: &[u32], term: &[u32]) -> String {
+    let mut text = format!("type:     {}\nterm:     {}\n", list(declared), list(term));
+    if let Ok(recipe) = read_words(declared, term, usize::MAX) {
+        let _ = writeln!(text, "declared: {}", flat(Node::Type(&recipe.declared)));
+        let _ = writeln!(text, "says:     {}", pretty(Node::Ml(&recipe.term), None).replace('\n', "\n          "));
     }
     text
 }

@@ -50,7 +50,8 @@ impl fmt::Display for RecipePriced {
 /// Calls an operation with buffers full of rubbish, as long as the case says.
 pub fn lend<A>(case: &Case, operation: impl FnOnce(&mut [u32], &mut [u32]) -> A) -> Seen<A> {
     let mut random = Random::new(case.limit.into(), case.file.len() as u64);
-    let (mut first, mut second) = (Lent::new(&mut random, case.first), Lent::new(&mut random, case.second));
+    let mut words = |length| Lent::new(length, || random.word() | 1);
+    let (mut first, mut second) = (words(case.first), words(case.second));
     let answer = operation(first.part(), second.part());
     let within = first.is_within() && second.is_within();
     Seen { answer, first: first.part().to_vec(), second: second.part().to_vec(), within }
@@ -61,28 +62,28 @@ pub fn show_both<A: fmt::Display>(model: &Seen<A>, engine: &Seen<A>) -> String {
     format!("model:\n{model}engine:\n{engine}")
 }
 
-/// Words on either side of a lent buffer that must stay as they are.
+/// Words or bytes on either side of a lent buffer that must stay as they are.
 const AROUND: usize = 4;
 
 /// A buffer full of rubbish inside a longer one.
-struct Lent {
-    words: Vec<u32>,
-    before: Vec<u32>,
+pub struct Lent<T> {
+    items: Vec<T>,
+    before: Vec<T>,
 }
 
-impl Lent {
-    fn new(random: &mut Random, length: usize) -> Lent {
-        let words: Vec<u32> = (0..length + 2 * AROUND).map(|_| random.word() | 1).collect();
-        Lent { before: words.clone(), words }
+impl<T: Clone + PartialEq> Lent<T> {
+    pub fn new(length: usize, mut rubbish: impl FnMut() -> T) -> Lent<T> {
+        let items: Vec<T> = (0..length + 2 * AROUND).map(|_| rubbish()).collect();
+        Lent { before: items.clone(), items }
     }
 
-    fn part(&mut self) -> &mut [u32] {
-        let end = self.words.len() - AROUND;
-        &mut self.words[AROUND..end]
+    pub fn part(&mut self) -> &mut [T] {
+        let end = self.items.len() - AROUND;
+        &mut self.items[AROUND..end]
     }
 
-    fn is_within(&self) -> bool {
-        let end = self.words.len() - AROUND;
-        self.words[..AROUND] == self.before[..AROUND] && self.words[end..] == self.before[end..]
+    pub fn is_within(&self) -> bool {
+        let end = self.items.len() - AROUND;
+        self.items[..AROUND] == self.before[..AROUND] && self.items[end..] == self.before[end..]
     }
 }

@@ -1,7 +1,8 @@
-//! The engine on a small stack: the deepest terms that 16,384 words allow, and the deepest files, run and priced.
+//! The engine on a small stack: the deepest terms that 16,384 words allow, and the deepest files, run, priced and saved.
 
-use super::deepest::{deepest, deepest_cans, Known};
-use crate::engine::{Price, RecipePriced, RecipePrices, Run};
+use super::deepest::{deepest, deepest_cans, deepest_saves, Known, KnownSave};
+use crate::engine::{Price, RecipePriced, RecipePrices, Run, Save};
+use model::file::{file, MOST_BYTES};
 use model::run::MOST_WORDS;
 use model::stack::on_stack;
 use std::fmt::Debug;
@@ -24,6 +25,26 @@ pub fn compare_priced_stack(engine: Price, bytes: usize) -> Result<Vec<String>, 
         compare(known, answer, bytes, operation).map(|told| format!("priced: {told}"))
     };
     deepest_cans().iter().map(price).collect()
+}
+
+/// The same with a save of words that nest as deep as a file does, or deeper.
+pub fn compare_saved_stack(engine: Save, bytes: usize) -> Result<Vec<String>, String> {
+    deepest_saves().iter().map(|known| compare_save(engine, known, bytes)).collect()
+}
+
+/// Saves one, and says what it came to.
+fn compare_save(engine: Save, known: &KnownSave, bytes: usize) -> Result<String, String> {
+    let KnownSave { name, declared, term, answer } = known;
+    let (seen, buffer) = on_stack(bytes, || {
+        let mut buffer = vec![7; MOST_BYTES];
+        (engine(declared, term, &mut buffer), buffer)
+    });
+    let mut due = if answer.refusal == 0 { file(declared, term) } else { Vec::new() };
+    due.resize(MOST_BYTES, 0);
+    if seen != *answer || buffer != due {
+        return Err(format!("saved: {name}: {answer:?} is due, not {seen:?}, or the bytes left are others"));
+    }
+    Ok(format!("saved: {name}: {answer}"))
 }
 
 /// Does one, and says what it came to.

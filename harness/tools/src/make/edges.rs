@@ -9,7 +9,7 @@ fn chain(words: &[u32], count: usize, rest: &[u32]) -> Vec<u32> {
 }
 
 /// A tree of so many leaves that nests little.
-fn balanced(join: u32, leaf: u32, leaves: usize) -> Vec<u32> {
+pub fn balanced(join: u32, leaf: u32, leaves: usize) -> Vec<u32> {
     if leaves == 1 {
         return vec![leaf];
     }

@@ -1,4 +1,5 @@
-//! What to compare on: random well-typed recipes, cans, damaged files, edges, every small term, and price tables.
+//! What to compare on: random well-typed recipes, cans, damaged files, edges, every small term, price tables, and words to
+//! save.
 
 pub mod cans;
 mod damage;
@@ -8,6 +9,7 @@ mod forms;
 mod ml;
 mod plan;
 pub mod prices;
+pub mod saves;
 mod scheme;
 mod text;
 mod types;

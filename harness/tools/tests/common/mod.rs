@@ -2,6 +2,7 @@
 #![allow(dead_code)]
 
 pub mod pricing;
+pub mod saving;
 
 use std::io::Write;
 use tools::recipe::{program, Desk, Engine};

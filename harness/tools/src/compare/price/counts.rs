@@ -2,7 +2,7 @@
 
 use super::faults::ORDER;
 use super::PriceCase;
-use crate::compare::Counts;
+use crate::compare::counts::{order_rows, Counts};
 use model::price::{band, BANDS, MOST_PRICE, PUMPS};
 use model::rules::Rule;
 use model::{check, Charges, End, Ml, Priced, Refusal};
@@ -93,7 +93,11 @@ impl PriceCounts {
         let after = ("refusal 10 after steps".to_string(), self.refused_after_steps);
         let pulses = PULSES.iter().zip(self.pulses).map(|(pulses, count)| (format!("{pulses} pulses"), count));
         let rows = self.runs.of_pricings().into_iter().chain(long).chain([after]).chain(items);
-        rows.chain(self.by_pump()).chain(pulses).chain(self.charge_rows()).chain(self.order_rows()).collect()
+        rows.chain(self.by_pump())
+            .chain(pulses)
+            .chain(self.charge_rows())
+            .chain(order_rows(&ORDER, &self.before))
+            .collect()
     }
 
     /// Of the three bands of a pump the least count, so that none is left out.
@@ -110,17 +114,6 @@ impl PriceCounts {
         let names = ["rounded up", "not rounded", "at price 0", "at price 1,000,000", "over 32 bits"];
         let charges = names.iter().zip(self.charges).map(|(name, count)| (format!("charge {name}"), count));
         charges.chain([("total over 32 bits".to_string(), self.large_totals)]).collect()
-    }
-
-    /// For each refusal the least count over those that come after it in the order.
-    fn order_rows(&self) -> Vec<(String, u64)> {
-        let before = |given: u32, others: &[u32]| {
-            let least = others.iter().map(|&other| self.before[given as usize][other as usize]).min().unwrap_or(0);
-            let named = others.iter().map(u32::to_string).collect::<Vec<_>>().join(", ");
-            let each = if others.len() > 1 { "each of " } else { "" };
-            (format!("refusal {given} before {each}{named}, where both fit"), least)
-        };
-        (1..ORDER.len()).map(|at| before(ORDER[at - 1], &ORDER[at..])).chain([before(4, &[3])]).collect()
     }
 }
 
