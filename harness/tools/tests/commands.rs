@@ -1,4 +1,5 @@
-//! The commands of `recipe`, each with what document 01 says of its input; `recipe price` has tests of its own.
+//! The commands of `recipe`, each with what document 01 says of its input; `recipe price` and `--save` have tests of their
+//! own.
 
 mod common;
 use common::{printed, typed, typed_into};

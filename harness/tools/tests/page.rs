@@ -128,14 +128,21 @@ fn every_command_refusal_end_and_class_is_on_the_page() {
     let page = page();
     let examples = examples(&page);
     let shown = |start: &str| examples.iter().any(|example| example.printed.starts_with(start));
-    for number in 1..=11 {
-        assert!(shown(&format!("refused {number}: ")), "refusal {number}");
+    for number in 1..=13 {
+        assert!(page.contains(&format!("\n### {number}: ")), "refusal {number}");
+        // The program lends a buffer that serves every file.
+        assert!(number == 13 || shown(&format!("refused {number}: ")), "refusal {number}");
     }
     for start in ["value after", "spent after", "full after", "error 300 after"] {
         assert!(shown(start), "{start}");
     }
-    for last in ["\ntotal                                      1370\n", "\nno charge: the run did not end in a value\n"]
-    {
+    let lasts = [
+        "\ntotal                                      1370\n",
+        "\nno charge: the run did not end in a value\n",
+        "\nsaved in lunch.bin, 60 bytes; to go on: recipe run lunch.bin\n",
+        "\nnothing is saved: the run has come to its value\n",
+    ];
+    for last in lasts {
         assert!(examples.iter().any(|example| example.printed.ends_with(last)), "{last}");
     }
     for class in ["call", "conversion", "other"] {

@@ -156,3 +156,18 @@ fn price() {
     assert_eq!(seen(&["price", "--prices", prices], can), (0, lines.join("\n") + "\n", "".into()));
     assert_eq!(seen(&["price", "--prices", prices], b"N 5").0, 1);
 }
+
+#[cfg(feature = "run")]
+#[test]
+fn save_and_go_on() {
+    let out = std::env::temp_dir().join(format!("saved-by-the-program-{}", std::process::id()));
+    let name = out.display().to_string();
+    let wrapped = b"N (app (ms (N to N) (fn v0)) 7)";
+    let spent = "spent after 4 steps, 3 words\n2 calls, 2 conversions, 0 others\n(ms N 7)\n";
+    let said = format!("saved in {name}, 32 bytes; to go on: recipe run {name}\n");
+    assert_eq!(seen(&["run", "--limit", "4", "--save", &name], wrapped), (0, spent.to_string() + &said, "".into()));
+    assert_eq!(std::fs::read(&out).expect("the file"), words(&[1, 4, 3, 5, 1, 30, 1, 33 + 256 * 7]));
+    let rest = "value after 1 step, 1 word\n0 calls, 1 conversion, 0 others\n7\n";
+    assert_eq!(seen(&["run", &name], b""), (0, rest.into(), "".into()));
+    std::fs::remove_file(&out).expect("the file is removed");
+}

@@ -28,6 +28,22 @@ pub fn explain(input: &Input, refusal: &Refusal) -> String {
     format!("refused {}: {}\n{details}", refusal.number, sentence(refusal.number))
 }
 
+/// What the refusal of a save says, for the one whose run was to be saved; the type and the term have so many words.
+pub fn explain_save(refusal: &Refusal, words: usize) -> String {
+    const WHEN: &str = "let it run a little further, or stop it earlier";
+    let Refusal { number, place } = *refusal;
+    let (why, details) = match number {
+        4 => (
+            "the term left nests deeper than 256 levels, too deep to be a file",
+            format!("  word {place} of the file to be written; {WHEN}\n"),
+        ),
+        12 => (sentence(12), format!("  it would have {} bytes; {WHEN}\n", 16 + 4 * words)),
+        3 | 5 => (sentence(number), format!("  word {place} of the file to be written\n")),
+        _ => (sentence(number), String::new()),
+    };
+    format!("refused {number}: {why}\n{details}")
+}
+
 /// The documents' reason for a refusal.
 fn sentence(number: u32) -> &'static str {
     match number {
@@ -42,6 +58,8 @@ fn sentence(number: u32) -> &'static str {
         9 => "the declared type is not {N}; only a list of numbers is priced",
         10 => "the value has more than nine items",
         11 => "a price is over 1,000,000 cents for 1,000 pulses",
+        12 => "the file would have more than 16,384 bytes",
+        13 => "the buffer is shorter than the file",
         _ => "the engine gave a number that has no meaning",
     }
 }

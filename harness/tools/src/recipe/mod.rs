@@ -1,4 +1,4 @@
-//! The program `recipe`: recipes as text, made, shown, checked, run, stepped through and priced.
+//! The program `recipe`: recipes as text, made, shown, checked, run, saved, stepped through and priced.
 
 mod check;
 mod explain;
@@ -9,11 +9,12 @@ mod price;
 mod prices;
 mod program;
 mod run;
+mod save;
 mod show;
 mod step;
 
 use crate::args::Args;
-use crate::engine::{linked_check, linked_price, linked_run, Check, Price, Run};
+use crate::engine::{linked_check, linked_price, linked_run, linked_save, Check, Price, Run, Save};
 use std::io::{Error, ErrorKind, Read, Write};
 
 pub use program::program;
@@ -24,12 +25,13 @@ pub struct Engine {
     pub check: Option<Check>,
     pub run: Option<Run>,
     pub price: Option<Price>,
+    pub save: Option<Save>,
 }
 
 impl Engine {
     /// The functions that this program was built with.
     pub fn linked() -> Engine {
-        Engine { check: linked_check(), run: linked_run(), price: linked_price() }
+        Engine { check: linked_check(), run: linked_run(), price: linked_price(), save: linked_save() }
     }
 }
 

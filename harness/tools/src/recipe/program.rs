@@ -11,12 +11,12 @@ usage: recipe make | show | check | run | step | price   [FILE] [options]
 make    a text to a recipe file
 show    a recipe file as text
 check   whether the engine accepts a recipe, a refusal explained
-run     the end of a run, where its steps went, and the term left
+run     the end of a run, where its steps went, and the term left; with --save it is kept, to go on later
 step    the term at each step of a run
 price   the end of a run, and what each pump and the can are charged
 
-`recipe COMMAND --help` says more. Status 0: done; 1: the file is refused, or a price; 2: a file cannot be read or written,
-or the command is not understood. What is printed of a status that is not 0 goes to standard error.
+`recipe COMMAND --help` says more. Status 0: done; 1: the file is refused, or a price, or a save; 2: a file cannot be read or
+written, or the command is not understood. What is printed of a status that is not 0 goes to standard error.
 ";
 
 /// Does what the words ask for and answers with the status. That nobody reads what is printed is no fault.

@@ -2,6 +2,7 @@
 
 use super::explain::explain;
 use super::input::{read_input, Input};
+use super::save::Saving;
 use super::{without, Command, Desk, Failure, Outcome};
 use crate::args::Args;
 use crate::engine::{RecipeRun, Run};
@@ -15,13 +16,20 @@ use std::rc::Rc;
 pub const COMMAND: Command = Command { name: "run", help: HELP, work: run };
 
 const HELP: &str = "\
-usage: recipe run [FILE] [--limit STEPS] [--words CAPACITY]
+usage: recipe run [FILE] [--limit STEPS] [--words CAPACITY] [--save OUT]
 
 Runs a recipe file or the file of a text, for 1,000,000 steps at most with two buffers of 4,096 words. Prints the end,
 where the steps went, and the term left. A step on an app or a fix is a call; a step on an ms or an sm is a conversion;
 all others, the one that ends the run with an error too, are others. Reads standard input where no FILE is named.
 Status 0: ended, whatever the end; 1: refused.
+
+With --save the term that a spent or full run leaves is written to OUT, a recipe file with the same declared type, and
+`recipe run OUT` goes on with it: both runs together end as one run would have, and their steps and counts add up. After a
+value or an error nothing is written. A term that is too deep or too large for a file is refused; status 1.
 ";
+
+/// Words of each buffer where the command names no number.
+pub const WORDS: usize = 4_096;
 
 /// What a run is lent.
 pub struct Lent {
@@ -50,7 +58,7 @@ impl Lent {
 
 /// The words of each buffer that the command asks for.
 pub fn capacity(args: &mut Args) -> Result<usize, String> {
-    Ok(args.number("--words", 4_096)?.min(1 << 20) as usize)
+    Ok(args.number("--words", WORDS as u64)?.min(1 << 20) as usize)
 }
 
 /// A refusal explained.
@@ -60,13 +68,21 @@ pub fn refused(input: &Input, result: &RecipeRun, capacity: usize) -> String {
     explain(input, &refusal) + &lent
 }
 
-/// The end of a run, where its steps went, and the term left.
+/// The end of a run, where its steps went, and the term left, which is saved first where that is asked for.
 fn run(mut args: Args, desk: &mut Desk<'_>) -> Outcome {
     let lent = Lent::new(&mut args, desk)?;
     let limit = steps(args.number("--limit", 1_000_000)?)?;
+    let saving = Saving::new(&mut args, desk)?;
     let input = read_input(args, desk)?;
     let (result, words) = lent.run(&input, limit)?;
-    Ok(write!(desk.output, "{}{}", ended(&result), left(&words)?)?)
+    let text = ended(&result) + &left(&words)?;
+    let saved = saving.map_or(Ok(String::new()), |saving| saving.save(&input, &result, &words, lent.capacity));
+    let (said, fault) = saved.map_or_else(|fault| (String::new(), Some(fault)), |said| (said, None));
+    let printed = desk.output.write_all((text + &said).as_bytes()).and_then(|()| desk.output.flush());
+    match fault {
+        Some(fault) => Err(fault),
+        None => Ok(printed?),
+    }
 }
 
 /// How many words a refused term has, and how many were lent.

@@ -5,6 +5,7 @@ pub mod pricing;
 pub mod saving;
 
 use std::io::Write;
+use tools::engine::{Check, Price, Run, Save};
 use tools::recipe::{program, Desk, Engine};
 use tools::stand_in;
 
@@ -22,8 +23,21 @@ pub fn printed(words: &[&str], input: &[u8]) -> (u8, String, String) {
 }
 
 /// The status of a program that writes to these two.
-pub fn typed_into(words: &[&str], mut input: &[u8], output: &mut (dyn Write + Send), errors: &mut dyn Write) -> u8 {
-    let engine = Engine { check: Some(stand_in::check), run: Some(stand_in::run), price: Some(stand_in::price) };
+pub fn typed_into(words: &[&str], input: &[u8], output: &mut (dyn Write + Send), errors: &mut dyn Write) -> u8 {
+    typed_with(stand_in::save, words, input, output, errors)
+}
+
+/// The same with another save.
+pub fn typed_with(
+    save: Save,
+    words: &[&str],
+    mut input: &[u8],
+    output: &mut (dyn Write + Send),
+    errors: &mut dyn Write,
+) -> u8 {
+    let (check, run, price) =
+        (Some(stand_in::check as Check), Some(stand_in::run as Run), Some(stand_in::price as Price));
+    let engine = Engine { check, run, price, save: Some(save) };
     let mut desk = Desk { engine, input: &mut input, output };
     program(words.iter().map(|word| word.to_string()).collect(), &mut desk, errors)
 }
