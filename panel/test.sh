@@ -1,7 +1,7 @@
 #!/bin/sh
 # Builds the panel's program and compares what it prints with outputs written by hand from documents 01 and 02.
-# With the argument `run` the examples that run a recipe and price a can are tried too. The archive must have been built
-# before.
+# With the argument `run` the examples that run a recipe, price a can and save a run are tried too. The archive must have been
+# built before.
 set -eu
 cd "$(dirname "$0")/.."
 archive=target/staticlib/libexports.a
@@ -66,6 +66,13 @@ same() {
     for pump in 1 2 3 4 5 6 7 8 9; do echo "$((100 * pump)) $((100 * pump + 1)) $((100 * pump + 2))"; done >prices
     { head -n 8 prices; echo 1 2 1000001; } >over
     head -n 8 prices >short
+    # fix (fn {N} (cons 1 v0)): a cons around it with each step.
+    words 2 4 7 6 3 1 20 18 3 1 25 273 16 >nests
+    # ms N (num? (app (fn (app v0 (app v0 .. 1))) (fn (cons v0 v0)))): a list that is doubled twelve times.
+    { words 1 4 34 5 1 30 1 811 35 34; for i in 1 2 3 4 5 6 7 8 9 10 11 12; do words 35 32; done; words 289 34 40 32 32; } >doubles
+    # What wrapped is after three steps: ms N (app (fn v0) 7).
+    words 1 4 6 5 1 30 1 35 34 32 1825 >lunch-due
+    rm -f lunch larger again unsaved
 )
 cd "$out"
 
@@ -139,6 +146,45 @@ total: 15207859 cents" ./price nine-items prices
     same price-over-first 1 "refused 11, place 0" ./price empty over
     same price-short 2 "usage: price FILE PRICES
 PRICES has nine rows of three prices: cents for 1,000 pulses." ./price no-items short
+
+    (cd ../.. && ${CC:-cc} $flags -o "$out/save" panel/save.c "$archive")
+    same save-spent 0 "spent, code 0, 3 steps, 6 words left, 0 wanted
+1 calls, 2 conversions, 0 others
+saved in lunch, 44 bytes" ./save wrapped 3 lunch
+    same save-bytes 0 "" cmp lunch lunch-due
+    same save-checked 0 "lunch: accepted" ./panel lunch
+    # With the three steps above: 5 steps, 2 calls and 3 conversions, as of wrapped in one run.
+    same save-goes-on 0 "value, code 0, 2 steps, 1 words left, 0 wanted
+1 calls, 1 conversions, 0 others
+1809" ./run lunch
+    # After a call and 10 doublings: 3 words, two applications of 5 and a list of 2,047; next 3, 5 and 4,095.
+    same save-full 0 "full, code 0, 11 steps, 2060 words left, 4103 wanted
+11 calls, 0 conversions, 0 others
+saved in larger, 8260 bytes" ./save doubles 1000 larger
+    same save-full-again 0 "full, code 0, 0 steps, 2060 words left, 4103 wanted
+0 calls, 0 conversions, 0 others
+saved in again, 8260 bytes" ./save larger 1 again
+    same save-same 0 "" cmp larger again
+    # 300 conses: the 256th has its first part at level 257, behind 255 of two words and itself.
+    same save-deep 1 "spent, code 0, 300 steps, 607 words left, 0 wanted
+300 calls, 0 conversions, 0 others
+refused 4, place 517" ./save nests 300 unsaved
+    # 7 and 2 x 2,044 words; with the type and the header more than 4,096.
+    same save-long 1 "full, code 0, 2044 steps, 4095 words left, 4097 wanted
+2044 calls, 0 conversions, 0 others
+refused 12, place 0" ./save nests 9999 unsaved
+    same save-value 0 "value, code 0, 1 steps, 1 words left, 0 wanted
+0 calls, 0 conversions, 1 others
+nothing is saved" ./save add 9 unsaved
+    same save-error 0 "error, code 4, 2 steps, 0 words left, 0 wanted
+0 calls, 0 conversions, 2 others
+nothing is saved" ./save hd-nil 9 unsaved
+    same save-kind 1 "refused 3 at word 5" ./save kind 9 unsaved
+    same save-unsaved 1 "" test -e unsaved
+    same save-unwritten 2 "save: cannot write none/out
+spent, code 0, 0 steps, 3 words left, 0 wanted
+0 calls, 0 conversions, 0 others" ./save add 0 none/out
+    same save-usage 2 "usage: save FILE STEPS OUT" ./save add 3
 fi
 
 [ "$failed" -eq 0 ] && echo "panel: all as written"
