@@ -1,6 +1,7 @@
 //! The tables of the benchmarks: their figures and their width. Nothing here is timed.
 
 use tools::bench::prices::{self, Priced};
+use tools::bench::saves::{self, Saved};
 use tools::bench::table::{head, Measured};
 use tools::bench::{ABOUT, ABOUT_OLD, PARTS};
 
@@ -64,4 +65,15 @@ fn a_can_has_the_time_of_a_run_and_of_a_pricing_and_their_ratio() {
     assert_eq!(figures(&unknown.row()), ["9", "64", "-", "-", "-"]);
     let long = Priced { name: "x".repeat(34), steps: 20_000, lent: 16_384, run: Some(9.0), price: Some(9.0) };
     assert!(long.row().len() <= 120 && prices::head().len() <= 120);
+}
+
+#[test]
+fn a_file_has_the_time_of_its_check_and_of_its_save_and_their_ratio() {
+    let file = Saved { name: "file".into(), words: 96, check: Some(2e-6), save: Some(5e-6) };
+    assert_eq!(figures(&file.row()), ["96", "2000", "5000", "2.50"]);
+    assert_eq!(saves::head().len(), file.row().len());
+    let unknown = Saved { check: None, save: None, ..file };
+    assert_eq!(figures(&unknown.row()), ["96", "-", "-", "-"]);
+    let long = Saved { name: "x".repeat(34), words: 4_096, check: Some(9.0), save: Some(9.0) };
+    assert!(long.row().len() <= 120 && saves::head().len() <= 120);
 }

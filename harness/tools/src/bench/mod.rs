@@ -5,6 +5,7 @@ mod growth;
 pub mod prices;
 mod recipes;
 mod runs;
+pub mod saves;
 pub mod table;
 mod timing;
 mod works;
@@ -17,11 +18,12 @@ pub struct Part {
 }
 
 /// The parts, in the order in which they are printed.
-pub const PARTS: [Part; 4] = [
+pub const PARTS: [Part; 5] = [
     Part { name: "check", about: CHECKS, tables: checks::tables },
     Part { name: "run", about: STEPS, tables: runs::tables },
     Part { name: "growth", about: STEPS, tables: growth::tables },
     Part { name: "price", about: PRICES, tables: prices::tables },
+    Part { name: "save", about: SAVES, tables: saves::tables },
 ];
 
 /// What holds of all figures, printed before them.
@@ -58,4 +60,10 @@ the engine takes less time, engine/copy over 1 that it takes more.
 const PRICES: &str = "\
 price: cans of nine items. run: recipe_run. price: recipe_price of the same file. Both are whole calls, with reading,
 check and clearing, in two buffers of just the words needed (lent). price/run over 1 says that the pricing takes longer.
+";
+
+/// What the figures of files saved are.
+const SAVES: &str = "\
+save: the words of accepted files saved. check: recipe_check of the file. save: recipe_save of its words, which writes
+the same file, in a buffer of 16,384 bytes. Both are whole calls. save/check over 1 says that the save takes longer.
 ";
