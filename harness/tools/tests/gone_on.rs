@@ -54,7 +54,7 @@ fn a_run_that_counts_its_first_step_as_an_other() {
 }
 
 #[test]
-fn a_run_that_makes_a_step_more_under_the_last_limit() {
+fn a_run_that_makes_a_step_too_many_under_limit_1() {
     let run: Run = |file, limit, first, second| match right_run(file, limit, first, second) {
         run if (run.refusal, run.end) == (0, 1) && limit == 1 => right_run(file, 2, first, second),
         run => run,

@@ -50,3 +50,8 @@ pub fn changed(declared: &[u32], term: &[u32], out: &mut [u8], change: impl Fn(&
     change(&mut out[..saved.bytes as usize]);
     saved
 }
+
+/// The bytes of the file that words make.
+pub fn bytes(declared: &[u32], term: &[u32]) -> usize {
+    16 + 4 * (declared.len() + term.len())
+}

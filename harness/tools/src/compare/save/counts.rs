@@ -181,7 +181,7 @@ impl SaveCounts {
         let wider = End::ALL.map(|second| row(&self.wider, End::Full, second, " with more words"));
         let unsaved = [4, 12, 13]
             .map(|number: u32| (format!("the save of a run refused by {number}"), self.unsaved[number as usize]));
-        let enough = (format!("{PAIRS} pairs"), self.pairs / PAIRS);
+        let enough = (format!("{PAIRS} pairs in the same capacity, so many times"), self.pairs / PAIRS);
         spent.into_iter().chain([full]).chain(wider).chain([enough]).chain(unsaved).collect()
     }
 }
