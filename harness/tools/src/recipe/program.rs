@@ -15,8 +15,8 @@ run     the end of a run, where its steps went, and the term left; with --save i
 step    the term at each step of a run
 price   the end of a run, and what each pump and the can are charged
 
-`recipe COMMAND --help` says more. Status 0: done; 1: the file is refused, or a price, or a save; 2: a file cannot be read or
-written, or the command is not understood. What is printed of a status that is not 0 goes to standard error.
+`recipe COMMAND --help` says more. Status 0: done; 1: the file is refused, or a price, or a save; 2: a file cannot be
+read or written, or the command is not understood. What is printed of a status that is not 0 goes to standard error.
 ";
 
 /// Does what the words ask for and answers with the status. That nobody reads what is printed is no fault.

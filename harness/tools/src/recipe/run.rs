@@ -24,8 +24,9 @@ all others, the one that ends the run with an error too, are others. Reads stand
 Status 0: ended, whatever the end; 1: refused.
 
 With --save the term that a spent or full run leaves is written to OUT, a recipe file with the same declared type, and
-`recipe run OUT` goes on with it: both runs together end as one run would have, and their steps and counts add up. After a
-value or an error nothing is written. A term that is too deep or too large for a file is refused; status 1.
+`recipe run OUT` goes on with it: both runs together end as one run would have, and their steps and counts add up. A
+full run needs more words to go on. After a value or an error nothing is written. A term that is too deep or too large
+for a file is refused; status 1, and OUT stays as it was.
 ";
 
 /// Words of each buffer where the command names no number.
