@@ -121,7 +121,7 @@ fn a_check_that_refuses_what_was_saved() {
 
 #[test]
 fn a_save_of_a_run_refused_by_another() {
-    // What has a wrapped function in it; that no random words have it first is not asked.
+    // Terms with an application in Scheme under ms N, as a wrapped function that is called leaves them.
     let save: Save = |declared, term, out| match right_save(declared, term, out) {
         saved if saved.refusal == 0 && term.windows(3).any(|words| words == [30, 1, 35]) => refused(5, 0, out),
         saved => saved,
