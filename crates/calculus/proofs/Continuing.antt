@@ -1,14 +1,18 @@
 -- A run that was spent or full, gone on with from its last term, is the run under the summed limit. Assumes nothing.
 use Prim.Native.Nat.{ℕ, suc, _+_, _≤_}
 use mathlib.Core.List.{List, []}
-use mathlib.Core.Path.{_≡_, refl, sym, ap, _∙_}
+use mathlib.Core.Path.{_≡_, refl, sym, ap, _∙_, subst}
 use native.Mathlib.Nat.{suc-add, zero-add}
-use Rattle.calculus.specs.Trees.{ml, Term}
+use Rattle.calculus.specs.Trees.{Ty, ml, Term}
 use Rattle.calculus.specs.Words.{words, size}
+use Rattle.calculus.specs.Limits.{InRange}
+use Rattle.calculus.specs.Typing.{Typed}
 use Rattle.calculus.specs.Reduction.{next, step}
 use Rattle.calculus.specs.Classes.{other, nextClass}
-use Rattle.calculus.specs.Run.{End, valued, spent, error, full, Counts, uncounted, Result, ended, run}
-use Rattle.calculus.specs.Counting.{together}
+use Rattle.calculus.specs.Run.{End, valued, spent, error, full, Open, Counts, uncounted, Result, ended, run}
+use Rattle.calculus.specs.Counting.{together, later}
+use Rattle.calculus.proofs.Soundness.{Kept, sound}
+use Rattle.calculus.proofs.Ranges.{OutcomeInRange, step-in-range}
 use Rattle.calculus.proofs.Counting.{together-none, counted-together}
 use Rattle.calculus.proofs.Runs.{lastTerm, Ran, at-value, at-limit, at-error, at-full, at-stuck, by-step, run-ran, run-value, run-next}
 use Rattle.calculus.proofs.Runs.{run-full}
@@ -32,13 +36,6 @@ ran-left (by-step q c p) = ran-left p
 pub run-left : (k cap : ℕ) (made : Counts) (e : Term ml) → run k cap made e .left ≡ leftAt (run k cap made e .end) (lastTerm k cap e)
 run-left k cap made e = ran-left (run-ran k cap made e)
 
--- The ends from which a run is gone on with.
-abbrev pub Open : End → Type 0
-Open valued = ⊥
-Open spent = Unit {0}
-Open error = ⊥
-Open full = Unit {0}
-
 ran-on : (j : ℕ) {cap k : ℕ} {made : Counts} {e t : Term ml} {x : Result} → Ran cap k made e x t → Open (x .end)
     → run (k + suc j) cap made e ≡ run (suc j) cap (x .made) t
 unfolding run
@@ -53,10 +50,6 @@ ran-on j {cap} (by-step {k} {r = r} q c p) f = rw (suc-add k (suc j)) (run-next 
 pub run-on : (k j cap : ℕ) (made : Counts) (e : Term ml) → Open (run k cap made e .end)
     → run (k + suc j) cap made e ≡ run (suc j) cap (run k cap made e .made) (lastTerm k cap e)
 run-on k j cap made e f = ran-on j (run-ran k cap made e) f
-
--- A result that comes after what m counts.
-abbrev pub later : Counts → Result → Result
-later m x = ended (x .end) (x .code) (together m (x .made)) (x .left) (x .wanted)
 
 ran-later : (m : Counts) {cap k : ℕ} {made : Counts} {e t : Term ml} {x : Result} → Ran cap k made e x t → run k cap (together m made) e ≡ later m x
 unfolding run
@@ -93,3 +86,18 @@ ran-keeps P s (by-step q c p) h = ran-keeps P s p (s _ _ q c h)
 pub run-keeps : (k cap : ℕ) (e : Term ml) (P : Term ml → Type 0) → ((e r : Term ml) → step e ≡ next r → size r ≤ cap → P e → P r)
     → P e → P (lastTerm k cap e)
 run-keeps k cap e P s h = ran-keeps P s (run-ran k cap uncounted e) h
+
+-- A recipe's term: in range, and of the declared type.
+pub record Fine (τ : Ty) (t : Term ml) : Type 0 where
+  pub ranged : InRange t
+  pub typed : Typed [] t τ
+
+-- So is the last term, and it fits where the first did.
+pub run-fine : (k cap : ℕ) (τ : Ty) (e : Term ml) → Fine τ e → Fine τ (lastTerm k cap e)
+run-fine k cap τ e h = run-keeps k cap e (Fine τ) fine-next h
+  where
+    fine-next : (e r : Term ml) → step e ≡ next r → size r ≤ cap → Fine τ e → Fine τ r
+    fine-next e r q c g = record { ranged = subst OutcomeInRange q (step-in-range e (g .ranged)); typed = subst (Kept τ) q (sound e τ (g .typed)) }
+
+pub run-short : (k cap : ℕ) (e : Term ml) → size e ≤ cap → size (lastTerm k cap e) ≤ cap
+run-short k cap e h = run-keeps k cap e (λ t. size t ≤ cap) (λ e r q c g. c) h

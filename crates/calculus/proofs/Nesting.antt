@@ -1,12 +1,13 @@
--- Refusals 3 and 4: the walk with levels takes exactly the words of a tree in range that is nested within the levels. Assumes nothing.
-use Prim.Native.Nat.{ℕ, zero, suc, _+_, _-_, _/_, _≤_}
+-- Refusals 3 and 4: the walk with levels takes exactly the words of a tree in range that is nested within the levels; those of one nested deeper
+-- it refuses by 4. Assumes nothing.
+use Prim.Native.Nat.{ℕ, zero, suc, _+_, _-_, _/_, _≤_, _<_}
 use mathlib.Core.Bool.{Bool, true, false, cond}
 use mathlib.Core.List.{List, [], _∷_, _++_}
 use mathlib.Core.Option.{Option, none, some}
 use mathlib.Core.Path.{_≡_, refl, sym, ap, _∙_}
-use lib.Dec.{eqb}
+use lib.Dec.{eqb, leb}
 use lib.ListN.{length}
-use borrow.Author.Tests.{eqb-true, eq-eqb, ne-eqb}
+use borrow.Author.Tests.{eqb-true, eq-eqb, ne-eqb, leb-true, leb-false}
 use native.Mathlib.Omega.{arith}
 use Rattle.calculus.specs.Verdicts.{found, Verdict, refused, passed}
 use Rattle.calculus.specs.Words.{word}
@@ -206,3 +207,54 @@ passes-ordered s ws n q =
     let i : n ≡ sizeTree s tree + 0 = passed-injective _ _ (sym (e .0) ∙ w) in
     let k : length (t .rest) ≡ 0 = omega (arith, e .1, ap length (t .spelt), tree-length s tree (t .rest)) in
     record { tree = tree; spelt = t .spelt ∙ ap (putTree s tree) (no-words (t .rest) k); ranged = t .fit .0; nests = t .fit .1 }
+
+-- The words of a tree in range that nests deeper than its levels are refused by 4.
+abbrev Deeper : (s : Sort) → Tree s → Type 0
+Deeper s t = TreeInRange s t → (n : ℕ) → n < nestingTree s t → (k : List ℕ) (ds : List (Sort × ℕ))
+    → (p : ℕ) × (walk nestedDue (putTree s t k) ((s, n) ∷ ds) ≡ refused 4 p)
+
+others-deeper : (s : Sort) (ss : List Sort) (ts : Trees (s ∷ ss)) (n : ℕ) → n < deepest (s ∷ ss) ts → nestingTree s (ts .0) ≤ n → n < deepest ss (ts .1)
+others-deeper s [] ts n g f = absurd (omega arith)
+others-deeper s (u ∷ us) ts n g f = omega arith
+
+abbrev TooDeep : ℕ → List ℕ → (ss : List Sort) → Trees ss → List (Sort × ℕ) → Type 0
+TooDeep n k ss ts ds = (p : ℕ) × (walk nestedDue (putTrees ss ts k) (levelled n ss ++ ds) ≡ refused 4 p)
+
+parts-deeper : (ss : List Sort) (ts : Trees ss) → Holds Deeper ss ts → TreesInRange ss ts → (n : ℕ) → n < deepest ss ts
+    → (k : List ℕ) (ds : List (Sort × ℕ)) → TooDeep n k ss ts ds
+parts-deeper [] ts hs rs n h k ds = absurd (omega arith)
+parts-deeper (s ∷ ss) ts hs rs n h k ds = by (λ g. parts-deeper ss (ts .1) (hs .1) (rs .1) n g k ds) (leb (nestingTree s (ts .0)) n) refl
+  where
+    by : (n < deepest ss (ts .1) → TooDeep n k ss (ts .1) ds) → (b : Bool) → leb (nestingTree s (ts .0)) n ≡ b → TooDeep n k (s ∷ ss) ts ds
+    by rest true e =
+        let f = leb-true (nestingTree s (ts .0)) n e in
+        let i = rest (others-deeper s ss ts n h f) in (
+          sizeTree s (ts .0) + i .0,
+          tree-taken s (ts .0) (rs .0) n f (putTrees ss (ts .1) k) (levelled n ss ++ ds) ∙ ap (later (sizeTree s (ts .0))) (i .1),
+        )
+    by rest false e = hs .0 (rs .0) n (leb-false (nestingTree s (ts .0)) n e) (putTrees ss (ts .1) k) (levelled n ss ++ ds)
+
+node-deeper : (s : Sort) (t : Tree s) → OfParts Deeper s t
+unfolding walk
+node-deeper s t hs h n deep k ds = by n deep
+  where
+    v : View s t
+    v = view s t
+
+    due : rowFor s (word (v .row .kind) (v .operand)) ≡ some (v .row)
+    due = let f = v .fits h in word-due s (v .row .kind) (v .operand) (v .row) (v .small) (v .listed) (f .0) (f .1)
+
+    by : (n : ℕ) → n < nestingTree s t → (p : ℕ) × (walk nestedDue (putTree s t k) ((s, n) ∷ ds) ≡ refused 4 p)
+    by zero d = (0, ap (λ (ws : List ℕ). walk nestedDue ws ((s, 0) ∷ ds)) (v .spelt k) ∙ rw due)
+    by (suc n) d =
+        let i = parts-deeper (v .row .parts) (v .parts) hs (v .fits h .2) n (omega (arith, nests s t v h)) k ds in (
+          1 + i .0,
+          ap (λ (ws : List ℕ). walk nestedDue ws ((s, suc n) ∷ ds)) (v .spelt k)
+          ∙ walk-due s n (word (v .row .kind) (v .operand)) (putTrees (v .row .parts) (v .parts) k) ds (v .row) due
+          ∙ ap (later 1) (i .1),
+        )
+
+pub deeper-refused : (s : Sort) (t : Tree s) → TreeInRange s t → levels < nestingTree s t → (p : ℕ) × (inOrder s (putTree s t []) ≡ refused 4 p)
+unfolding inOrder
+deeper-refused s t h deep =
+    let i = induction Deeper node-deeper s t h levels deep [] [] in (i .0, ap (noneLeft (length (putTree s t []))) (i .1))

@@ -4,7 +4,7 @@ use Prim.Native.Nat.{ℕ, suc, _+_, _-_, _≤_}
 use mathlib.Core.Bool.{Bool, true, false, cond}
 use mathlib.Core.List.{List, [], _∷_, _++_}
 use mathlib.Core.Option.{Option, none, some}
-use mathlib.Core.Path.{_≡_, refl, sym}
+use mathlib.Core.Path.{_≡_, refl, sym, subst}
 use lib.Dec.{eqb, leb}
 use lib.ListN.{length, drop, replicate, length-drop}
 use lib.Seq.{length-take-le}
@@ -34,48 +34,52 @@ abbrev pub Numbered : {A : Type 0} → Verdict A → Type 0
 Numbered (refused n p) = (1 ≤ n) × (n ≤ 7)
 Numbered (passed a) = Unit {0}
 
--- Both of them.
-data Proper {A : Type 0} (b : ℕ) : Verdict A → Type 0 where
-  refusing : (n p : ℕ) → (1 ≤ n) × (n ≤ 7) × (p ≤ b) → Proper b (refused n p)
-  passing : {a : A} → Proper b (passed a)
+-- Both of them, where no number is under m.
+data Proper {A : Type 0} (m b : ℕ) : Verdict A → Type 0 where
+  refusing : (n p : ℕ) → (m ≤ n) × (n ≤ 7) × (p ≤ b) → Proper m b (refused n p)
+  passing : {a : A} → Proper m b (passed a)
 
-proper-within : {A : Type 0} {b : ℕ} {v : Verdict A} → Proper b v → PlaceWithin b v
+proper-within : {A : Type 0} {m b : ℕ} {v : Verdict A} → Proper m b v → PlaceWithin b v
 proper-within (refusing n p h) = h .2
 proper-within passing = tt
 
-proper-number : {A : Type 0} {b : ℕ} {v : Verdict A} → Proper b v → Numbered v
+proper-number : {A : Type 0} {b : ℕ} {v : Verdict A} → Proper 1 b v → Numbered v
 proper-number (refusing n p h) = (h .0, h .1)
 proper-number passing = tt
 
-proper-then : {A B : Type 0} {b : ℕ} {v : Verdict A} {k : A → Verdict B} → Proper b v → ((a : A) → Proper b (k a)) → Proper b (andThen v k)
+proper-from : {A : Type 0} {m b : ℕ} {v : Verdict A} → 1 ≤ m → Proper m b v → Proper 1 b v
+proper-from l (refusing n p h) = refusing n p (omega arith)
+proper-from l passing = passing
+
+proper-then : {A B : Type 0} {m b : ℕ} {v : Verdict A} {k : A → Verdict B} → Proper m b v → ((a : A) → Proper m b (k a)) → Proper m b (andThen v k)
 proper-then (refusing n p h) f = refusing n p h
 proper-then (passing {a}) f = f a
 
-module _ {A : Type 0} (b n p : ℕ) (h : (1 ≤ n) × (n ≤ 7) × (p ≤ b)) where
-  proper-unless : (t : Bool) {v : Verdict A} → (t ≡ true → Proper b v) → Proper b (unless t n p v)
+module _ {A : Type 0} (m b n p : ℕ) (h : (m ≤ n) × (n ≤ 7) × (p ≤ b)) where
+  proper-unless : (t : Bool) {v : Verdict A} → (t ≡ true → Proper m b v) → Proper m b (unless t n p v)
   proper-unless true f = f refl
   proper-unless false f = refusing n p h
 
-  proper-or : (o : Option A) → Proper b (orRefuse o n p)
+  proper-or : (o : Option A) → Proper m b (orRefuse o n p)
   proper-or none = refusing n p h
   proper-or (some a) = passing
 
 -- An answer that is n words further on.
-proper-later : {b c : ℕ} {v : Verdict ℕ} (n : ℕ) → n + c ≤ b → Proper c v → Proper b (later n v)
-proper-later n r (refusing m p h) = refusing m (n + p) (omega arith)
+proper-later : {m b c : ℕ} {v : Verdict ℕ} (n : ℕ) → n + c ≤ b → Proper m c v → Proper m b (later n v)
+proper-later n r (refusing k p h) = refusing k (n + p) (omega arith)
 proper-later n r passing = passing
 
 -- What a word means where something is due.
 abbrev Due : {D : Type 0} → Act D → Type 0
 Due (opens ps) = Unit {0}
-Due (refuses r) = (1 ≤ r) × (r ≤ 7)
+Due (refuses r) = (3 ≤ r) × (r ≤ 7)
 
-proper-acted : {D : Type 0} (n : ℕ) (a : Act D) {rest : List D → Verdict ℕ} → Due a → ((ps : List D) → Proper n (rest ps))
-    → Proper (suc n) (acted a rest)
+proper-acted : {D : Type 0} (n : ℕ) (a : Act D) {rest : List D → Verdict ℕ} → Due a → ((ps : List D) → Proper 3 n (rest ps))
+    → Proper 3 (suc n) (acted a rest)
 proper-acted n (opens ps) h f = proper-later 1 (omega arith) (f ps)
 proper-acted n (refuses r) h f = refusing r 0 (omega arith)
 
-proper-walk : {D : Type 0} (f : D → ℕ → Act D) → ((d : D) (w : ℕ) → Due (f d w)) → (ws : List ℕ) (ds : List D) → Proper (length ws) (walk f ws ds)
+proper-walk : {D : Type 0} (f : D → ℕ → Act D) → ((d : D) (w : ℕ) → Due (f d w)) → (ws : List ℕ) (ds : List D) → Proper 3 (length ws) (walk f ws ds)
 unfolding walk
 proper-walk f h [] [] = passing
 proper-walk f h [] (d ∷ ds) = refusing 3 0 (omega arith)
@@ -96,48 +100,59 @@ due-nested d w = by (rowFor (d .0) w)
 due-scope : (Γ : List Lang) (w : ℕ) → Due (scopeDue Γ w)
 due-scope Γ w = due-cond (isFree Γ w) (refuses 5) (opens (replicate (partCount w) (inside Γ w))) (omega arith) tt
 
-proper-order : (s : Sort) (ws : List ℕ) → Proper (length ws) (inOrder s ws)
+proper-order : (s : Sort) (ws : List ℕ) → Proper 3 (length ws) (inOrder s ws)
 unfolding inOrder
 proper-order s ws = by (walk-reach nestedDue ws ((s, levels) ∷ [])) (proper-walk nestedDue due-nested ws ((s, levels) ∷ []))
   where
-    chosen : (t : Bool) (m : ℕ) → m ≤ length ws → Proper (length ws) (cond t (passed m) (refused 3 m))
+    chosen : (t : Bool) (m : ℕ) → m ≤ length ws → Proper 3 (length ws) (cond t (passed m) (refused 3 m))
     chosen true m h = passing
     chosen false m h = refusing 3 m (omega arith)
 
-    by : {v : Verdict ℕ} → reach v ≤ length ws → Proper (length ws) v → Proper (length ws) (noneLeft (length ws) v)
+    by : {v : Verdict ℕ} → reach v ≤ length ws → Proper 3 (length ws) v → Proper 3 (length ws) (noneLeft (length ws) v)
     by h (refusing n p i) = refusing n p i
     by h (passing {a = m}) = chosen (eqb m (length ws)) m h
 
-proper-typed : (b : ℕ) (τ : Ty) (e : Term ml) → Proper b (typed τ e)
+proper-typed : (b : ℕ) (τ : Ty) (e : Term ml) → Proper 3 b (typed τ e)
 unfolding typed
 proper-typed b τ e =
-    proper-then (proper-or b 6 0 (omega arith) (infer [] e)) (λ t. proper-unless b 7 0 (omega arith) (sameType ml t τ) (λ q. passing))
+    proper-then (proper-or 3 b 6 0 (omega arith) (infer [] e)) (λ t. proper-unless 3 b 7 0 (omega arith) (sameType ml t τ) (λ q. passing))
+
+-- Of the words of a type, which stands at 4, and of those of a term: one of 3 to 7.
+proper-judged : (types terms : List ℕ) (start b : ℕ) → 4 + length types ≤ b → start + length terms ≤ b → Proper 3 b (judged types terms start)
+proper-judged types terms start b n m =
+    proper-then (proper-later 4 n (proper-order type types)) (λ i.
+    proper-then (proper-later start m (proper-order (term ml) terms)) (λ j.
+    proper-then (proper-later start m (proper-walk scopeDue due-scope terms ([] ∷ []))) (λ k.
+    proper-then (proper-or 3 b 3 4 (omega arith) (readTree type types)) (λ τ.
+    proper-then (proper-or 3 b 3 start (omega arith) (readTree (term ml) terms)) (λ e. proper-typed b τ e)))))
+
+pub judged-refused : (types terms : List ℕ) (start b n p : ℕ) → 4 + length types ≤ b → start + length terms ≤ b
+    → judged types terms start ≡ refused n p → (3 ≤ n) × (n ≤ 7) × (p ≤ b)
+judged-refused types terms start b n p k m q = by (subst (Proper 3 b) q (proper-judged types terms start b k m))
+  where
+    by : Proper {A = Recipe} 3 b (refused n p) → (3 ≤ n) × (n ≤ 7) × (p ≤ b)
+    by (refusing n p h) = h
 
 -- The declared type ends where the term starts, and the term where the file ends.
-proper-words : (ws : List ℕ) → Proper (length ws) (checkWords ws)
+proper-words : (ws : List ℕ) → Proper 1 (length ws) (checkWords ws)
 unfolding checkWords
-proper-words ws = proper-unless (length ws) 2 0 (omega arith) (isHeader ws) (λ h. let i = header-iff ws .0 h in behind (omega (arith, i .0 .1, i .1)))
+proper-words ws =
+    proper-unless 1 (length ws) 2 0 (omega arith) (isHeader ws) (λ h. let i = header-iff ws .0 h in behind (omega (arith, i .0 .1, i .1)))
   where
-    behind : 4 + typeCount ws ≤ length ws → Proper (length ws) (judged (typeWords ws) (termWords ws) (4 + typeCount ws))
+    behind : 4 + typeCount ws ≤ length ws → Proper 1 (length ws) (judged (typeWords ws) (termWords ws) (4 + typeCount ws))
     behind b =
-        let types = typeWords ws in
-        let terms = termWords ws in
         let start = 4 + typeCount ws in
         let l : length (drop 4 ws) ≡ length ws - 4 = length-drop 4 ws in
-        let n : 4 + length types ≤ length ws = omega (arith, length-take-le (typeCount ws) (drop 4 ws) (omega arith)) in
-        let m : start + length terms ≤ length ws = omega (arith, length-drop start ws) in
-        proper-then (proper-later 4 n (proper-order type types)) (λ i.
-        proper-then (proper-later start m (proper-order (term ml) terms)) (λ j.
-        proper-then (proper-later start m (proper-walk scopeDue due-scope terms ([] ∷ []))) (λ k.
-        proper-then (proper-or (length ws) 3 4 (omega arith) (readTree type types)) (λ τ.
-        proper-then (proper-or (length ws) 3 start (omega arith) (readTree (term ml) terms)) (λ e. proper-typed (length ws) τ e)))))
+        let n : 4 + length (typeWords ws) ≤ length ws = omega (arith, length-take-le (typeCount ws) (drop 4 ws) (omega arith)) in
+        let m : start + length (termWords ws) ≤ length ws = omega (arith, length-drop start ws) in
+        proper-from (omega arith) (proper-judged (typeWords ws) (termWords ws) start (length ws) n m)
 
 pub words-within : (ws : List ℕ) → PlaceWithin (length ws) (checkWords ws)
 words-within ws = proper-within (proper-words ws)
 
-proper-check : (bytes : List ℕ) → Proper (length (wordsOf bytes)) (check bytes)
+proper-check : (bytes : List ℕ) → Proper 1 (length (wordsOf bytes)) (check bytes)
 unfolding check
-proper-check bytes = proper-unless (length (wordsOf bytes)) 1 0 (omega arith) (isSize (length bytes)) (λ h. proper-words (wordsOf bytes))
+proper-check bytes = proper-unless 1 (length (wordsOf bytes)) 1 0 (omega arith) (isSize (length bytes)) (λ h. proper-words (wordsOf bytes))
 
 -- Of every file that is refused.
 pub place-in-file : (bytes : List ℕ) → PlaceWithin (length (wordsOf bytes)) (check bytes)

@@ -5,7 +5,7 @@ use mathlib.Core.Path.{_≡_}
 use Rattle.calculus.specs.Trees.{Lang, ml, Term}
 use Rattle.calculus.specs.Rules.{Steps}
 use Rattle.calculus.specs.Classes.{call, conversion, other, among}
-use Rattle.calculus.specs.Run.{End, valued, spent, error, full, Counts, uncounted, counted}
+use Rattle.calculus.specs.Run.{End, valued, spent, error, full, Counts, uncounted, counted, Result, ended}
 
 -- What is counted over the steps of a reduction.
 abbrev pub counts : {l : Lang} {n : ℕ} {e r : Term l} → Steps n e r → Counts
@@ -20,6 +20,10 @@ together m n =
       conversions = m .conversions + n .conversions;
       others = m .others + n .others;
     }
+
+-- A result that comes after what m counts: "end, code, words, and steps and U1's counts added up".
+abbrev pub later : Counts → Result → Result
+later m x = ended (x .end) (x .code) (together m (x .made)) (x .left) (x .wanted)
 
 -- "All other steps, the error step too, are others": the step that an end has of its own.
 abbrev pub ownStep : End → Counts

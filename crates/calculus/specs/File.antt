@@ -1,5 +1,5 @@
 -- Document 01, "A file is little-endian words" and the table of refusals: the check of a file, and its run.
-use Prim.Native.Nat.{ℕ, _+_, _*_, _-_, _%_}
+use Prim.Native.Nat.{ℕ, _+_, _*_, _-_, _/_, _%_}
 use mathlib.Core.Bool.{Bool, _&&_}
 use mathlib.Core.List.{List, [], _∷_, _++_}
 use lib.Dec.{eqb, leb}
@@ -24,6 +24,11 @@ wordsOf (a ∷ b ∷ []) = []
 wordsOf (a ∷ b ∷ c ∷ []) = []
 wordsOf (a ∷ b ∷ c ∷ d ∷ more) = wordOf a b c d ∷ wordsOf more
 
+-- The bytes of words, the least byte first.
+abbrev pub bytesOf : List ℕ → List ℕ
+bytesOf [] = []
+bytesOf (w ∷ ws) = (w % 256) ∷ (w / 256 % 256) ∷ (w / 65536 % 256) ∷ (w / 16777216) ∷ bytesOf ws
+
 -- "1 | bytes not a multiple of 4, under 24 or over 16,384".
 abbrev pub isSize : ℕ → Bool
 isSize n = leb 24 n && leb n 16384 && eqb (n % 4) 0
@@ -37,6 +42,10 @@ abbrev pub isHeader : List ℕ → Bool
 isHeader ws =
     leb 1 (getD ws 0 0) && eqb (getD ws 1 0) 4 && leb 1 (getD ws 2 0) && eqb (getD ws 3 0) (4 + getD ws 0 0)
     && eqb (getD ws 3 0 + getD ws 2 0) (length ws)
+
+-- The words of a file of a declared type and a term, in words.
+abbrev pub fileOf : List ℕ → List ℕ → List ℕ
+fileOf types terms = length types ∷ 4 ∷ length terms ∷ (4 + length types) ∷ types ++ terms
 
 abbrev pub typeWords : List ℕ → List ℕ
 typeWords ws = take (typeCount ws) (drop 4 ws)

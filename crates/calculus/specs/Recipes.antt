@@ -1,21 +1,12 @@
 -- Document 01, "Recipes tried by hand": those with a star, and the small inputs of the table of refusals, from the file's bytes to the
 -- result; and three recipes that tell classes of steps apart. proofs/Recipes.antt proves them all.
-use Prim.Native.Nat.{ℕ, _+_, _/_, _%_}
+use Prim.Native.Nat.{ℕ}
 use mathlib.Core.List.{List, [], _∷_, _++_}
 use mathlib.Core.Path.{_≡_}
-use lib.ListN.{length, replicate}
+use lib.ListN.{replicate}
 use Rattle.calculus.specs.Verdicts.{refused, passed}
 use Rattle.calculus.specs.Run.{End, valued, spent, error, full, Counts, ended}
-use Rattle.calculus.specs.File.{operate}
-
--- The bytes of words, the least byte first.
-abbrev pub bytesOf : List ℕ → List ℕ
-bytesOf [] = []
-bytesOf (w ∷ ws) = (w % 256) ∷ (w / 256 % 256) ∷ (w / 65536 % 256) ∷ (w / 16777216) ∷ bytesOf ws
-
--- A file of a declared type and a term.
-abbrev pub fileOf : List ℕ → List ℕ → List ℕ
-fileOf types terms = length types ∷ 4 ∷ length terms ∷ (4 + length types) ∷ types ++ terms
+use Rattle.calculus.specs.File.{bytesOf, fileOf, operate}
 
 -- What is lent: a limit of steps, and two buffers of one length.
 pub record Allowed : Type 0 where

@@ -18,6 +18,13 @@ Final spent = ⊥
 Final error = Unit {0}
 Final full = ⊥
 
+-- "a spent or full run": the ends from which a run is gone on with.
+abbrev pub Open : End → Type 0
+Open valued = ⊥
+Open spent = Unit {0}
+Open error = ⊥
+Open full = Unit {0}
+
 -- What a run counts: "steps made"; and document 02's "three counts: calls, conversions, others".
 pub record Counts : Type 0 where
   pub steps : ℕ

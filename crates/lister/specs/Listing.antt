@@ -7,8 +7,7 @@ use mathlib.Core.Path.{_≡_}
 use lib.ListN.{length}
 use Rattle.calculus.specs.Verdicts.{Verdict, refused, passed}
 use Rattle.calculus.specs.Run.{End, valued, spent, error, full, Result}
-use Rattle.calculus.specs.File.{operate}
-use Rattle.calculus.specs.Recipes.{bytesOf, fileOf}
+use Rattle.calculus.specs.File.{bytesOf, fileOf, operate}
 use Rattle.text.specs.Decimal.{decimal}
 use Rattle.text.specs.Characters.{characters}
 

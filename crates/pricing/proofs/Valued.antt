@@ -9,15 +9,12 @@ use Rattle.calculus.specs.Words.{words, size}
 use Rattle.calculus.specs.Kinds.{term}
 use Rattle.calculus.specs.Limits.{InRange}
 use Rattle.calculus.specs.Typing.{Typed}
-use Rattle.calculus.specs.Reduction.{next, step}
 use Rattle.calculus.specs.Rules.{Value}
 use Rattle.calculus.specs.Run.{End, valued, spent, error, full, Counts, uncounted, Result, run}
 use Rattle.calculus.proofs.Agreement.{value-step-iff}
-use Rattle.calculus.proofs.Ranges.{OutcomeInRange, step-in-range}
-use Rattle.calculus.proofs.Soundness.{Kept, sound}
 use Rattle.calculus.proofs.Runs.{lastTerm, Ran, at-value, at-limit, at-error, at-full, at-stuck, by-step, run-ran}
 use Rattle.calculus.proofs.Sizes.{tree-length}
-use Rattle.calculus.proofs.Continuing.{leftAt, run-left, run-keeps}
+use Rattle.calculus.proofs.Continuing.{leftAt, run-left, run-fine, run-short}
 use Rattle.engine.specs.Results.{numberOfEnd}
 use Rattle.pricing.specs.Items.{listOf, items}
 use Rattle.pricing.proofs.Listing.{lists}
@@ -31,27 +28,20 @@ ran-valued (at-full q c) h = absurd (omega (arith, ap numberOfEnd h))
 ran-valued (at-stuck q) h = absurd (omega (arith, ap numberOfEnd h))
 ran-valued (by-step q c p) h = ran-valued p h
 
--- Every step keeps range and type.
-abbrev Good : Term ml → Type 0
-Good t = InRange t × Typed [] t (list N)
-
-step-good : (e r : Term ml) → step e ≡ next r → Good e → Good r
-step-good e r q h = (subst OutcomeInRange q (step-in-range e (h .0)), subst (Kept (list N)) q (sound e (list N) (h .1)))
-
 -- A list of numbers in words, as the code meets it.
 abbrev pub Listed : List ℕ → Type 0
 Listed ws = (ns : List ℕ) × (ws ≡ words (listOf ns)) × InRange (listOf ns)
 
-pub value-listed : (v : Term ml) → Value ml v → Good v → Listed (words v)
-value-listed v h g = let e = lists .value-is v h (g .1) in (items v, ap words e, subst InRange e (g .0))
+pub value-listed : (v : Term ml) → Value ml v → InRange v → Typed [] v (list N) → Listed (words v)
+value-listed v h i t = let e = lists .value-is v h t in (items v, ap words e, subst InRange e i)
 
 pub run-listed : (limit cap : ℕ) (e : Term ml) → InRange e → Typed [] e (list N) → run limit cap uncounted e .end ≡ valued
     → Listed (run limit cap uncounted e .left)
 run-listed limit cap e i t h =
     let last = lastTerm limit cap e in
-    let good = run-keeps limit cap e Good (λ e r q c g. step-good e r q g) (i, t) in
+    let fine = run-fine limit cap (list N) e (record { ranged = i; typed = t }) in
     let left : run limit cap uncounted e .left ≡ words last = run-left limit cap uncounted e ∙ ap (λ (x : End). leftAt x last) h in
-    subst Listed (sym left) (value-listed last (ran-valued (run-ran limit cap uncounted e) h) good)
+    subst Listed (sym left) (value-listed last (ran-valued (run-ran limit cap uncounted e) h) (fine .ranged) (fine .typed))
 
 -- The words left are those of a term that fits, or none.
 left-few : (x : End) (t : Term ml) → length (leftAt x t) ≤ size t
@@ -63,5 +53,4 @@ left-few full t = omega (arith, tree-length (term ml) t [])
 pub run-few : (limit cap : ℕ) (e : Term ml) → size e ≤ cap → length (run limit cap uncounted e .left) ≤ cap
 run-few limit cap e h =
     let last = lastTerm limit cap e in
-    let fits : size last ≤ cap = run-keeps limit cap e (λ t. size t ≤ cap) (λ e r q c g. c) h in
-    omega (arith, ap length (run-left limit cap uncounted e), left-few (run limit cap uncounted e .end) last, fits)
+    omega (arith, ap length (run-left limit cap uncounted e), left-few (run limit cap uncounted e .end) last, run-short limit cap e h)

@@ -5,7 +5,8 @@ use mathlib.Core.Path.{_≡_}
 use lib.ListN.{replicate}
 use Rattle.calculus.specs.Verdicts.{refused, passed}
 use Rattle.calculus.specs.Run.{valued, spent, uncounted, ended}
-use Rattle.calculus.specs.Recipes.{bytesOf, fileOf, Allowed, allowed, plenty}
+use Rattle.calculus.specs.File.{bytesOf, fileOf}
+use Rattle.calculus.specs.Recipes.{Allowed, allowed, plenty}
 use Rattle.charges.specs.Prices.{Prices}
 use Rattle.pricing.specs.Pricing.{Bill, uncharged, pricing}
 
