@@ -250,8 +250,8 @@ node-deeper s t hs h n deep k ds = by n deep
         let i = parts-deeper (v .row .parts) (v .parts) hs (v .fits h .2) n (omega (arith, nests s t v h)) k ds in (
           1 + i .0,
           ap (λ (ws : List ℕ). walk nestedDue ws ((s, suc n) ∷ ds)) (v .spelt k)
-          ∙ walk-due s n (word (v .row .kind) (v .operand)) (putTrees (v .row .parts) (v .parts) k) ds (v .row) due
-          ∙ ap (later 1) (i .1),
+              ∙ walk-due s n (word (v .row .kind) (v .operand)) (putTrees (v .row .parts) (v .parts) k) ds (v .row) due
+              ∙ ap (later 1) (i .1),
         )
 
 pub deeper-refused : (s : Sort) (t : Tree s) → TreeInRange s t → levels < nestingTree s t → (p : ℕ) × (inOrder s (putTree s t []) ≡ refused 4 p)

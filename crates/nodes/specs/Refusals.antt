@@ -8,15 +8,19 @@ use Rattle.nodes.specs.declared.refusals.Refusal.the-variants.{Bytes, He
 abbrev at : ℕ → ℕ → Numbers
 at n p = record { number = n; place = p }
 
+-- Without a place.
+abbrev pub plain : ℕ → Numbers
+plain n = at n 0
+
 abbrev pub numbered : Refusal → Numbers
-numbered Bytes = at 1 0
-numbered Header = at 2 0
+numbered Bytes = plain 1
+numbered Header = plain 2
 numbered (Word p) = at 3 p
 numbered (Nesting p) = at 4 p
 numbered (Variable p) = at 5 p
 numbered (Untyped p) = at 6 p
 numbered (Mistyped p) = at 7 p
-numbered Capacity = at 8 0
+numbered Capacity = plain 8
 
 abbrev pub numberOf : Refusal → ℕ
 numberOf r = numbered r .number

@@ -1,5 +1,5 @@
 ghost use mathlib.Core.Path.{_≡_};
-ghost use Rattle.nodes.specs.Refusals.{numbered, numberOf, placeOf};
+ghost use Rattle.nodes.specs.Refusals.{plain, numbered, numberOf, placeOf};
 
 // Why a recipe is refused, in the order of document 01's table; specs/Refusals.antt gives each its number and its place in the file.
 // Untyped and Mistyped carry their places for a later request; they are 0 until then.
@@ -18,6 +18,16 @@ pub enum Refusal {
 pub struct Numbers {
     pub number: u32,
     pub place: usize,
+}
+
+// A refusal that points at nothing: its place is 0. For the operations that have refusals of their own.
+pub fn plain(number: u32) -> Numbers
+    ensures { λ r. ⌜ r ≡ plain number ⌝ }
+{
+    Numbers {
+        number: number,
+        place: 0,
+    }
 }
 
 fn number(r: Refusal) -> u32

@@ -3,11 +3,9 @@ use Prim.Native.Nat.{ℕ}
 use Rattle.calculus.specs.Verdicts.{Verdict, refused}
 use Rattle.nodes.specs.declared.refusals.Numbers.{Numbers}
 use Rattle.nodes.specs.Refusals as nodes
+use Rattle.nodes.specs.Refusals.{plain}
 use Rattle.pricing.specs.declared.Unpriced.{Unpriced}
 use Rattle.pricing.specs.declared.Unpriced.the-variants.{Prices, Recipe, Declared, Items}
-
-abbrev pub plain : ℕ → Numbers
-plain n = record { number = n; place = 0 }
 
 abbrev pub numbered : Unpriced → Numbers
 numbered Prices = plain 11

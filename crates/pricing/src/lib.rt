@@ -15,9 +15,10 @@ use engine::runs::begin;
 use file::Opened;
 use nodes::refusals::Numbers;
 use nodes::refusals::Refusal;
+use nodes::refusals::plain;
 ghost use mathlib.Core.Path.{_≡_};
 ghost use Rattle.engine.specs.Lent.{lent};
-ghost use Rattle.pricing.specs.Refusals.{plain, numbered, refusal};
+ghost use Rattle.pricing.specs.Refusals.{numbered, refusal};
 ghost use Rattle.pricing.specs.Answered.{noCharges, uncharged, Answered, Pricing, returned};
 ghost use Rattle.pricing.specs.Parts.{Declares, Short, AtValue, AtEnd, OfNumbers, Runs, Recipes, Bills};
 
@@ -38,16 +39,6 @@ pub enum Outcome {
 pub struct Priced {
     pub outcome: Outcome,
     pub charges: Charges,
-}
-
-// "each with place 0".
-fn plain(number: u32) -> Numbers
-    ensures { λ r. ⌜ r ≡ plain number ⌝ }
-{
-    Numbers {
-        number: number,
-        place: 0,
-    }
 }
 
 // A refusal's number, and its place in the file.
