@@ -1,3 +1,5 @@
 pub mod Bytes
 pub mod Saving
+pub mod Laws
+pub mod Going
 pub mod Files

@@ -1,0 +1,136 @@
+-- Running, saving and running again is one run, and the save of such a run is refused only by 4, 12 or 13. Assumes nothing.
+use Prim.Native.Nat.{ℕ, zero, suc, _+_, _≤_}
+use mathlib.Core.Bool.{Bool, true, false}
+use mathlib.Core.List.{List, []}
+use mathlib.Core.Logic.{_⊎_, inl, inr}
+use mathlib.Core.Option.{Option·some-injective}
+use mathlib.Core.Path.{_≡_, refl, sym, ap, _∙_, subst}
+use native.Mathlib.Omega.{arith}
+use lib.Dec.{leb}
+use lib.ListN.{length}
+use borrow.Author.Tests.{leb-true, leb-false}
+use Rattle.calculus.specs.Trees.{Ty, ml, Term}
+use Rattle.calculus.specs.Words.{wordsTy, words, size}
+use Rattle.calculus.specs.Kinds.{Sort, type, term, Tree, putTree}
+use Rattle.calculus.specs.Limits.{nestingTy, nesting}
+use Rattle.calculus.specs.Verdicts.{Verdict, refused, passed}
+use Rattle.calculus.specs.Reading.{readTree}
+use Rattle.calculus.specs.Run.{End, valued, spent, error, full, Open, uncounted, Result, run, capacity}
+use Rattle.calculus.specs.Counting.{later}
+use Rattle.calculus.specs.File.{Recipe, judged, operate}
+use Rattle.calculus.specs.Accepted.{Accepted}
+use Rattle.calculus.proofs.Verdicts.{not-both}
+use Rattle.calculus.proofs.Rows.{TreeInRange}
+use Rattle.calculus.proofs.Reading.{whole-tree}
+use Rattle.calculus.proofs.Typing.{typed-scoped}
+use Rattle.calculus.proofs.Nesting.{Ordered, ordered-passes, deeper-refused}
+use Rattle.calculus.proofs.Runs.{lastTerm}
+use Rattle.calculus.proofs.Continuing.{leftAt, run-left, run-again, Fine, run-fine, run-short}
+use Rattle.calculus.proofs.Checks.{accepted-once, operate-iff, judged-iff}
+use Rattle.saving.specs.Saving.{saving}
+use Rattle.saving.specs.Laws.{FileOf, Paused, GoesOn}
+use Rattle.saving.proofs.Laws.{exactly}
+
+left-open : (x : End) (t : Term ml) → Open x → leftAt x t ≡ words t
+left-open valued t f = absurd f
+left-open spent t f = refl
+left-open error t f = absurd f
+left-open full t f = refl
+
+-- Of the words of a term in range and of the declared type, conditions 3 to 7 give nothing but 4.
+judged-fine : (τ : Ty) (t : Term ml) (start : ℕ) → nestingTy τ ≤ 256 → Fine τ t → (n p : ℕ) → judged (wordsTy τ) (words t) start ≡ refused n p → n ≡ 4
+judged-fine τ t start h g n p q = by (leb (nesting t) 256) refl
+  where
+    types : Ordered type (wordsTy τ)
+    types = record { tree = τ; spelt = refl; ranged = tt; nests = h }
+
+    number : {a b c d : ℕ} → _≡_ {A = Verdict Recipe} (refused a b) (refused c d) → a ≡ c
+    number e = cc
+
+    by : (b : Bool) → leb (nesting t) 256 ≡ b → n ≡ 4
+    by true e =
+        let terms : Ordered (term ml) (words t) = record { tree = t; spelt = refl; ranged = g .ranged; nests = leb-true (nesting t) 256 e } in
+        let j = judged-iff (wordsTy τ) (words t) start (τ, t) .1 (types, terms, typed-scoped [] t τ (g .typed), g .typed, refl) in
+        absurd (not-both n p (τ, t) (sym q ∙ j))
+    by false e =
+        let i = deeper-refused (term ml) t (g .ranged) (leb-false (nesting t) 256 e) in
+        let j : judged (wordsTy τ) (words t) start ≡ refused 4 (start + i .0) = rw (ordered-passes type (wordsTy τ) types, i .1) in
+        number (sym q ∙ j)
+
+-- Words are those of one tree in range.
+one-tree : (s : Sort) (t u : Tree s) → TreeInRange s t → TreeInRange s u → putTree s t [] ≡ putTree s u [] → t ≡ u
+one-tree s t u i j q = Option·some-injective t u (sym (whole-tree s t i) ∙ ap (readTree s) q ∙ whole-tree s u j)
+
+module _ (bytes : List ℕ) (k first second : ℕ) (τ : Ty) (r : Result) (h : Paused bytes k first second τ r) where
+  abbrev cap : ℕ
+  cap = capacity first second
+
+  -- The run is that of the recipe's term, which fits; what it left are the words of its last term.
+  record Left : Type 0 where
+    begun : Term ml
+    accepted : Accepted bytes τ begun
+    fits : size begun ≤ cap
+    is : r ≡ run k cap uncounted begun
+    words-are : r .left ≡ words (lastTerm k cap begun)
+
+  left : Left
+  left =
+      let x = operate-iff bytes k first second r .0 (h .ran) in
+      let same : _≡_ {A = Recipe} (x .0, x .1) (τ, h .term) = accepted-once bytes (x .0, x .1) (τ, h .term) (x .2) (h .accepted) in
+      record {
+        begun = x .1;
+        accepted = subst (λ (σ : Ty). Accepted bytes σ (x .1)) (ap (λ (y : Recipe). y .0) same) (x .2);
+        fits = x .3;
+        is = x .4;
+        words-are =
+            ap (λ (y : Result). y .left) (x .4) ∙ run-left k cap uncounted (x .1)
+            ∙ left-open (run k cap uncounted (x .1) .end) (lastTerm k cap (x .1)) (subst (λ (y : Result). Open (y .end)) (x .4) (h .goes));
+      }
+
+  abbrev e : Term ml
+  e = left .begun
+
+  abbrev t : Term ml
+  t = lastTerm k cap e
+
+  fine : Fine τ t
+  fine = run-fine k cap τ e (record { ranged = left .accepted .ranged; typed = left .accepted .typed })
+
+  only-by : (room n p : ℕ) → saving (wordsTy τ) (r .left) room ≡ refused n p → (n ≡ 4) ⊎ (n ≡ 12) ⊎ (n ≡ 13)
+  only-by room n p q =
+      let types = wordsTy τ in
+      let terms = r .left in
+      let x = exactly types terms room in
+      by (x .no-other n p q) (λ i. x .others n p i .0 q .1)
+    where
+      by : ((3 ≤ n) × (n ≤ 7) × (p ≤ 4 + length (wordsTy τ) + length (r .left))) ⊎ (((n ≡ 12) ⊎ (n ≡ 13)) × (p ≡ 0))
+          → (n ≤ 7 → judged (wordsTy τ) (r .left) (4 + length (wordsTy τ)) ≡ refused n p) → (n ≡ 4) ⊎ (n ≡ 12) ⊎ (n ≡ 13)
+      by (inl i) j = inl (judged-fine τ t (4 + length (wordsTy τ)) (left .accepted .nestsTy) fine n p (rw (left .words-are) at j (i .1)))
+      by (inr i) j = inr (i .0)
+
+  -- The file that was saved holds the declared type and the last term.
+  saved : (file : List ℕ) → FileOf (wordsTy τ) (r .left) file → Accepted file τ t
+  saved file f =
+      let p = one-tree type (f .declared) τ tt tt (sym (f .types-are)) in
+      let q = one-tree (term ml) (f .term) t (f .accepted .ranged) (fine .ranged) (sym (f .terms-are) ∙ left .words-are) in
+      subst (λ (u : Term ml). Accepted file τ u) q (subst (λ (σ : Ty). Accepted file σ (f .term)) p (f .accepted))
+
+  as-one : (room : ℕ) (file : List ℕ) → saving (wordsTy τ) (r .left) room ≡ passed file → (j : ℕ) → 1 ≤ j
+      → (s : Result) × (operate file j first second ≡ passed s) × (operate bytes (k + j) first second ≡ passed (later (r .made) s))
+  as-one room file q zero i = absurd (omega (arith, i))
+  as-one room file q (suc j) i =
+      let f = exactly (wordsTy τ) (r .left) room .saves file .0 q .0 in
+      let s = run (suc j) cap uncounted t in
+      let o = subst (λ (y : Result). Open (y .end)) (left .is) (h .goes) in (
+        s,
+        operate-iff file (suc j) first second s .1 (τ, t, saved file f, run-short k cap e (left .fits), refl),
+        operate-iff bytes (k + suc j) first second (later (r .made) s) .1
+            (τ, e, left .accepted, left .fits, ap (λ (y : Result). later (y .made) s) (left .is) ∙ sym (run-again k j cap uncounted e o)),
+      )
+
+pub goes-on : GoesOn
+goes-on =
+    record {
+      as-one = λ bytes k first second τ r h room file q j i. as-one bytes k first second τ r h room file q j i;
+      only-by = λ bytes k first second τ r h room n p q. only-by bytes k first second τ r h room n p q;
+    }

@@ -1,0 +1,221 @@
+-- Of which words a file is made, and by what the others are refused. Assumes nothing.
+use Prim.Native.Nat.{ℕ, _+_, _*_, _≤_, _<_}
+use mathlib.Core.Bool.{Bool, true, false}
+use mathlib.Core.List.{List, []}
+use mathlib.Core.Logic.{_↔_, _⊎_, inl, inr}
+use mathlib.Core.Path.{_≡_, refl, sym, ap, _∙_, subst}
+use native.Mathlib.Omega.{arith}
+use lib.Dec.{leb}
+use lib.ListN.{length}
+use borrow.Author.Tests.{leb-true, leb-false, le-leb, lt-leb}
+use Rattle.calculus.specs.Trees.{Ty, ml, Term}
+use Rattle.calculus.specs.Words.{wordsTy, words, size, sizeTy}
+use Rattle.calculus.specs.Kinds.{type, term}
+use Rattle.calculus.specs.Limits.{nestingTy}
+use Rattle.calculus.specs.Verdicts.{Verdict, refused, passed, andThen, unless}
+use Rattle.calculus.specs.Reading.{walk, inOrder}
+use Rattle.calculus.specs.File.{wordsOf, bytesOf, fileOf, Recipe, judged, checkWords, check, isSize, isHeader}
+use Rattle.calculus.specs.Accepted.{fileWords, Accepted}
+use Rattle.calculus.proofs.Verdicts.{not-both, passed-injective}
+use Rattle.calculus.proofs.Sizes.{tree-append, tree-length}
+use Rattle.calculus.proofs.Views.{view, sized}
+use Rattle.calculus.proofs.Nesting.{Ordered, ordered-passes}
+use Rattle.calculus.proofs.Files.{size-iff, header-iff}
+use Rattle.calculus.proofs.Checks.{judged-iff}
+use Rattle.calculus.proofs.Refusing.{judged-refused}
+use Rattle.saving.specs.Saving.{fileBytes, saving}
+use Rattle.saving.specs.Laws.{FileOf, Exactly, Judges}
+use Rattle.saving.proofs.Bytes.{words-back, file-length, file-bytes, types-part, terms-part}
+
+types-length : (τ : Ty) → length (wordsTy τ) ≡ sizeTy τ
+types-length τ = omega (arith, tree-length type τ [])
+
+terms-length : (e : Term ml) → length (words e) ≡ size e
+terms-length e = omega (arith, tree-length (term ml) e [])
+
+-- The file of the words of a type and of a term, in words.
+file-words : (τ : Ty) (e : Term ml) → fileOf (wordsTy τ) (words e) ≡ fileWords τ e
+file-words τ e = rw (types-length τ, terms-length e, tree-append type τ [] (words e))
+
+file-of : (types terms : List ℕ) (τ : Ty) (e : Term ml) → types ≡ wordsTy τ → terms ≡ words e → fileOf types terms ≡ fileWords τ e
+file-of types terms τ e p q = rw (p, q) (file-words τ e)
+
+module _ (types terms : List ℕ) where
+  abbrev file : List ℕ
+  file = bytesOf (fileOf types terms)
+
+  abbrev bytes : ℕ
+  bytes = fileBytes (length types) (length terms)
+
+  abbrev start : ℕ
+  start = 4 + length types
+
+  -- Words that are judged well make a file.
+  judged-file : (x : Recipe) → bytes ≤ 16384 → judged types terms start ≡ passed x → FileOf types terms file
+  judged-file x few q =
+      let j = judged-iff types terms start x .0 q in
+      let t = j .0 in
+      let e = j .1 in
+      let n = file-bytes types terms in
+      let τ-long : length types ≡ sizeTy (t .tree) = ap length (t .spelt) ∙ types-length (t .tree) in
+      let e-long : length terms ≡ size (e .tree) = ap length (e .spelt) ∙ terms-length (e .tree) in
+      record {
+        bytes-are = refl;
+        declared = t .tree;
+        term = e .tree;
+        types-are = t .spelt;
+        terms-are = e .spelt;
+        accepted =
+            record {
+              least = omega (arith, n, τ-long, e-long, sized (view type (t .tree)), sized (view (term ml) (e .tree)));
+              most = omega (arith, n, few);
+              whole = omega (arith, n);
+              spelt = words-back (fileOf types terms) ∙ file-of types terms (t .tree) (e .tree) (t .spelt) (e .spelt);
+              nestsTy = t .nests;
+              nests = e .nests;
+              ranged = e .ranged;
+              closed = j .2;
+              typed = j .3;
+            };
+      }
+
+  -- Words of a file are judged well.
+  file-judged : (bs : List ℕ) (f : FileOf types terms bs) → judged types terms start ≡ passed (f .declared, f .term)
+  file-judged bs f =
+      let a = f .accepted in
+      let t : Ordered type types = record { tree = f .declared; spelt = f .types-are; ranged = tt; nests = a .nestsTy } in
+      let e : Ordered (term ml) terms = record { tree = f .term; spelt = f .terms-are; ranged = a .ranged; nests = a .nests } in
+      judged-iff types terms start (f .declared, f .term) .1 (t, e, a .closed, a .typed, refl)
+
+  file-few : (bs : List ℕ) → FileOf types terms bs → bytes ≤ 16384
+  file-few bs f = omega (arith, f .accepted .most, ap length (f .bytes-are), file-bytes types terms)
+
+  -- What comes of the words handed in, and of a buffer of so many bytes.
+  data Way (room : ℕ) : Verdict (List ℕ) → Type 0 where
+    long : 16384 < bytes → Way room (refused 12 0)
+    out : (n p : ℕ) → bytes ≤ 16384 → judged types terms start ≡ refused n p → (3 ≤ n) × (n ≤ 7) × (p ≤ 4 + length types + length terms)
+        → Way room (refused n p)
+    short : FileOf types terms file → room < bytes → Way room (refused 13 0)
+    made : FileOf types terms file → bytes ≤ room → Way room (passed file)
+
+  way : (room : ℕ) → Way room (saving types terms room)
+  unfolding saving
+  way room = by (leb bytes 16384) refl
+    where
+      fitting : FileOf types terms file → (b : Bool) → leb bytes room ≡ b → Way room (unless b 13 0 (passed file))
+      fitting f true e = made f (leb-true bytes room e)
+      fitting f false e = short f (leb-false bytes room e)
+
+      judging : bytes ≤ 16384 → (v : Verdict Recipe) → judged types terms start ≡ v
+          → Way room (andThen v (λ x. unless (leb bytes room) 13 0 (passed file)))
+      judging few (refused n p) e =
+          out n p few e (judged-refused types terms start (4 + length types + length terms) n p (omega arith) (omega arith) e)
+      judging few (passed x) e = fitting (judged-file x few e) (leb bytes room) refl
+
+      by : (b : Bool) → leb bytes 16384 ≡ b
+          → Way room (unless b 12 0 (andThen (judged types terms start) (λ x. unless (leb bytes room) 13 0 (passed file))))
+      by true e = judging (leb-true bytes 16384 e) (judged types terms start) refl
+      by false e = long (leb-false bytes 16384 e)
+
+  -- Refusals of other numbers are others.
+  numbers : {a b c d : ℕ} → _≡_ {A = Verdict (List ℕ)} (refused a b) (refused c d) → (a ≡ c) × (b ≡ d)
+  numbers e = (cc, cc)
+
+  module _ (room : ℕ) where
+    saves : (bs : List ℕ) → (saving types terms room ≡ passed bs) ↔ (FileOf types terms bs × (length bs ≤ room))
+    unfolding saving
+    saves bs = (λ q. by (way room) q, λ h. back (h .0) (h .1))
+      where
+        by : {v : Verdict (List ℕ)} → Way room v → v ≡ passed bs → FileOf types terms bs × (length bs ≤ room)
+        by (long h) q = absurd (not-both 12 0 bs q)
+        by (out n p h e i) q = absurd (not-both n p bs q)
+        by (short f h) q = absurd (not-both 13 0 bs q)
+        by (made f h) q =
+            let e = passed-injective file bs q in
+            subst (λ (l : List ℕ). FileOf types terms l × (length l ≤ room)) e (f, omega (arith, h, file-bytes types terms))
+
+        back : FileOf types terms bs → length bs ≤ room → saving types terms room ≡ passed bs
+        back f h =
+            rw (le-leb bytes 16384 (file-few bs f), file-judged bs f, le-leb bytes room (omega (arith, h, ap length (f .bytes-are), file-bytes types terms)))
+            (ap passed (sym (f .bytes-are)))
+
+    twelve : (saving types terms room ≡ refused 12 0) ↔ (16384 < bytes)
+    unfolding saving
+    twelve = (λ q. by (way room) q, back)
+      where
+        by : {v : Verdict (List ℕ)} → Way room v → v ≡ refused 12 0 → 16384 < bytes
+        by (long h) q = h
+        by (out n p h e i) q = absurd (omega (arith, i .1, numbers q .0))
+        by (short f h) q = absurd (omega (arith, numbers q .0))
+        by (made f h) q = absurd (not-both 12 0 file (sym q))
+
+        back : 16384 < bytes → saving types terms room ≡ refused 12 0
+        back h = rw (lt-leb bytes 16384 h)
+
+    others : (n p : ℕ) → n ≤ 7 → (saving types terms room ≡ refused n p) ↔ ((bytes ≤ 16384) × (judged types terms start ≡ refused n p))
+    unfolding saving
+    others n p small = (λ q. by (way room) q, λ h. back (h .0) (h .1))
+      where
+        by : {v : Verdict (List ℕ)} → Way room v → v ≡ refused n p → (bytes ≤ 16384) × (judged types terms start ≡ refused n p)
+        by (long h) q = absurd (omega (arith, small, numbers q .0))
+        by (out m o h e i) q = let z = numbers q in (h, e ∙ rw (z .0, z .1))
+        by (short f h) q = absurd (omega (arith, small, numbers q .0))
+        by (made f h) q = absurd (not-both n p file (sym q))
+
+        back : bytes ≤ 16384 → judged types terms start ≡ refused n p → saving types terms room ≡ refused n p
+        back h e = rw (le-leb bytes 16384 h, e)
+
+    thirteen : (saving types terms room ≡ refused 13 0) ↔ (FileOf types terms file × (room < bytes))
+    unfolding saving
+    thirteen = (λ q. by (way room) q, λ h. back (h .0) (h .1))
+      where
+        by : {v : Verdict (List ℕ)} → Way room v → v ≡ refused 13 0 → FileOf types terms file × (room < bytes)
+        by (long h) q = absurd (omega (arith, numbers q .0))
+        by (out n p h e i) q = absurd (omega (arith, i .1, numbers q .0))
+        by (short f h) q = (f, h)
+        by (made f h) q = absurd (not-both 13 0 file (sym q))
+
+        back : FileOf types terms file → room < bytes → saving types terms room ≡ refused 13 0
+        back f h = rw (le-leb bytes 16384 (file-few file f), file-judged file f, lt-leb bytes room h)
+
+    no-other : (n p : ℕ) → saving types terms room ≡ refused n p
+        → ((3 ≤ n) × (n ≤ 7) × (p ≤ 4 + length types + length terms)) ⊎ (((n ≡ 12) ⊎ (n ≡ 13)) × (p ≡ 0))
+    no-other n p q = by (way room) q
+      where
+        by : {v : Verdict (List ℕ)} → Way room v → v ≡ refused n p
+            → ((3 ≤ n) × (n ≤ 7) × (p ≤ 4 + length types + length terms)) ⊎ (((n ≡ 12) ⊎ (n ≡ 13)) × (p ≡ 0))
+        by (long h) q = let z = numbers q in inr (inl (sym (z .0)), sym (z .1))
+        by (out m o h e i) q = let z = numbers q in inl (omega (arith, i .0, z .0), omega (arith, i .1, z .0), omega (arith, i .2, z .1))
+        by (short f h) q = let z = numbers q in inr (inr (sym (z .0)), sym (z .1))
+        by (made f h) q = absurd (not-both n p file (sym q))
+
+    pub exactly : Exactly types terms room
+    exactly = record { saves = saves; twelve = twelve; others = others; thirteen = thirteen; no-other = no-other }
+
+  -- The check of the file to be written.
+  as-checked : 1 ≤ length types → 1 ≤ length terms → bytes ≤ 16384 → check file ≡ judged types terms start
+  unfolding check checkWords
+  as-checked a b c =
+      let n = file-bytes types terms in
+      let h : isHeader (fileOf types terms) ≡ true = header-iff (fileOf types terms) .1 ((((a, refl), b), refl), omega (arith, file-length types terms)) in
+      rw (
+        size-iff (length file) .1 ((omega (arith, n), omega (arith, n)), omega (arith, n)),
+        words-back (fileOf types terms),
+        h,
+        types-part types terms,
+        terms-part types terms,
+      )
+
+-- Where type or term is empty the words run out.
+no-type : (terms : List ℕ) (from : ℕ) → judged [] terms from ≡ refused 3 4
+unfolding inOrder walk
+no-type terms from = refl
+
+no-term : (τ : Ty) (from : ℕ) → nestingTy τ ≤ 256 → judged (wordsTy τ) [] from ≡ refused 3 from
+unfolding inOrder walk
+no-term τ from h =
+    let t : Ordered type (wordsTy τ) = record { tree = τ; spelt = refl; ranged = tt; nests = h } in
+    rw (ordered-passes type (wordsTy τ) t) (ap (refused 3) (omega arith))
+
+pub judges : Judges
+judges = record { as-checked = as-checked; no-type = no-type; no-term = no-term }
