@@ -1,3 +1,4 @@
 pub mod Packing
 pub mod Numbering
 pub mod Billing
+pub mod Filing

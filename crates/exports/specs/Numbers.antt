@@ -3,7 +3,7 @@ use Prim.Native.Nat.{ℕ, _+_, _*_}
 use mathlib.Core.List.{List}
 use lib.ListN.{length}
 use Rattle.calculus.specs.Verdicts.{Verdict, refused, passed, andThen}
-use Rattle.calculus.specs.File.{firstAfter, secondAfter}
+use Rattle.calculus.specs.File.{firstAfter, secondAfter, padded}
 use Rattle.engine.specs.Results.{numberOfEnd, Line, lineOf, told}
 use Rattle.engine.specs.Lent.{Lent, operated}
 use Rattle.engine.specs.declared.ends.Report.{Report}
@@ -11,8 +11,11 @@ use Rattle.charges.specs.Prices.{Prices}
 use Rattle.charges.specs.declared.Charges.{Charges}
 use Rattle.pricing.specs.Pricing.{Bill}
 use Rattle.pricing.specs.Answered.{chargesOf, ran, priced}
+use Rattle.saving.specs.Saving.{saving}
+use Rattle.saving.specs.Answered.{writtenBy}
 use Rattle.exports.specs.declared.runs.RecipeRun.{RecipeRun}
 use Rattle.exports.specs.declared.prices.RecipePriced.{RecipePriced}
+use Rattle.exports.specs.declared.saves.RecipeSaved.{RecipeSaved}
 
 -- 0 for accepted, else the refusal's number + 256 × its place.
 abbrev pub checkNumber : Verdict (Unit {0}) → ℕ
@@ -71,3 +74,14 @@ pricedFirstOf prices l = firstAfter (length (l .first)) (ran (priced prices l))
 
 abbrev pub pricedSecondOf : Prices → Lent → List ℕ
 pricedSecondOf prices l = secondAfter (length (l .second)) (ran (priced prices l))
+
+-- The numbers of a save: those of a refusal, or how many bytes the file has; and what it leaves in a buffer of so many bytes.
+abbrev pub savedNumbers : Verdict ℕ → RecipeSaved
+savedNumbers (refused n p) = record { refusal = n; place = p; bytes = 0 }
+savedNumbers (passed n) = record { refusal = 0; place = 0; bytes = n }
+
+abbrev pub savedNumbersOf : List ℕ → List ℕ → ℕ → RecipeSaved
+savedNumbersOf types terms room = savedNumbers (andThen (saving types terms room) (λ file. passed (length file)))
+
+abbrev pub savedBytesOf : List ℕ → List ℕ → ℕ → List ℕ
+savedBytesOf types terms room = padded room (writtenBy (saving types terms room))

@@ -2,6 +2,7 @@
 
 pub mod prices;
 pub mod runs;
+pub mod saves;
 
 use checker::Checked;
 use nodes::refusals::Refusal;

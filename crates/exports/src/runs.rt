@@ -26,7 +26,7 @@ pub struct RecipeRun {
     pub others: u32,
 }
 
-fn narrow(n: usize) -> u32
+pub fn narrow(n: usize) -> u32
     requires { ⌜ n ≤ 268435456 ⌝ }
     ensures { λ r. ⌜ r ≡ n ⌝ }
 {

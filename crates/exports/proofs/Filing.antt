@@ -1,0 +1,54 @@
+-- The numbers of a save fit 32 bits, and are those of the specification's. Assumes nothing.
+use Prim.Native.Nat.{ℕ, _+_, _≤_}
+use mathlib.Core.List.{List}
+use mathlib.Core.Logic.{_⊎_, inl, inr}
+use mathlib.Core.Path.{_≡_, refl, sym, ap, _∙_}
+use native.Mathlib.Omega.{arith}
+use lib.ListN.{length}
+use Rattle.calculus.specs.Verdicts.{Verdict, refused, passed, andThen}
+use Rattle.calculus.proofs.Verdicts.{not-both, passed-injective}
+use Rattle.saving.specs.Saving.{fileBytes, saving}
+use Rattle.saving.specs.Refusals.{numberOf, placeOf, refusal}
+use Rattle.saving.specs.Answered.{spoken}
+use Rattle.saving.specs.declared.Unsaved.{Unsaved}
+use Rattle.saving.specs.declared.Saved.{Saved}
+use Rattle.saving.specs.declared.Saved.the-variants.{Refused, File}
+use Rattle.saving.proofs.Laws.{exactly}
+use Rattle.exports.specs.declared.saves.RecipeSaved.{RecipeSaved}
+use Rattle.exports.specs.Numbers.{savedNumbers, savedNumbersOf}
+
+abbrev lengthOf : Verdict (List ℕ) → Verdict ℕ
+lengthOf v = andThen v (λ file. passed (length file))
+
+-- What a verdict without its bytes came from.
+refused-by : (v : Verdict (List ℕ)) (u : Unsaved) → refusal u ≡ lengthOf v → v ≡ refusal u
+refused-by (refused n p) u q = let z : _≡_ {A = Verdict (List ℕ)} (refused n p) (refusal u) = cc in z
+refused-by (passed file) u q = absurd (not-both (numberOf u) (placeOf u) (length file) q)
+
+passed-by : (v : Verdict (List ℕ)) (n : ℕ) → passed n ≡ lengthOf v → (file : List ℕ) × (v ≡ passed file) × (n ≡ length file)
+passed-by (refused m p) n q = absurd (not-both m p n (sym q))
+passed-by (passed file) n q = (file, refl, passed-injective n (length file) q)
+
+module _ (types terms : List ℕ) (room : ℕ) (a : Saved) (h : spoken a ≡ lengthOf (saving types terms room)) where
+  -- The place of a refusal, and the length of a file.
+  pub save-place : (u : Unsaved) → a ≡ Refused u → placeOf u ≤ 4096
+  save-place u q =
+      let x = exactly types terms room in
+      let r = refused-by (saving types terms room) u (sym (ap spoken q) ∙ h) in
+      by (x .no-other (numberOf u) (placeOf u) r) (λ i. x .others (numberOf u) (placeOf u) i .0 r .0)
+    where
+      by : ((3 ≤ numberOf u) × (numberOf u ≤ 7) × (placeOf u ≤ 4 + length types + length terms))
+          ⊎ (((numberOf u ≡ 12) ⊎ (numberOf u ≡ 13)) × (placeOf u ≡ 0))
+          → (numberOf u ≤ 7 → fileBytes (length types) (length terms) ≤ 16384)
+          → placeOf u ≤ 4096
+      by (inl i) few = omega (arith, i .2, few (i .1))
+      by (inr i) few = omega (arith, i .1)
+
+  pub save-bytes : (n : ℕ) → a ≡ File n → n ≤ 16384
+  save-bytes n q =
+      let f = passed-by (saving types terms room) n (sym (ap spoken q) ∙ h) in
+      omega (arith, f .2, exactly types terms room .saves (f .0) .0 (f .1) .0 .accepted .most)
+
+  -- Either case of an answer.
+  pub saved-as : (v : Verdict ℕ) (x : RecipeSaved) → spoken a ≡ v → x ≡ savedNumbers v → x ≡ savedNumbersOf types terms room
+  saved-as v x q e = e ∙ ap savedNumbers (sym q ∙ h)
