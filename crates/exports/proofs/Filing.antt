@@ -2,32 +2,20 @@
 use Prim.Native.Nat.{ℕ, _+_, _≤_}
 use mathlib.Core.List.{List}
 use mathlib.Core.Logic.{_⊎_, inl, inr}
-use mathlib.Core.Path.{_≡_, refl, sym, ap, _∙_}
+use mathlib.Core.Path.{_≡_, sym, ap, _∙_}
 use native.Mathlib.Omega.{arith}
 use lib.ListN.{length}
-use Rattle.calculus.specs.Verdicts.{Verdict, refused, passed, andThen}
-use Rattle.calculus.proofs.Verdicts.{not-both, passed-injective}
+use Rattle.calculus.specs.Verdicts.{Verdict}
 use Rattle.saving.specs.Saving.{fileBytes, saving}
-use Rattle.saving.specs.Refusals.{numberOf, placeOf, refusal}
-use Rattle.saving.specs.Answered.{spoken}
+use Rattle.saving.specs.Refusals.{numberOf, placeOf}
+use Rattle.saving.specs.Answered.{spoken, lengthOf}
 use Rattle.saving.specs.declared.Unsaved.{Unsaved}
 use Rattle.saving.specs.declared.Saved.{Saved}
 use Rattle.saving.specs.declared.Saved.the-variants.{Refused, File}
+use Rattle.saving.proofs.Saving.{refused-by, passed-by}
 use Rattle.saving.proofs.Laws.{exactly}
 use Rattle.exports.specs.declared.saves.RecipeSaved.{RecipeSaved}
 use Rattle.exports.specs.Numbers.{savedNumbers, savedNumbersOf}
-
-abbrev lengthOf : Verdict (List ℕ) → Verdict ℕ
-lengthOf v = andThen v (λ file. passed (length file))
-
--- What a verdict without its bytes came from.
-refused-by : (v : Verdict (List ℕ)) (u : Unsaved) → refusal u ≡ lengthOf v → v ≡ refusal u
-refused-by (refused n p) u q = let z : _≡_ {A = Verdict (List ℕ)} (refused n p) (refusal u) = cc in z
-refused-by (passed file) u q = absurd (not-both (numberOf u) (placeOf u) (length file) q)
-
-passed-by : (v : Verdict (List ℕ)) (n : ℕ) → passed n ≡ lengthOf v → (file : List ℕ) × (v ≡ passed file) × (n ≡ length file)
-passed-by (refused m p) n q = absurd (not-both m p n (sym q))
-passed-by (passed file) n q = (file, refl, passed-injective n (length file) q)
 
 module _ (types terms : List ℕ) (room : ℕ) (a : Saved) (h : spoken a ≡ lengthOf (saving types terms room)) where
   -- The place of a refusal, and the length of a file.

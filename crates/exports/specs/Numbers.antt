@@ -12,7 +12,7 @@ use Rattle.charges.specs.declared.Charges.{Charges}
 use Rattle.pricing.specs.Pricing.{Bill}
 use Rattle.pricing.specs.Answered.{chargesOf, ran, priced}
 use Rattle.saving.specs.Saving.{saving}
-use Rattle.saving.specs.Answered.{writtenBy}
+use Rattle.saving.specs.Answered.{lengthOf, writtenBy}
 use Rattle.exports.specs.declared.runs.RecipeRun.{RecipeRun}
 use Rattle.exports.specs.declared.prices.RecipePriced.{RecipePriced}
 use Rattle.exports.specs.declared.saves.RecipeSaved.{RecipeSaved}
@@ -81,7 +81,7 @@ savedNumbers (refused n p) = record { refusal = n; place = p; bytes = 0 }
 savedNumbers (passed n) = record { refusal = 0; place = 0; bytes = n }
 
 abbrev pub savedNumbersOf : List ℕ → List ℕ → ℕ → RecipeSaved
-savedNumbersOf types terms room = savedNumbers (andThen (saving types terms room) (λ file. passed (length file)))
+savedNumbersOf types terms room = savedNumbers (lengthOf (saving types terms room))
 
 abbrev pub savedBytesOf : List ℕ → List ℕ → ℕ → List ℕ
 savedBytesOf types terms room = padded room (writtenBy (saving types terms room))

@@ -1,7 +1,7 @@
 -- Of which words a file is made, and by what the others are refused. Assumes nothing.
-use Prim.Native.Nat.{ℕ, _+_, _*_, _≤_, _<_}
+use Prim.Native.Nat.{ℕ, _+_, _*_, _/_, _%_, _≤_, _<_}
 use mathlib.Core.Bool.{Bool, true, false}
-use mathlib.Core.List.{List, []}
+use mathlib.Core.List.{List, [], _∷_}
 use mathlib.Core.Logic.{_↔_, _⊎_, inl, inr}
 use mathlib.Core.Path.{_≡_, refl, sym, ap, _∙_, subst}
 use native.Mathlib.Omega.{arith}
@@ -24,7 +24,7 @@ use Rattle.calculus.proofs.Files.{size-iff, header-iff}
 use Rattle.calculus.proofs.Checks.{judged-iff}
 use Rattle.calculus.proofs.Refusing.{judged-refused}
 use Rattle.saving.specs.Saving.{fileBytes, saving}
-use Rattle.saving.specs.Laws.{FileOf, Exactly, Judges}
+use Rattle.saving.specs.Laws.{FileOf, Exactly, Judges, Bytes, Resaves}
 use Rattle.saving.proofs.Bytes.{words-back, file-length, file-bytes, types-part, terms-part}
 
 types-length : (τ : Ty) → length (wordsTy τ) ≡ sizeTy τ
@@ -219,3 +219,34 @@ no-term τ from h =
 
 pub judges : Judges
 judges = record { as-checked = as-checked; no-type = no-type; no-term = no-term }
+
+-- The bytes of words that were read.
+bytes-back : (bs : List ℕ) → Bytes bs → length bs % 4 ≡ 0 → bytesOf (wordsOf bs) ≡ bs
+unfolding wordsOf
+bytes-back [] h n = refl
+bytes-back (a ∷ []) h n = absurd (omega arith)
+bytes-back (a ∷ b ∷ []) h n = absurd (omega arith)
+bytes-back (a ∷ b ∷ c ∷ []) h n = absurd (omega arith)
+bytes-back (a ∷ b ∷ c ∷ d ∷ more) h n =
+    let w = a + 256 * b + 65536 * c + 16777216 * d in
+    let q₁ : w / 256 ≡ b + 256 * c + 65536 * d = omega (arith, h .0) in
+    let q₂ : w / 65536 ≡ c + 256 * d = omega (arith, h .0, h .1 .0) in
+    let e₀ : w % 256 ≡ a = omega (arith, h .0) in
+    let e₁ : w / 256 % 256 ≡ b = rw q₁ (omega (arith, h .1 .0)) in
+    let e₂ : w / 65536 % 256 ≡ c = rw q₂ (omega (arith, h .1 .1 .0)) in
+    let e₃ : w / 16777216 ≡ d = omega (arith, h .0, h .1 .0, h .1 .1 .0) in
+    rw (e₀, e₁, e₂, e₃, bytes-back more (h .1 .1 .1 .1) (omega arith))
+
+pub resaves : Resaves
+resaves = record { same = λ bytes τ e room b a n. saves (wordsTy τ) (words e) room bytes .1 (file-is bytes τ e b a, n) }
+  where
+    file-is : (bytes : List ℕ) (τ : Ty) (e : Term ml) → Bytes bytes → Accepted bytes τ e → FileOf (wordsTy τ) (words e) bytes
+    file-is bytes τ e b a =
+        record {
+          bytes-are = sym (bytes-back bytes b (a .whole)) ∙ ap bytesOf (a .spelt ∙ sym (file-words τ e));
+          declared = τ;
+          term = e;
+          types-are = refl;
+          terms-are = refl;
+          accepted = a;
+        }

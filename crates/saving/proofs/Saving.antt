@@ -10,21 +10,32 @@ use lib.Seq.{sets-eq, take-at}
 use borrow.Author.Tests.{le-leb, lt-leb}
 use Rattle.calculus.specs.Verdicts.{Verdict, refused, passed, andThen, unless}
 use Rattle.calculus.specs.File.{bytesOf, fileOf, Recipe, judged, padded}
-use Rattle.calculus.proofs.Verdicts.{not-both}
+use Rattle.calculus.proofs.Verdicts.{not-both, passed-injective}
 use Rattle.nodes.specs.declared.refusals.Refusal.{Refusal}
 use Rattle.nodes.specs.Refusals as nodes
 use Rattle.writing.specs.Wrote.{Wrote}
 use Rattle.text.proofs.Padded.{cleared-after}
 use Rattle.checker.specs.Checks.{accepting, judging}
 use Rattle.saving.specs.Saving.{fileBytes, saving}
-use Rattle.saving.specs.Answered.{Answered}
+use Rattle.saving.specs.Answered.{Answered, lengthOf}
 use Rattle.saving.specs.Parts.{written}
+use Rattle.saving.specs.Refusals.{numberOf, placeOf, refusal}
+use Rattle.saving.specs.declared.Unsaved.{Unsaved}
 use Rattle.saving.specs.declared.Saved.{Saved}
 use Rattle.saving.specs.declared.Saved.the-variants as s
 use Rattle.saving.proofs.Bytes.{bytes-length, file-length, types-part, terms-part}
 
 pub answered-as : {v w : Verdict (List ℕ)} {x : Saved} {out out′ : List ℕ} → v ≡ w → Answered v x out out′ → Answered w x out out′
 answered-as {x = x} {out = out} {out′ = out′} e h = subst (λ (u : Verdict (List ℕ)). Answered u x out out′) e h
+
+-- What a verdict without its bytes came from.
+pub refused-by : (v : Verdict (List ℕ)) (u : Unsaved) → refusal u ≡ lengthOf v → v ≡ refusal u
+refused-by (refused n p) u q = let z : _≡_ {A = Verdict (List ℕ)} (refused n p) (refusal u) = cc in z
+refused-by (passed file) u q = absurd (not-both (numberOf u) (placeOf u) (length file) q)
+
+pub passed-by : (v : Verdict (List ℕ)) (n : ℕ) → passed n ≡ lengthOf v → (file : List ℕ) × (v ≡ passed file) × (n ≡ length file)
+passed-by (refused m p) n q = absurd (not-both m p n (sym q))
+passed-by (passed file) n q = (file, refl, passed-injective n (length file) q)
 
 -- Words that were written to a buffer with room for them.
 pub wrote-front : (b b′ ws : List ℕ) (k : ℕ) → Wrote b 0 ws k b′ → length ws ≤ length b → take k b′ ≡ ws

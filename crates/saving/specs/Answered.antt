@@ -15,6 +15,10 @@ abbrev pub spoken : Saved → Verdict ℕ
 spoken (Refused u) = refusal u
 spoken (File n) = passed n
 
+-- How many bytes the file of a verdict has.
+abbrev pub lengthOf : Verdict (List ℕ) → Verdict ℕ
+lengthOf v = andThen v (λ file. passed (length file))
+
 -- The bytes that stand first in the buffer: "A refused save leaves that buffer all zero."
 abbrev pub writtenBy : Verdict (List ℕ) → List ℕ
 writtenBy (refused n p) = []
@@ -22,7 +26,7 @@ writtenBy (passed file) = file
 
 -- "Read each public operation as an equation: result and .. buffers, for all inputs, follow from the definitions".
 pub record Answered (v : Verdict (List ℕ)) (x : Saved) (out out′ : List ℕ) : Type 0 where
-  pub answer-is : spoken x ≡ andThen v (λ file. passed (length file))
+  pub answer-is : spoken x ≡ lengthOf v
   pub out-is : out′ ≡ padded (length out) (writtenBy v)
 
 -- The whole operation on the words handed in and the buffer lent.

@@ -1,6 +1,6 @@
 -- Laws of saving, the statements alone; proofs/Laws.antt and proofs/Going.antt prove them.
 use Prim.Native.Nat.{ℕ, _+_, _≤_, _<_}
-use mathlib.Core.List.{List, []}
+use mathlib.Core.List.{List, [], _∷_}
 use mathlib.Core.Logic.{_↔_, _⊎_}
 use mathlib.Core.Path.{_≡_}
 use lib.ListN.{length}
@@ -43,6 +43,16 @@ pub record Judges : Type 0 where
       → check (bytesOf (fileOf types terms)) ≡ judged types terms (4 + length types)
   pub no-type : (terms : List ℕ) (start : ℕ) → judged [] terms start ≡ refused 3 4
   pub no-term : (τ : Ty) (start : ℕ) → nestingTy τ ≤ 256 → judged (wordsTy τ) [] start ≡ refused 3 start
+
+-- Bytes are numbers under 256.
+abbrev pub Bytes : List ℕ → Type 0
+Bytes [] = Unit {0}
+Bytes (b ∷ bs) = (b < 256) × Bytes bs
+
+-- Saving inverts reading, too: the type and the term of an accepted file are saved as that file, byte for byte.
+pub record Resaves : Type 0 where
+  pub same : (bytes : List ℕ) (τ : Ty) (e : Term ml) (room : ℕ) → Bytes bytes → Accepted bytes τ e → length bytes ≤ room
+      → saving (wordsTy τ) (words e) room ≡ passed bytes
 
 -- A run of a file that ended as spent or full, and its declared type.
 pub record Paused (bytes : List ℕ) (limit first second : ℕ) (τ : Ty) (r : Result) : Type 0 where
