@@ -1,13 +1,13 @@
 -- Words with zeros after them. Assumes nothing.
-use mathlib.Core.Path.{_≡_, sym, ap, _∙_}
+use mathlib.Core.Path.{_≡_, refl, sym, ap, _∙_}
 use mathlib.Core.List.{List, [], append-assoc}
 use native.Mathlib.Nat.{sub-zero}
 use Prim.Native.Nat.{ℕ, suc, _+_, _-_, _≤_, _<_, min}
 use native.Mathlib.Decide.{decLe}
 use native.Mathlib.Numerals.{add-one}
 use native.Mathlib.Omega.{arith}
-use lib.ListN.{length, take, getD, set, replicate, length-append, length-take, length-replicate}
-use lib.Seq.{take-suc, take-all, take-nil, take-at, length-take-le, set-at}
+use lib.ListN.{length, take, drop, getD, set, replicate, length-append, length-take, length-replicate}
+use lib.Seq.{take-suc, take-all, take-nil, take-at, drop-at, length-take-le, set-at}
 use Rattle.calculus.specs.File.{padded}
 
 -- No words: only zeros.
@@ -39,6 +39,11 @@ padded-more n i ws h l =
 pub padded-take : (n k : ℕ) (ws : List ℕ) → length ws ≤ n → k ≡ length ws → take k (padded n ws) ≡ ws
 unfolding padded
 padded-take n k ws h e = rw (take-all n ws h) (take-at ws (replicate (n - length ws) 0) k (sym e))
+
+-- The zeros, without the words.
+pub padded-drop : (n k : ℕ) (ws : List ℕ) → length ws ≤ n → k ≡ length ws → drop k (padded n ws) ≡ replicate (n - k) 0
+unfolding padded
+padded-drop n k ws h e = rw (take-all n ws h, e) (drop-at ws (replicate (n - length ws) 0) (length ws) refl)
 
 -- Words that the padding cuts off anyway may be left out before.
 pub padded-cut : (n k : ℕ) (ws : List ℕ) → k ≡ min (length ws) n → padded n (take k ws) ≡ padded n ws

@@ -1,3 +1,4 @@
 pub mod Running
 pub mod Demanding
 pub mod Costing
+pub mod Saving

@@ -63,7 +63,7 @@ finish l g (Refused x) q h =
 finish l g (Ended x) q h = ends x q
 
 -- An answer that stands for an end is that end's report.
-ended-by : (a : Answer) (y : Line) → spoken a ≡ passed y → (x : Report) × (a ≡ Ended x) × (told x ≡ y)
+pub ended-by : (a : Answer) (y : Line) → spoken a ≡ passed y → (x : Report) × (a ≡ Ended x) × (told x ≡ y)
 ended-by (Refused x) y q = absurd (not-both (numberOf x) (placeOf x) y q)
 ended-by (Ended x) y q = (x, refl, passed-injective (told x) y q)
 
@@ -82,7 +82,7 @@ reduce l g e x c o h =
     }
 
 -- A run's first words are those that it leaves.
-front : (l : Lent) (g : Returned) (r : spec.Result) → operate (l .bytes) (l .limit) (length (l .first)) (length (l .second)) ≡ passed r
+pub front : (l : Lent) (g : Returned) (r : spec.Result) → operate (l .bytes) (l .limit) (length (l .first)) (length (l .second)) ≡ passed r
     → Promised l g → take (length (r .left)) (g .first) ≡ r .left
 front l g r o h =
     let n = operate-bounded (l .bytes) (l .limit) (length (l .first)) (length (l .second)) r o .0 in

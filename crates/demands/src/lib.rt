@@ -8,10 +8,14 @@ use engine::runs::Answer;
 use engine::runs::run;
 use pricing::Priced;
 use pricing::price;
+use saving::Saved;
+use saving::save;
+ghost use mathlib.Core.Path.{_≡_};
 ghost use Rattle.engine.specs.Lent.{lent, returned};
 ghost use Rattle.pricing.specs.Answered as pricing;
 ghost use Rattle.demands.specs.Demanded.{Checks, Once, Twice};
 ghost use Rattle.demands.specs.Priced.{PricedOnce, PricedTwice};
+ghost use Rattle.demands.specs.Saved.{handed, SavedOnce, leftOf, writtenOf, SaveRuns};
 
 // Three answers on one file: the check's, and those of two runs.
 pub struct Answers {
@@ -113,5 +117,77 @@ pub fn price_twice(
     PricedAnswers {
         earlier: earlier,
         later: later,
+    }
+}
+
+// Demands 1 and 2 of saving: of these words and this buffer.
+pub fn save_once(types: &[u32], terms: &[u32], out: &mut [u8]) -> Saved
+    ensures { λ x. ⌜ SavedOnce (handed (now (types .entry)) (now (terms .entry)) (now (out .entry))) x (now (out .exit)) ⌝ }
+{
+    save(types, terms, out)
+}
+
+// The words that a run left, counted: none where it was refused.
+fn left(a: Answer) -> usize
+    ensures { λ n. ⌜ n ≡ leftOf a ⌝ }
+{
+    match a {
+        Answer::Refused(_) => 0,
+        Answer::Ended(x) => x.left,
+    }
+}
+
+// The bytes that were saved, counted: none where the save was refused.
+fn written(x: Saved) -> usize
+    ensures { λ n. ⌜ n ≡ writtenOf x ⌝ }
+{
+    match x {
+        Saved::Refused(_) => 0,
+        Saved::File(n) => n,
+    }
+}
+
+// The answers of a run, of the save of what it left, of the run of the file saved, and of one run.
+pub struct SavedAnswers {
+    pub earlier: Answer,
+    pub saved: Saved,
+    pub later: Answer,
+    pub whole: Answer,
+}
+
+// The law of saving: this file is run, what is left is saved with these words as its declared type, the file saved is run in the same buffers; and
+// this file is run in others.
+pub fn run_save_run(
+    file: &[u8],
+    types: &[u32],
+    limit: u32,
+    first: &mut [u32],
+    second: &mut [u32],
+    out: &mut [u8],
+    again: u32,
+    limit_2: u32,
+    first_2: &mut [u32],
+    second_2: &mut [u32],
+) -> SavedAnswers
+    ensures { λ r. ⌜
+        SaveRuns
+        (lent (now (file .entry)) limit (now (first .entry)) (now (second .entry)))
+        (now (types .entry)) (r .earlier) (r .saved) (now (out .exit)) again
+        (returned (r .later) (now (first .exit)) (now (second .exit)))
+        (lent (now (file .entry)) limit_2 (now (first_2 .entry)) (now (second_2 .entry)))
+        (returned (r .whole) (now (first_2 .exit)) (now (second_2 .exit)))
+        ⌝ }
+{
+    let earlier = run(file, limit, first, second);
+    let n = left(earlier);
+    let saved = save(types, &first[..n], out);
+    let m = written(saved);
+    let later = run(&out[..m], again, first, second);
+    let whole = run(file, limit_2, first_2, second_2);
+    SavedAnswers {
+        earlier: earlier,
+        saved: saved,
+        later: later,
+        whole: whole,
     }
 }

@@ -58,7 +58,7 @@ judged-fine τ t start h g n p q = by (leb (nesting t) 256) refl
         number (sym q ∙ j)
 
 -- Words are those of one tree in range.
-one-tree : (s : Sort) (t u : Tree s) → TreeInRange s t → TreeInRange s u → putTree s t [] ≡ putTree s u [] → t ≡ u
+pub one-tree : (s : Sort) (t u : Tree s) → TreeInRange s t → TreeInRange s u → putTree s t [] ≡ putTree s u [] → t ≡ u
 one-tree s t u i j q = Option·some-injective t u (sym (whole-tree s t i) ∙ ap (readTree s) q ∙ whole-tree s u j)
 
 module _ (bytes : List ℕ) (k first second : ℕ) (τ : Ty) (r : Result) (h : Paused bytes k first second τ r) where
