@@ -213,7 +213,8 @@ abbrev Deeper : (s : Sort) → Tree s → Type 0
 Deeper s t = TreeInRange s t → (n : ℕ) → n < nestingTree s t → (k : List ℕ) (ds : List (Sort × ℕ))
     → (p : ℕ) × (walk nestedDue (putTree s t k) ((s, n) ∷ ds) ≡ refused 4 p)
 
-others-deeper : (s : Sort) (ss : List Sort) (ts : Trees (s ∷ ss)) (n : ℕ) → n < deepest (s ∷ ss) ts → nestingTree s (ts .0) ≤ n → n < deepest ss (ts .1)
+others-deeper : (s : Sort) (ss : List Sort) (ts : Trees (s ∷ ss)) (n : ℕ) → n < deepest (s ∷ ss) ts → nestingTree s (ts .0) ≤ n
+    → n < deepest ss (ts .1)
 others-deeper s [] ts n g f = absurd (omega arith)
 others-deeper s (u ∷ us) ts n g f = omega arith
 

@@ -240,7 +240,8 @@ module _ (l : Lent) (g : Returned) (run : Promised l g) (types out : List ℕ) (
           (w .made) again i in
           let y = one .0 in
           let file-is : take (writtenOf x) out′ ≡ w .file = ap (λ (j : ℕ). take j out′) (ap writtenOf q) ∙ w .front-is in
-          let o₂ = run-as (take (writtenOf x) out′) (w .file) again again (length (g .first)) (length (g .second)) _ _ file-is refl same-room ∙ one .1 in
+          let o₂ = run-as (take (writtenOf x) out′) (w .file) again again (length (g .first)) (length (g .second)) _ _ file-is refl same-room
+          ∙ one .1 in
           let o₃ = run-as (m .bytes) (l .bytes) (m .limit) (l .limit + again) (length (m .first)) (length (m .second)) _ _ (sym b) (sym k) (sym c)
           ∙ one .2 in
           let d₂ = ended-by (g₂ .answer) (lineOf y) (run₂ .answer-is ∙ ap lines o₂) in

@@ -31,6 +31,6 @@ tried =
     }
 
 pub too-deep : TooDeep
-unfolding saving operate runIn check checkWords typed wordsOf run step turn fill contract toScheme toML contract2 contract1 onNumbers answer third amiss
-    onLump onList onLambda onNumber form substitute infer read readTree inOrder walk rowFor put putTy size sizeTy
+unfolding saving operate runIn check checkWords typed wordsOf run step turn fill contract toScheme toML contract2 contract1 onNumbers answer third
+    amiss onLump onList onLambda onNumber form substitute infer read readTree inOrder walk rowFor put putTy size sizeTy
 too-deep = record { spent-after-one = refl; refused-by-four = refl }

@@ -136,8 +136,8 @@ module _ (types terms : List ℕ) where
 
         back : FileOf types terms bs → length bs ≤ room → saving types terms room ≡ passed bs
         back f h =
-            rw (le-leb bytes 16384 (file-few bs f), file-judged bs f, le-leb bytes room (omega (arith, h, ap length (f .bytes-are), file-bytes types terms)))
-            (ap passed (sym (f .bytes-are)))
+            let fits : bytes ≤ room = omega (arith, h, ap length (f .bytes-are), file-bytes types terms) in
+            rw (le-leb bytes 16384 (file-few bs f), file-judged bs f, le-leb bytes room fits) (ap passed (sym (f .bytes-are)))
 
     twelve : (saving types terms room ≡ refused 12 0) ↔ (16384 < bytes)
     unfolding saving
@@ -197,7 +197,8 @@ module _ (types terms : List ℕ) where
   unfolding check checkWords
   as-checked a b c =
       let n = file-bytes types terms in
-      let h : isHeader (fileOf types terms) ≡ true = header-iff (fileOf types terms) .1 ((((a, refl), b), refl), omega (arith, file-length types terms)) in
+      let ends : 4 + length types + length terms ≡ length (fileOf types terms) = sym (file-length types terms) in
+      let h : isHeader (fileOf types terms) ≡ true = header-iff (fileOf types terms) .1 ((((a, refl), b), refl), ends) in
       rw (
         size-iff (length file) .1 ((omega (arith, n), omega (arith, n)), omega (arith, n)),
         words-back (fileOf types terms),

@@ -76,7 +76,8 @@ module _ (types terms : List ℕ) where
         → nodes.refusal r ≡ saving types terms room
     judged-out r q = by (judged types terms (4 + length types)) refl (q ∙ ap accepting file-judged)
       where
-        by : (v : Verdict Recipe) → judged types terms (4 + length types) ≡ v → nodes.refusal r ≡ accepting v → nodes.refusal r ≡ saving types terms room
+        by : (v : Verdict Recipe) → judged types terms (4 + length types) ≡ v → nodes.refusal r ≡ accepting v
+            → nodes.refusal r ≡ saving types terms room
         by (refused n p) e h =
             let z : _≡_ {A = Verdict (List ℕ)} (nodes.refusal r) (refused n p) = cc in z ∙ sym (writing-as (refused n p) e)
         by (passed x) e h = absurd (not-both (nodes.numberOf r) (nodes.placeOf r) tt h)

@@ -34,7 +34,8 @@ loop-again c =
     let l = at-loop .loop in
     let ws = at-loop .before .before .before .args .words .now in
     let one : take (l .i) ws ++ getD ws (l .i) 0 ∷ [] ≡ take (l .i + 1) ws = rw (add-one (l .i)) (sym (take-suc ws (l .i) 0 (omega arith))) in
-    (omega arith, omega (arith, put .place), wrote-as (sym (bytes-append (take (l .i) ws) (getD ws (l .i) 0 ∷ [])) ∙ ap bytesOf one) (then (l .inv .2) put))
+    let more = sym (bytes-append (take (l .i) ws) (getD ws (l .i) 0 ∷ [])) ∙ ap bytesOf one in
+    (omega arith, omega (arith, put .place), wrote-as more (then (l .inv .2) put))
 
 same-length : tie.Need-same-length Inv-loop μ-loop
 same-length c = wrote-length (c .before .loop .inv .2)

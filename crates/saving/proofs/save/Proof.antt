@@ -40,8 +40,8 @@ returns c =
     let refused = c .before .before in
     let t = refused .before .before in
     let s = t .before .before .before .before .before in
-    answered-as (too-long (s .args .types .now) (s .args .terms .now) (length (s .args .out .now)) (sym (t .before .fits2 .ensures) ∙ not-true _ (t .if1 .taken)))
-    (refused .refused .ensures)
+    let over = sym (t .before .fits2 .ensures) ∙ not-true _ (t .if1 .taken) in
+    answered-as (too-long (s .args .types .now) (s .args .terms .now) (length (s .args .out .now)) over) (refused .refused .ensures)
 
 -- They are the file's words, and stand first in the array.
 module _ (c : tie.After-fill) where
@@ -91,9 +91,8 @@ returns-2 c =
     let j = r .before .before in
     let f = j .before .before .before in
     let e = else f in
-    answered-as
-    (judged-out (types e) (terms e) (length (start e .args .out .now)) (fit e) (r .r .given .0 .0) (ap checked (sym (r .r .given .1)) ∙ j .judge .ensures ∙ judged-file f))
-    (refused .refused2 .ensures)
+    let told = ap checked (sym (r .r .given .1)) ∙ j .judge .ensures ∙ judged-file f in
+    answered-as (judged-out (types e) (terms e) (length (start e .args .out .now)) (fit e) (r .r .given .0 .0) told) (refused .refused2 .ensures)
 
 returns-3 : tie.Need-returns-3
 returns-3 c =
@@ -102,10 +101,10 @@ returns-3 c =
     let j = t .before .before in
     let f = j .before .before .before in
     let e = else f in
-    answered-as
-    (ap (λ (l : List ℕ). written l (length (start e .args .out .now))) (front f)
-    ∙ judged-in (types e) (terms e) (length (start e .args .out .now)) (fit e) (ap checked (sym (t .enum-told .given .1)) ∙ j .judge .ensures ∙ judged-file f))
-    (file .write .ensures)
+    let out = start e .args .out .now in
+    let told = ap checked (sym (t .enum-told .given .1)) ∙ j .judge .ensures ∙ judged-file f in
+    let whole = ap (λ (l : List ℕ). written l (length out)) (front f) in
+    answered-as (whole ∙ judged-in (types e) (terms e) (length out) (fit e) told) (file .write .ensures)
 
 pub save-spec : {M : Type 1} → statement M
 save-spec =
