@@ -1,18 +1,18 @@
 -- What `save` promises meets demands 1 and 2; and with what `run` promises, running, saving and running again is one run. Assumes nothing.
-use Prim.Native.Nat.{ℕ, _+_, _≤_, _<_}
+use Prim.Native.Nat.{ℕ, _+_, _≤_}
 use mathlib.Core.List.{List, []}
 use mathlib.Core.Logic.{_↔_, _⊎_, inl, inr}
 use mathlib.Core.Path.{_≡_, refl, sym, ap, _∙_, subst}
 use native.Mathlib.Omega.{arith}
-use lib.ListN.{length, take, drop, replicate}
-use Rattle.calculus.specs.Trees.{Ty, ml, Term}
-use Rattle.calculus.specs.Words.{wordsTy, size}
+use lib.ListN.{length, take, drop}
+use Rattle.calculus.specs.Trees.{Ty}
+use Rattle.calculus.specs.Words.{wordsTy}
 use Rattle.calculus.specs.Kinds.{type}
 use Rattle.calculus.specs.Verdicts.{Verdict, refused, passed, andThen}
 use Rattle.calculus.specs.Run as spec
 use Rattle.calculus.specs.Counting.{later}
 use Rattle.calculus.specs.Endings.{Ending}
-use Rattle.calculus.specs.File.{bytesOf, fileOf, Recipe, judged, operate, padded, leftBy}
+use Rattle.calculus.specs.File.{bytesOf, fileOf, Recipe, operate, padded, leftBy}
 use Rattle.calculus.specs.Accepted.{Accepted}
 use Rattle.calculus.proofs.Verdicts.{not-both, passed-injective}
 use Rattle.calculus.proofs.Checks.{accepted-once, operate-iff}
@@ -20,10 +20,9 @@ use Rattle.calculus.proofs.Bounds.{operate-bounded}
 use Rattle.calculus.proofs.Endings.{ends-iff, ending}
 use Rattle.calculus.proofs.Padding.{padded-none, padded-take, padded-drop, padded-length}
 use Rattle.counts.specs.Counting.{countsOf}
-use Rattle.engine.specs.declared.ends.Report.{Report}
 use Rattle.engine.specs.declared.runs.Answer.{Answer}
 use Rattle.engine.specs.declared.runs.Answer.the-variants as answer
-use Rattle.engine.specs.Results.{Line, lineOf, endOf, told}
+use Rattle.engine.specs.Results.{Line, lineOf, told}
 use Rattle.engine.specs.Answered as engine
 use Rattle.engine.specs.Lent.{Lent, Returned, lent, room}
 use Rattle.engine.proofs.Answering as answering

@@ -1,13 +1,10 @@
 -- A file's words and their bytes: how many they are, where type and term stand, and that they are read back. Assumes nothing.
-use Prim.Native.Nat.{ℕ, suc, _+_, _*_, _-_, _/_, _%_, _≤_}
-use mathlib.Core.Bool.{Bool, true, false}
+use Prim.Native.Nat.{ℕ, _+_, _*_, _/_, _%_}
 use mathlib.Core.List.{List, [], _∷_, _++_}
-use mathlib.Core.Path.{_≡_, refl, sym, ap, _∙_}
+use mathlib.Core.Path.{_≡_, refl, sym, _∙_}
 use native.Mathlib.Omega.{arith}
-use lib.Dec.{leb}
 use lib.ListN.{length, take, drop, length-append}
 use lib.Seq.{take-at, drop-at, drop-drop}
-use borrow.Author.Tests.{leb-true, leb-false, le-leb, lt-leb}
 use Rattle.calculus.specs.File.{wordsOf, bytesOf, fileOf}
 use Rattle.saving.specs.Saving.{fileBytes}
 
@@ -39,11 +36,3 @@ types-part types terms = take-at types terms (length types) refl
 
 pub terms-part : (types terms : List ℕ) → drop (4 + length types) (fileOf types terms) ≡ terms
 terms-part types terms = sym (drop-drop (length types) 4 (fileOf types terms)) ∙ drop-at types terms (length types) refl
-
--- The test of the lengths that makes no sum.
-pub fits-by : (types terms : ℕ) → types ≤ 4092 → leb terms (4092 - types) ≡ leb (fileBytes types terms) 16384
-fits-by types terms h = by (leb terms (4092 - types)) refl
-  where
-    by : (b : Bool) → leb terms (4092 - types) ≡ b → b ≡ leb (fileBytes types terms) 16384
-    by true e = sym (le-leb (fileBytes types terms) 16384 (omega (arith, leb-true terms (4092 - types) e)))
-    by false e = sym (lt-leb (fileBytes types terms) 16384 (omega (arith, leb-false terms (4092 - types) e)))

@@ -14,7 +14,7 @@ use Rattle.calculus.specs.Kinds.{type, term}
 use Rattle.calculus.specs.Limits.{nestingTy}
 use Rattle.calculus.specs.Verdicts.{Verdict, refused, passed, andThen, unless}
 use Rattle.calculus.specs.Reading.{walk, inOrder}
-use Rattle.calculus.specs.File.{wordsOf, bytesOf, fileOf, Recipe, judged, checkWords, check, isSize, isHeader}
+use Rattle.calculus.specs.File.{wordsOf, bytesOf, fileOf, Recipe, judged, checkWords, check, isHeader}
 use Rattle.calculus.specs.Accepted.{fileWords, Accepted}
 use Rattle.calculus.proofs.Verdicts.{not-both, passed-injective}
 use Rattle.calculus.proofs.Sizes.{tree-append, tree-length}

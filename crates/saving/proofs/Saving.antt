@@ -1,7 +1,7 @@
 -- What saving answers: each way out of the code is one law. Assumes nothing.
 use Prim.Native.Nat.{ℕ, _+_, _*_, _≤_, _<_}
 use mathlib.Core.Bool.{true, false}
-use mathlib.Core.List.{List, []}
+use mathlib.Core.List.{List}
 use mathlib.Core.Path.{_≡_, refl, sym, ap, _∙_, subst}
 use native.Mathlib.Omega.{arith}
 use lib.Dec.{leb}
@@ -23,7 +23,7 @@ use Rattle.saving.specs.Refusals.{numberOf, placeOf, refusal}
 use Rattle.saving.specs.declared.Unsaved.{Unsaved}
 use Rattle.saving.specs.declared.Saved.{Saved}
 use Rattle.saving.specs.declared.Saved.the-variants as s
-use Rattle.saving.proofs.Bytes.{bytes-length, file-length, types-part, terms-part}
+use Rattle.saving.proofs.Bytes.{file-length, types-part, terms-part}
 
 pub answered-as : {v w : Verdict (List ℕ)} {x : Saved} {out out′ : List ℕ} → v ≡ w → Answered v x out out′ → Answered w x out out′
 answered-as {x = x} {out = out} {out′ = out′} e h = subst (λ (u : Verdict (List ℕ)). Answered u x out out′) e h

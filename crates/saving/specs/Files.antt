@@ -5,7 +5,7 @@ use mathlib.Core.Path.{_≡_}
 use lib.ListN.{replicate}
 use Rattle.calculus.specs.Verdicts.{refused, passed}
 use Rattle.calculus.specs.Run.{spent}
-use Rattle.calculus.specs.File.{bytesOf, fileOf}
+use Rattle.calculus.specs.File.{fileOf}
 use Rattle.calculus.specs.Recipes.{allowed, counting, EndsAs, convertedWords}
 use Rattle.saving.specs.Saving.{saving}
 

@@ -50,7 +50,10 @@ fn fits(types: usize, terms: usize) -> bool
     if 4092 < types {
         return false;
     }
-    terms <= 4092 - types
+    if 4092 - types < terms {
+        return false;
+    }
+    true
 }
 
 // A count or an offset as a word.

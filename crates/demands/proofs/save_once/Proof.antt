@@ -1,6 +1,5 @@
 -- `demands::save_once` meets its contract, by what `save` promises. Assumes nothing.
 use borrow.Author.Needs.{needs}
-use Rattle.demands.specs.Saved.{handed}
 use Rattle.demands.proofs.Saving.{saved-once}
 use Rattle.demands.proofs.save_once.Statement.{statement}
 use Rattle.demands.proofs.save_once.Tie as tie
