@@ -52,8 +52,10 @@ returns c =
     let again = returned (later .run2 .result) (later .run2 .last .1 .1 .0) (later .run2 .last .1 .1 .1 .0) in
     let saves = subst (λ (n : ℕ). Saves (a .types .now) (take n first) (a .out .now) x out) (left .left .ensures) (save .save .ensures) in
     let runs = subst (λ (n : ℕ). Promised (lent (take n out) (a .again) first second) again) (written .written .ensures) (later .run2 .ensures) in
+    let m = lent (a .file .now) (a .limit-2) (a .first-2 .now) (a .second-2 .now) in
+    let once = returned (whole .run3 .result) (whole .run3 .last .1 .1 .0) (whole .run3 .last .1 .1 .1 .0) in
     save-runs (lent (a .file .now) (a .limit) (a .first .now) (a .second .now)) g (earlier .run .ensures) (a .types .now) (a .out .now) x out saves
-    (a .again) again runs _ _ (whole .run3 .ensures)
+    (a .again) again runs m once (whole .run3 .ensures)
 
 pub run-save-run-spec : {M : Type 1} → statement M
 run-save-run-spec =
