@@ -11,7 +11,7 @@ use tools::stand_in::price as right_price;
 fn of_every_choice_of_faults_the_first_in_the_order_is_given() {
     on_large_stack(|| {
         for faults in faults::every() {
-            let given = faults.case().by_model().run.result.err().map(|refusal| refusal.number);
+            let given = faults::case(faults).by_model().run.result.err().map(|refusal| refusal.number);
             assert_eq!(given, faults.due());
         }
     });
@@ -206,7 +206,7 @@ fn only_the_prices_that_are_used_looked_at() {
 
 /// Whether a choice of faults shows a wrong order; all choices are part of the comparison.
 fn shows_in_the_faults(engine: Price) -> bool {
-    on_large_stack(|| faults::every().any(|faults| faults.case().differs(engine)))
+    on_large_stack(|| faults::every().any(|faults| faults::case(faults).differs(engine)))
 }
 
 /// A pricing that looks at the words of the declared type before it gives a refusal.

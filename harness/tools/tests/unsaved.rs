@@ -13,7 +13,7 @@ fn of_every_choice_of_faults_the_first_in_the_order_is_given() {
     on_large_stack(|| {
         let mut choices = 0;
         for faults in faults::every() {
-            let given = faults.case().by_model().result.err().map(|refusal| refusal.number);
+            let given = faults::case(faults).by_model().result.err().map(|refusal| refusal.number);
             assert_eq!(given, faults.due());
             choices += 1;
         }
@@ -63,7 +63,7 @@ fn long_after<const REFUSAL: u32>(declared: &[u32], term: &[u32], out: &mut [u8]
 
 /// Whether a choice of faults shows a wrong order; all choices are part of the comparison.
 fn shows_in_the_faults(save: Save) -> bool {
-    on_large_stack(|| faults::every().any(|faults| faults.case().differs(save)))
+    on_large_stack(|| faults::every().any(|faults| faults::case(faults).differs(save)))
 }
 
 #[test]

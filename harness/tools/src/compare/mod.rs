@@ -5,6 +5,7 @@ mod case;
 mod check;
 mod counts;
 mod deepest;
+mod faults;
 pub mod lent;
 mod list;
 mod plan;

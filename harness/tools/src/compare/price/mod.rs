@@ -87,8 +87,8 @@ fn small(engine: Price, file: Vec<u8>, counts: &mut PriceCounts) -> Result<(), S
 /// fault, the other is given.
 fn every_choice_of_faults(engine: Price, counts: &mut PriceCounts) -> Result<(), String> {
     for faults in faults::every() {
-        let Err(given) = faults.case().compare(engine, counts)?.run.result else { continue };
-        let cured = faults.without(given.number).case().compare(engine, counts)?;
+        let Err(given) = faults::case(faults).compare(engine, counts)?.run.result else { continue };
+        let cured = faults::case(faults.without(given.number)).compare(engine, counts)?;
         if let Err(next) = cured.run.result {
             counts.given_before(given.number, next.number);
         }

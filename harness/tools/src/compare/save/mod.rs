@@ -105,8 +105,8 @@ fn fixed(engine: SavingEngine, counts: &mut SaveCounts) -> Result<(), String> {
 /// fault, the other is given.
 fn every_choice_of_faults(engine: SavingEngine, counts: &mut SaveCounts) -> Result<(), String> {
     for faults in faults::every() {
-        let Err(given) = faults.case().compare(engine.save, counts)?.result else { continue };
-        let cured = faults.without(given.number).case().compare(engine.save, counts)?;
+        let Err(given) = faults::case(faults).compare(engine.save, counts)?.result else { continue };
+        let cured = faults::case(faults.without(given.number)).compare(engine.save, counts)?;
         if let Err(next) = cured.result {
             counts.given_before(given.number, next.number);
         }
