@@ -27,7 +27,7 @@ use Rattle.saving.specs.declared.Unsaved.the-variants.{Long, Short}
 use Rattle.saving.specs.declared.Saved.{Saved}
 use Rattle.saving.specs.declared.Saved.the-variants.{Refused, File}
 
--- The words handed in, and what the buffer held and holds.
+-- The words handed in, and what the lent buffer holds.
 pub record Handed : Type 0 where
   pub types : List ℕ
   pub terms : List ℕ
