@@ -160,6 +160,33 @@ fn other_refusals_are_told_with_their_places() {
 }
 
 #[test]
+fn what_was_saved_before_stays_until_the_new_file_is_whole() {
+    let out = Out::new();
+    out.run(WRAPPED, &["--limit", "3"]);
+    let (before, part) = (out.bytes(), format!("{}.part", out.name()));
+    assert!(!std::path::Path::new(&part).exists());
+    // A folder stands where the new file would be written.
+    std::fs::create_dir(&part).unwrap();
+    let (status, _, fault) = out.run(WRAPPED, &["--limit", "4"]);
+    std::fs::remove_dir(&part).unwrap();
+    assert_eq!((status, out.bytes()), (2, before));
+    assert!(fault.starts_with(&format!("recipe: cannot write {}: ", out.name())), "{fault}");
+}
+
+#[test]
+fn a_link_and_a_device_are_written_through() {
+    let (out, link) = (Out::new(), Out::new());
+    std::fs::write(&out.0, b"old").unwrap();
+    std::os::unix::fs::symlink(&out.0, &link.0).unwrap();
+    link.run(WRAPPED, &["--limit", "4"]);
+    assert_eq!(out.bytes(), Some(bytes_of(&[1, 4, 3, 5, 1, 30, 1, 33 + 256 * 7])));
+    assert!(link.0.is_symlink());
+    let told = printed(&["run", "--limit", "4", "--save", "/dev/null"], WRAPPED);
+    assert!(told.0 == 0 && told.1.contains("saved in /dev/null, 32 bytes"), "{told:?}");
+    assert!(std::fs::metadata("/dev/null").is_ok_and(|there| !there.is_file()));
+}
+
+#[test]
 fn a_file_that_cannot_be_written_is_a_fault() {
     let (status, told, said) = printed(&["run", "--limit", "1", "--save", "no such folder/out"], WRAPPED);
     assert!(status == 2 && said.starts_with("recipe: cannot write no such folder/out: "), "{said}");
