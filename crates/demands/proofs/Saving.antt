@@ -1,7 +1,7 @@
 -- What `save` promises meets demands 1 and 2; and with what `run` promises, running, saving and running again is one run. Assumes nothing.
 use Prim.Native.Nat.{ℕ, _+_, _≤_}
 use mathlib.Core.List.{List, []}
-use mathlib.Core.Logic.{_↔_, _⊎_, inl, inr}
+use mathlib.Core.Logic.{_↔_, _⊎_}
 use mathlib.Core.Path.{_≡_, refl, sym, ap, _∙_, subst}
 use native.Mathlib.Omega.{arith}
 use lib.ListN.{length, take, drop}
@@ -110,14 +110,8 @@ module _ (h : Handed) (x : Saved) (out′ : List ℕ) (s : Saves (h .types) (h .
   finish : (y : Saved) → x ≡ y → Finishes h x out′
   finish (Refused y) q =
       let r = refuses-as y q in
-      refuses y q (by (law .no-other (numberOf y) (placeOf y) r))
+      refuses y q (law .no-other (numberOf y) (placeOf y) r)
       (s .out-is ∙ ap (λ (v : Verdict (List ℕ)). padded (length (h .out)) (writtenBy v)) r ∙ sym (padded-none (length (h .out))))
-    where
-      by : ((3 ≤ numberOf y) × (numberOf y ≤ 7) × (placeOf y ≤ 4 + length (h .types) + length (h .terms)))
-          ⊎ (((numberOf y ≡ 12) ⊎ (numberOf y ≡ 13)) × (placeOf y ≡ 0))
-          → ((3 ≤ numberOf y) × (numberOf y ≤ 7)) ⊎ (numberOf y ≡ 12) ⊎ (numberOf y ≡ 13)
-      by (inl i) = inl (i .0, i .1)
-      by (inr i) = inr (i .0)
   finish (File n) q =
       let w = written n q in
       writes n q (omega (arith, w .long, w .room-is))

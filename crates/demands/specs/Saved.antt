@@ -21,7 +21,7 @@ use Rattle.engine.specs.Results.{Line, endOf, told}
 use Rattle.engine.specs.Lent.{Lent, Returned, room}
 use Rattle.saving.specs.Saving.{fileBytes}
 use Rattle.saving.specs.Refusals.{numberOf, placeOf}
-use Rattle.saving.specs.Laws.{FileOf}
+use Rattle.saving.specs.Laws.{FileOf, Numbered}
 use Rattle.saving.specs.declared.Unsaved.{Unsaved}
 use Rattle.saving.specs.declared.Unsaved.the-variants.{Long, Short}
 use Rattle.saving.specs.declared.Saved.{Saved}
@@ -42,7 +42,7 @@ bytesDue h = fileBytes (length (h .types)) (length (h .terms))
 
 -- Demand 1: one of 3 to 7, 12 and 13, "A refused save leaves that buffer all zero"; or the file stands first, and zeros after it.
 pub data Finishes (h : Handed) (x : Saved) (out′ : List ℕ) : Type 0 where
-  refuses : (u : Unsaved) → x ≡ Refused u → ((3 ≤ numberOf u) × (numberOf u ≤ 7)) ⊎ (numberOf u ≡ 12) ⊎ (numberOf u ≡ 13)
+  refuses : (u : Unsaved) → x ≡ Refused u → Numbered (h .types) (h .terms) (numberOf u) (placeOf u)
       → out′ ≡ replicate (length (h .out)) 0 → Finishes h x out′
   writes : (n : ℕ) → x ≡ File n → n ≤ length (h .out) → FileOf (h .types) (h .terms) (take n out′)
       → drop n out′ ≡ replicate (length (h .out) - n) 0 → Finishes h x out′

@@ -1,13 +1,14 @@
 -- The numbers of a save fit 32 bits, and are those of the specification's. Assumes nothing.
-use Prim.Native.Nat.{ℕ, _+_, _≤_}
+use Prim.Native.Nat.{ℕ, _≤_}
 use mathlib.Core.List.{List}
-use mathlib.Core.Logic.{_⊎_, inl, inr}
+use mathlib.Core.Logic.{inl, inr}
 use mathlib.Core.Path.{_≡_, sym, ap, _∙_}
 use native.Mathlib.Omega.{arith}
 use lib.ListN.{length}
 use Rattle.calculus.specs.Verdicts.{Verdict}
 use Rattle.saving.specs.Saving.{fileBytes, saving}
 use Rattle.saving.specs.Refusals.{numberOf, placeOf}
+use Rattle.saving.specs.Laws.{Numbered}
 use Rattle.saving.specs.Answered.{spoken, lengthOf}
 use Rattle.saving.specs.declared.Unsaved.{Unsaved}
 use Rattle.saving.specs.declared.Saved.{Saved}
@@ -25,8 +26,7 @@ module _ (types terms : List ℕ) (room : ℕ) (a : Saved) (h : spoken a ≡ len
       let r = refused-by (saving types terms room) u (sym (ap spoken q) ∙ h) in
       by (x .no-other (numberOf u) (placeOf u) r) (λ i. x .others (numberOf u) (placeOf u) i .0 r .0)
     where
-      by : ((3 ≤ numberOf u) × (numberOf u ≤ 7) × (placeOf u ≤ 4 + length types + length terms))
-          ⊎ (((numberOf u ≡ 12) ⊎ (numberOf u ≡ 13)) × (placeOf u ≡ 0))
+      by : Numbered types terms (numberOf u) (placeOf u)
           → (numberOf u ≤ 7 → fileBytes (length types) (length terms) ≤ 16384)
           → placeOf u ≤ 4096
       by (inl i) few = omega (arith, i .2, few (i .1))

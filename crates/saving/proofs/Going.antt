@@ -28,7 +28,7 @@ use Rattle.calculus.proofs.Runs.{lastTerm}
 use Rattle.calculus.proofs.Continuing.{leftAt, run-left, run-again, Fine, run-fine, run-short}
 use Rattle.calculus.proofs.Checks.{accepted-once, operate-iff, judged-iff}
 use Rattle.saving.specs.Saving.{saving}
-use Rattle.saving.specs.Laws.{FileOf, Paused, GoesOn}
+use Rattle.saving.specs.Laws.{FileOf, Numbered, Paused, GoesOn}
 use Rattle.saving.proofs.Laws.{exactly}
 
 left-open : (x : End) (t : Term ml) → Open x → leftAt x t ≡ words t
@@ -103,7 +103,7 @@ module _ (bytes : List ℕ) (k first second : ℕ) (τ : Ty) (r : Result) (h : P
       let x = exactly types terms room in
       by (x .no-other n p q) (λ i. x .others n p i .0 q .1)
     where
-      by : ((3 ≤ n) × (n ≤ 7) × (p ≤ 4 + length (wordsTy τ) + length (r .left))) ⊎ (((n ≡ 12) ⊎ (n ≡ 13)) × (p ≡ 0))
+      by : Numbered (wordsTy τ) (r .left) n p
           → (n ≤ 7 → judged (wordsTy τ) (r .left) (4 + length (wordsTy τ)) ≡ refused n p) → (n ≡ 4) ⊎ (n ≡ 12) ⊎ (n ≡ 13)
       by (inl i) j = inl (judged-fine τ t (4 + length (wordsTy τ)) (left .accepted .nestsTy) fine n p (rw (left .words-are) at j (i .1)))
       by (inr i) j = inr (i .0)

@@ -2,7 +2,7 @@
 use Prim.Native.Nat.{ℕ, _+_, _*_, _/_, _%_, _≤_, _<_}
 use mathlib.Core.Bool.{Bool, true, false}
 use mathlib.Core.List.{List, [], _∷_}
-use mathlib.Core.Logic.{_↔_, _⊎_, inl, inr}
+use mathlib.Core.Logic.{_↔_, inl, inr}
 use mathlib.Core.Path.{_≡_, refl, sym, ap, _∙_, subst}
 use native.Mathlib.Omega.{arith}
 use lib.Dec.{leb}
@@ -24,7 +24,7 @@ use Rattle.calculus.proofs.Files.{size-iff, header-iff}
 use Rattle.calculus.proofs.Checks.{judged-iff}
 use Rattle.calculus.proofs.Refusing.{judged-refused}
 use Rattle.saving.specs.Saving.{fileBytes, saving}
-use Rattle.saving.specs.Laws.{FileOf, Exactly, Judges, Bytes, Resaves}
+use Rattle.saving.specs.Laws.{FileOf, Numbered, Exactly, Judges, Bytes, Resaves}
 use Rattle.saving.proofs.Bytes.{words-back, file-length, file-bytes, types-part, terms-part}
 
 types-length : (τ : Ty) → length (wordsTy τ) ≡ sizeTy τ
@@ -178,12 +178,10 @@ module _ (types terms : List ℕ) where
         back : FileOf types terms file → room < bytes → saving types terms room ≡ refused 13 0
         back f h = rw (le-leb bytes 16384 (file-few file f), file-judged file f, lt-leb bytes room h)
 
-    no-other : (n p : ℕ) → saving types terms room ≡ refused n p
-        → ((3 ≤ n) × (n ≤ 7) × (p ≤ 4 + length types + length terms)) ⊎ (((n ≡ 12) ⊎ (n ≡ 13)) × (p ≡ 0))
+    no-other : (n p : ℕ) → saving types terms room ≡ refused n p → Numbered types terms n p
     no-other n p q = by (way room) q
       where
-        by : {v : Verdict (List ℕ)} → Way room v → v ≡ refused n p
-            → ((3 ≤ n) × (n ≤ 7) × (p ≤ 4 + length types + length terms)) ⊎ (((n ≡ 12) ⊎ (n ≡ 13)) × (p ≡ 0))
+        by : {v : Verdict (List ℕ)} → Way room v → v ≡ refused n p → Numbered types terms n p
         by (long h) q = let z = numbers q in inr (inl (sym (z .0)), sym (z .1))
         by (out m o h e i) q = let z = numbers q in inl (omega (arith, i .0, z .0), omega (arith, i .1, z .0), omega (arith, i .2, z .1))
         by (short f h) q = let z = numbers q in inr (inr (sym (z .0)), sym (z .1))

@@ -23,6 +23,10 @@ pub record FileOf (types terms file : List ℕ) : Type 0 where
   pub terms-are : terms ≡ words term
   pub accepted : Accepted file declared term
 
+-- The numbers and places of a save's refusals: 3 to 7, in the file to be written or one past it; 12 and 13, with place 0.
+abbrev pub Numbered : List ℕ → List ℕ → ℕ → ℕ → Type 0
+Numbered types terms n p = ((3 ≤ n) × (n ≤ 7) × (p ≤ 4 + length types + length terms)) ⊎ (((n ≡ 12) ⊎ (n ≡ 13)) × (p ≡ 0))
+
 -- Of which words a file is made, and by what the others are refused: 12 by their lengths alone; 3 to 7 as the check refuses that file; 13 only if the
 -- check accepts it.
 pub record Exactly (types terms : List ℕ) (room : ℕ) : Type 0 where
@@ -34,7 +38,7 @@ pub record Exactly (types terms : List ℕ) (room : ℕ) : Type 0 where
   pub thirteen : (saving types terms room ≡ refused 13 0)
       ↔ (FileOf types terms (bytesOf (fileOf types terms)) × (room < fileBytes (length types) (length terms)))
   pub no-other : (n p : ℕ) → saving types terms room ≡ refused n p
-      → ((3 ≤ n) × (n ≤ 7) × (p ≤ 4 + length types + length terms)) ⊎ (((n ≡ 12) ⊎ (n ≡ 13)) × (p ≡ 0))
+      → Numbered types terms n p
 
 -- "with places in the file to be written": what is judged is what the check says of that file, where neither type nor term is empty. An empty type
 -- runs out at 4, an empty term behind the type.
