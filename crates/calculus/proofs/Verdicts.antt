@@ -17,6 +17,10 @@ not-both n p a q = let z : _≡_ {A = ℕ} 0 1 = cc in omega arith
 pub passed-injective : {A : Type 0} (a b : A) → _≡_ {A = Verdict A} (passed a) (passed b) → a ≡ b
 passed-injective a b q = cc
 
+-- A refusal is its number and place.
+pub refused-injective : {A : Type 0} {n p m q : ℕ} → _≡_ {A = Verdict A} (refused n p) (refused m q) → (n ≡ m) × (p ≡ q)
+refused-injective e = (cc, cc)
+
 pub then-passed : {A B : Type 0} (v : Verdict A) (f : A → Verdict B) (b : B) → andThen v f ≡ passed b → (a : A) × (v ≡ passed a) × (f a ≡ passed b)
 then-passed (refused n p) f b q = absurd (not-both n p b q)
 then-passed (passed a) f b q = (a, refl, q)

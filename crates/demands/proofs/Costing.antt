@@ -15,7 +15,7 @@ use Rattle.calculus.specs.Endings.{Ending}
 use Rattle.calculus.specs.File.{check}
 use Rattle.calculus.specs.Accepted.{Accepted}
 use Rattle.calculus.specs.Typing.{Typed}
-use Rattle.calculus.proofs.Verdicts.{not-both, passed-injective}
+use Rattle.calculus.proofs.Verdicts.{not-both, passed-injective, refused-injective}
 use Rattle.calculus.proofs.Endings.{ends-iff, ending}
 use Rattle.calculus.proofs.Refusing.{Numbered, number-in-table}
 use Rattle.nodes.specs.declared.refusals.Refusal.the-variants.{Capacity}
@@ -42,7 +42,7 @@ use Rattle.pricing.proofs.Laws.{exactly, own-run, grows}
 use Rattle.demands.specs.Priced.{outcome, Finishes, refuses, ends, RefusedBy, OwnRun, Costs, nothing, too-many, charges, Answers, OtherType}
 use Rattle.demands.specs.Priced.{TooMany, PricedOnce, SamePrice, PricedTwice}
 use Rattle.demands.proofs.Running as running
-use Rattle.demands.proofs.Running.{Promised, reduces-of, refused-injective}
+use Rattle.demands.proofs.Running.{Promised, reduces-of}
 use Rattle.demands.proofs.Demanding as demanding
 
 -- Every refusal of pricing is one of the eleven.
@@ -91,7 +91,7 @@ told-refused g v n p h q = by (outcome g) refl (h ∙ ap (λ (w : Verdict Bill).
   where
     by : (o : Outcome) → outcome g ≡ o → spoken o ≡ refused n p → RefusedBy g n p
     by (Refused y) w e =
-        let i = refused-injective (numberOf y) (placeOf y) n p e in record { refusal = y; refused = w; number = i .0; place = i .1 }
+        let i = refused-injective e in record { refusal = y; refused = w; number = i .0; place = i .1 }
     by (Ended x) w e = absurd (not-both n p (told x) (sym e))
 
 told-as : (g : Returned) (v : Verdict Bill) (n p : ℕ) → spoken (outcome g) ≡ andThen (ran v) (λ r. passed (lineOf r)) → v ≡ refused n p

@@ -15,7 +15,7 @@ use Rattle.calculus.specs.Counting.{Counted}
 use Rattle.calculus.specs.Endings.{Ending}
 use Rattle.calculus.specs.File.{Recipe, check, runIn, operate, padded, leftBy}
 use Rattle.calculus.specs.Accepted.{Accepted}
-use Rattle.calculus.proofs.Verdicts.{not-both, passed-injective}
+use Rattle.calculus.proofs.Verdicts.{not-both, passed-injective, refused-injective}
 use Rattle.calculus.proofs.Checks.{check-iff, operate-iff}
 use Rattle.calculus.proofs.Bounds.{operate-bounded}
 use Rattle.calculus.proofs.Endings.{ends-iff, ending, ends-counted}
@@ -121,10 +121,6 @@ over-as : (l : Lent) → Over l → answerOf l ≡ refused 8 0
 unfolding operate runIn
 over-as l (τ, e, a, s) = rw (check-iff (l .bytes) τ e .1 a, lt-leb (size e) (room l) s)
 
--- A refusal is its number and place.
-pub refused-injective : {A : Type 0} (n p m q : ℕ) → _≡_ {A = Verdict A} (refused n p) (refused m q) → (n ≡ m) × (p ≡ q)
-refused-injective n p m q e = (cc, cc)
-
 is-capacity : (x : Refusal) → numberOf x ≡ 8 → x ≡ r.Capacity
 is-capacity r.Bytes q = absurd (omega (arith, q))
 is-capacity r.Header q = absurd (omega (arith, q))
@@ -141,7 +137,7 @@ refused-by : (a : Answer) (v : Verdict spec.Result) (n p : ℕ) → spoken a ≡
 refused-by a v n p h q = by a (h ∙ ap (λ (w : Verdict spec.Result). andThen w (λ y. passed (lineOf y))) q)
   where
     by : (a : Answer) → spoken a ≡ refused n p → (r : Refusal) × (a ≡ Refused r) × (numberOf r ≡ n) × (placeOf r ≡ p)
-    by (Refused r) e = let i = refused-injective (numberOf r) (placeOf r) n p e in (r, refl, i .0, i .1)
+    by (Refused r) e = let i = refused-injective e in (r, refl, i .0, i .1)
     by (Ended x) e = absurd (not-both n p (told x) (sym e))
 
 -- What the check gives, with the term's size, decides the way.
@@ -200,7 +196,7 @@ exact-of l g h =
 
     numbers-are : (r : Refusal) (n p : ℕ) → g .answer ≡ Refused r → answerOf l ≡ refused n p → (numberOf r ≡ n) × (placeOf r ≡ p)
     numbers-are r n p q o =
-        refused-injective (numberOf r) (placeOf r) n p (refusal-is r q ∙ ap (λ (v : Verdict spec.Result). andThen v (λ y. passed (lineOf y))) o)
+        refused-injective (refusal-is r q ∙ ap (λ (v : Verdict spec.Result). andThen v (λ y. passed (lineOf y))) o)
 
     over-by : g .answer ≡ Refused r.Capacity → Way l → Over l
     over-by q (fits f) = absurd (not-made r.Capacity q f)

@@ -14,7 +14,7 @@ use Rattle.calculus.specs.Counting.{later}
 use Rattle.calculus.specs.Endings.{Ending}
 use Rattle.calculus.specs.File.{bytesOf, fileOf, Recipe, operate, padded, leftBy}
 use Rattle.calculus.specs.Accepted.{Accepted}
-use Rattle.calculus.proofs.Verdicts.{not-both, passed-injective}
+use Rattle.calculus.proofs.Verdicts.{not-both, passed-injective, refused-injective}
 use Rattle.calculus.proofs.Checks.{accepted-once, operate-iff}
 use Rattle.calculus.proofs.Bounds.{operate-bounded}
 use Rattle.calculus.proofs.Endings.{ends-iff, ending}
@@ -42,7 +42,7 @@ use Rattle.saving.proofs.Going.{one-tree, goes-on}
 use Rattle.demands.specs.Saved.{Handed, handed, bytesDue, Finishes, refuses, writes, RefusedBy, Savable, SavedOnce, Paused, leftOf, writtenOf}
 use Rattle.demands.specs.Saved.{ReadBack, after, AsOne, SaveRuns}
 use Rattle.demands.proofs.Running as running
-use Rattle.demands.proofs.Running.{Promised, ended-by, front, refused-injective}
+use Rattle.demands.proofs.Running.{Promised, ended-by, front}
 
 -- A run depends on its buffers by their capacity alone.
 run-as : (bs cs : List ℕ) (k j a b c d : ℕ) → bs ≡ cs → k ≡ j → spec.capacity a b ≡ spec.capacity c d → operate bs k a b ≡ operate cs j c d
@@ -62,7 +62,7 @@ is-refused x v n p h q = by x refl (h ∙ ap lengthOf q)
   where
     by : (y : Saved) → x ≡ y → spoken y ≡ refused n p → RefusedBy x n p
     by (Refused y) w e =
-        let i = refused-injective (numberOf y) (placeOf y) n p e in record { refusal = y; refused = w; number = i .0; place = i .1 }
+        let i = refused-injective e in record { refusal = y; refused = w; number = i .0; place = i .1 }
     by (File m) w e = absurd (not-both n p m (sym e))
 
 -- 12 and 13 are those of the lengths and of the buffer.

@@ -13,13 +13,13 @@ use Rattle.calculus.specs.Trees.{Ty, ml, Term}
 use Rattle.calculus.specs.Words.{wordsTy, words, size}
 use Rattle.calculus.specs.Kinds.{Sort, type, term, Tree, putTree}
 use Rattle.calculus.specs.Limits.{nestingTy, nesting}
-use Rattle.calculus.specs.Verdicts.{Verdict, refused, passed}
+use Rattle.calculus.specs.Verdicts.{refused, passed}
 use Rattle.calculus.specs.Reading.{readTree}
 use Rattle.calculus.specs.Run.{End, valued, spent, error, full, Open, uncounted, Result, run, capacity}
 use Rattle.calculus.specs.Counting.{later}
 use Rattle.calculus.specs.File.{Recipe, judged, operate}
 use Rattle.calculus.specs.Accepted.{Accepted}
-use Rattle.calculus.proofs.Verdicts.{not-both}
+use Rattle.calculus.proofs.Verdicts.{not-both, refused-injective}
 use Rattle.calculus.proofs.Rows.{TreeInRange}
 use Rattle.calculus.proofs.Reading.{whole-tree}
 use Rattle.calculus.proofs.Typing.{typed-scoped}
@@ -44,9 +44,6 @@ judged-fine τ t start h g n p q = by (leb (nesting t) 256) refl
     types : Ordered type (wordsTy τ)
     types = record { tree = τ; spelt = refl; ranged = tt; nests = h }
 
-    number : {a b c d : ℕ} → _≡_ {A = Verdict Recipe} (refused a b) (refused c d) → a ≡ c
-    number e = cc
-
     by : (b : Bool) → leb (nesting t) 256 ≡ b → n ≡ 4
     by true e =
         let terms : Ordered (term ml) (words t) = record { tree = t; spelt = refl; ranged = g .ranged; nests = leb-true (nesting t) 256 e } in
@@ -55,7 +52,7 @@ judged-fine τ t start h g n p q = by (leb (nesting t) 256) refl
     by false e =
         let i = deeper-refused (term ml) t (g .ranged) (leb-false (nesting t) 256 e) in
         let j : judged (wordsTy τ) (words t) start ≡ refused 4 (start + i .0) = rw (ordered-passes type (wordsTy τ) types, i .1) in
-        number (sym q ∙ j)
+        refused-injective (sym q ∙ j) .0
 
 -- Words are those of one tree in range.
 pub one-tree : (s : Sort) (t u : Tree s) → TreeInRange s t → TreeInRange s u → putTree s t [] ≡ putTree s u [] → t ≡ u

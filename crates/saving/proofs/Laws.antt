@@ -16,7 +16,7 @@ use Rattle.calculus.specs.Verdicts.{Verdict, refused, passed, andThen, unless}
 use Rattle.calculus.specs.Reading.{walk, inOrder}
 use Rattle.calculus.specs.File.{wordsOf, bytesOf, fileOf, Recipe, judged, checkWords, check, isHeader}
 use Rattle.calculus.specs.Accepted.{fileWords, Accepted}
-use Rattle.calculus.proofs.Verdicts.{not-both, passed-injective}
+use Rattle.calculus.proofs.Verdicts.{not-both, passed-injective, refused-injective}
 use Rattle.calculus.proofs.Sizes.{tree-append, tree-length}
 use Rattle.calculus.proofs.Views.{view, sized}
 use Rattle.calculus.proofs.Nesting.{Ordered, ordered-passes}
@@ -117,10 +117,6 @@ module _ (types terms : List ℕ) where
       by true e = judging (leb-true bytes 16384 e) (judged types terms start) refl
       by false e = long (leb-false bytes 16384 e)
 
-  -- Refusals of other numbers are others.
-  numbers : {a b c d : ℕ} → _≡_ {A = Verdict (List ℕ)} (refused a b) (refused c d) → (a ≡ c) × (b ≡ d)
-  numbers e = (cc, cc)
-
   module _ (room : ℕ) where
     saves : (bs : List ℕ) → (saving types terms room ≡ passed bs) ↔ (FileOf types terms bs × (length bs ≤ room))
     unfolding saving
@@ -145,8 +141,8 @@ module _ (types terms : List ℕ) where
       where
         by : {v : Verdict (List ℕ)} → Way room v → v ≡ refused 12 0 → 16384 < bytes
         by (long h) q = h
-        by (out n p h e i) q = absurd (omega (arith, i .1, numbers q .0))
-        by (short f h) q = absurd (omega (arith, numbers q .0))
+        by (out n p h e i) q = absurd (omega (arith, i .1, refused-injective q .0))
+        by (short f h) q = absurd (omega (arith, refused-injective q .0))
         by (made f h) q = absurd (not-both 12 0 file (sym q))
 
         back : 16384 < bytes → saving types terms room ≡ refused 12 0
@@ -157,9 +153,9 @@ module _ (types terms : List ℕ) where
     others n p small = (λ q. by (way room) q, λ h. back (h .0) (h .1))
       where
         by : {v : Verdict (List ℕ)} → Way room v → v ≡ refused n p → (bytes ≤ 16384) × (judged types terms start ≡ refused n p)
-        by (long h) q = absurd (omega (arith, small, numbers q .0))
-        by (out m o h e i) q = let z = numbers q in (h, e ∙ rw (z .0, z .1))
-        by (short f h) q = absurd (omega (arith, small, numbers q .0))
+        by (long h) q = absurd (omega (arith, small, refused-injective q .0))
+        by (out m o h e i) q = let z = refused-injective q in (h, e ∙ rw (z .0, z .1))
+        by (short f h) q = absurd (omega (arith, small, refused-injective q .0))
         by (made f h) q = absurd (not-both n p file (sym q))
 
         back : bytes ≤ 16384 → judged types terms start ≡ refused n p → saving types terms room ≡ refused n p
@@ -170,8 +166,8 @@ module _ (types terms : List ℕ) where
     thirteen = (λ q. by (way room) q, λ h. back (h .0) (h .1))
       where
         by : {v : Verdict (List ℕ)} → Way room v → v ≡ refused 13 0 → FileOf types terms file × (room < bytes)
-        by (long h) q = absurd (omega (arith, numbers q .0))
-        by (out n p h e i) q = absurd (omega (arith, i .1, numbers q .0))
+        by (long h) q = absurd (omega (arith, refused-injective q .0))
+        by (out n p h e i) q = absurd (omega (arith, i .1, refused-injective q .0))
         by (short f h) q = (f, h)
         by (made f h) q = absurd (not-both 13 0 file (sym q))
 
@@ -182,9 +178,9 @@ module _ (types terms : List ℕ) where
     no-other n p q = by (way room) q
       where
         by : {v : Verdict (List ℕ)} → Way room v → v ≡ refused n p → Numbered types terms n p
-        by (long h) q = let z = numbers q in inr (inl (sym (z .0)), sym (z .1))
-        by (out m o h e i) q = let z = numbers q in inl (omega (arith, i .0, z .0), omega (arith, i .1, z .0), omega (arith, i .2, z .1))
-        by (short f h) q = let z = numbers q in inr (inr (sym (z .0)), sym (z .1))
+        by (long h) q = let z = refused-injective q in inr (inl (sym (z .0)), sym (z .1))
+        by (out m o h e i) q = let z = refused-injective q in inl (omega (arith, i .0, z .0), omega (arith, i .1, z .0), omega (arith, i .2, z .1))
+        by (short f h) q = let z = refused-injective q in inr (inr (sym (z .0)), sym (z .1))
         by (made f h) q = absurd (not-both n p file (sym q))
 
     pub exactly : Exactly types terms room
