@@ -74,6 +74,7 @@ fn the_node_counts_and_not_what_becomes_of_it() {
     // Other nodes that become wrongs are others, and so is the error's own step.
     error(&[1], &[30, 1, 41, 39], 4, 2, [0, 0, 2]);
     error(&[1], &[30, 1, 36, 39, SEVEN], 1, 2, [0, 0, 2]);
+    error(&[1], &[30, 1, 38, 39, SEVEN, SEVEN], 1, 2, [0, 0, 2]);
 }
 
 #[test]

@@ -88,9 +88,10 @@ fn hd_of_nil() {
     error(&[1], &[26, 24, 1], 4, 2, [0, 0, 2]);
 }
 
+/// "The recipe ms N (if0 nil 1 2) ends as error 1 after 2 steps": document 02's request U4.
 #[test]
 fn scheme_if0_of_no_number() {
-    value(&[1], &[30, 1, 38, 39, w(33, 1), w(33, 2)], 2, [0, 1, 1], &[w(17, 2)]);
+    error(&[1], &[30, 1, 38, 39, w(33, 1), w(33, 2)], 1, 2, [0, 0, 2]);
 }
 
 #[test]

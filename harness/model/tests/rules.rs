@@ -1,4 +1,4 @@
-//! Each rule of document 01 on a small term, the next term's words written by hand.
+//! Each rule of document 01, and of document 02's request U4, on a small term, the next term's words written by hand.
 
 mod common;
 use common::*;
@@ -59,8 +59,35 @@ fn scheme_applications_and_numbers() {
     scheme(&[36, SEVEN, 39], &[w(44, 1)]);
     scheme(&[37, SEVEN, w(33, 8)], &[w(33, 0)]);
     scheme(&[37, SEVEN, 34, 32], &[w(44, 1)]);
+}
+
+#[test]
+fn scheme_if0() {
+    // 0 takes the second part, every other number the third; the other part may be a wrong.
     scheme(&[38, w(33, 0), SEVEN, w(44, 9)], &[SEVEN]);
-    scheme(&[38, 34, 32, w(44, 9), SEVEN], &[SEVEN]);
+    for number in [1, 2, LARGEST] {
+        scheme(&[38, w(33, number), w(44, 9), SEVEN], &[SEVEN]);
+    }
+    // A lambda, nil, and a cons of whatever values: wrong 1, also where a branch has a wrong of its own.
+    let values: [&[u32]; 5] = [&[34, 32], &[39], &[40, SEVEN, 39], &[40, w(33, 0), w(33, 0)], &[40, 39, 34, w(44, 9)]];
+    for value in values {
+        scheme(&[&[38], value, &[SEVEN, SEVEN]].concat(), &[w(44, 1)]);
+        scheme(&[&[38], value, &[w(44, 8), w(44, 9)]].concat(), &[w(44, 1)]);
+    }
+}
+
+#[test]
+fn the_test_of_if0_comes_to_a_value_first() {
+    // Of a value from ML: a function, the empty list, a sealed value.
+    scheme(&[38, 45, 4, 1, 1, 18, 1, 16, SEVEN, SEVEN], &[38, 34, 45, 1, 19, 18, 1, 16, 30, 1, 32, SEVEN, SEVEN]);
+    error(&[1], &[30, 1, 38, 45, 4, 1, 1, 18, 1, 16, SEVEN, SEVEN], 1, 3, [0, 1, 2]);
+    error(&[1], &[30, 1, 38, 45, 3, 1, 24, 1, SEVEN, SEVEN], 1, 3, [0, 1, 2]);
+    error(&[1], &[30, 1, 38, 45, 2, 30, 2, 39, SEVEN, SEVEN], 1, 3, [0, 1, 2]);
+    // A list of one number from ML: the cons, the number and its end are converted.
+    error(&[1], &[30, 1, 38, 45, 3, 1, 25, 17, 24, 1, SEVEN, SEVEN], 1, 5, [0, 3, 2]);
+    // A wrong in the test is raised with its own code; a number that was sealed is a number.
+    error(&[1], &[30, 1, 38, w(44, 300), SEVEN, SEVEN], 300, 1, [0, 0, 1]);
+    value(&[1], &[30, 1, 38, 45, 2, 30, 2, w(33, 0), SEVEN, 39], 3, [0, 2, 1], &[w(17, 7)]);
 }
 
 #[test]

@@ -1,4 +1,5 @@
-//! Document 01's reductions: what a node becomes when it is its turn and the parts that evaluation takes are values.
+//! Document 01's reductions, with Scheme's if0 as document 02's request U4 has it: what a node becomes when it is its turn
+//! and the parts that evaluation takes are values.
 
 mod ml;
 mod names;

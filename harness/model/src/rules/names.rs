@@ -1,4 +1,4 @@
-//! The 48 outcomes of the reductions, each in the language of the node that is replaced.
+//! The 49 outcomes of the reductions, each in the language of the node that is replaced.
 
 macro_rules! outcomes {
     ($($rule:ident $name:literal,)*) => {
@@ -6,7 +6,7 @@ macro_rules! outcomes {
         pub enum Rule { $($rule,)* }
 
         impl Rule {
-            pub const ALL: [Rule; 48] = [$(Rule::$rule,)*];
+            pub const ALL: [Rule; 49] = [$(Rule::$rule,)*];
 
             pub fn name(self) -> &'static str {
                 match self { $(Rule::$rule => $name,)* }
@@ -44,7 +44,8 @@ outcomes! {
     SchemeSubtract "Scheme subtract",
     SchemeSubtractOther "Scheme subtract of no number: wrong 1",
     SchemeIf0Zero "Scheme if0 of 0: the second part",
-    SchemeIf0Other "Scheme if0 of another value: the third part",
+    SchemeIf0Other "Scheme if0 of another number: the third part",
+    SchemeIf0NoNumber "Scheme if0 of no number: wrong 1",
     SchemeHdCons "Scheme hd of cons",
     SchemeHdNil "Scheme hd of nil: wrong 4",
     SchemeHdOther "Scheme hd of another value: wrong 3",
@@ -68,11 +69,11 @@ outcomes! {
 
 /// How often each outcome was met.
 #[derive(Clone, Debug, PartialEq, Eq)]
-pub struct RuleCounts([u64; 48]);
+pub struct RuleCounts([u64; 49]);
 
 impl Default for RuleCounts {
     fn default() -> RuleCounts {
-        RuleCounts([0; 48])
+        RuleCounts([0; 49])
     }
 }
 

@@ -44,10 +44,12 @@ fn subtract(a: &Scheme, b: &Scheme) -> (Rule, Rc<Scheme>) {
     }
 }
 
+/// "Scheme's if0 on a value that is no number now becomes wrong 1."
 fn if0(test: &Scheme, yes: &Rc<Scheme>, no: &Rc<Scheme>) -> (Rule, Rc<Scheme>) {
     match test {
         Scheme::Number(0) => (Rule::SchemeIf0Zero, yes.clone()),
-        _ => (Rule::SchemeIf0Other, no.clone()),
+        Scheme::Number(_) => (Rule::SchemeIf0Other, no.clone()),
+        _ => (Rule::SchemeIf0NoNumber, wrong(1)),
     }
 }
 

@@ -46,7 +46,7 @@ impl Counts {
         self.end_rows().chain(self.class_rows()).chain(self.refusal_rows(7)).collect()
     }
 
-    /// The table of a comparison of runs: 48 outcomes of rules, 4 ends, 3 classes of steps to each, 8 refusals.
+    /// The table of a comparison of runs: 49 outcomes of rules, 4 ends, 3 classes of steps to each, 8 refusals.
     pub fn of_runs(&self) -> Vec<(String, u64)> {
         let rules = Rule::ALL.iter().map(|rule| (rule.name().to_string(), self.rules.of(*rule)));
         rules.chain(self.end_rows()).chain(self.class_rows()).chain(self.refusal_rows(8)).collect()
