@@ -28,7 +28,7 @@ pub fn try_reduction(recipe: &Recipe, steps: u32, most: usize) -> Result<u32, St
 }
 
 /// A term reached has the declared type, and is exactly one of a value, a raised error and a term that reduces.
-fn try_term(term: &Rc<Ml>, declared: &Type) -> Result<(), String> {
+pub fn try_term(term: &Rc<Ml>, declared: &Type) -> Result<(), String> {
     if unbound(term).is_some() {
         return Err("a variable has lost its lambda".into());
     }

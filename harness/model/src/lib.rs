@@ -9,6 +9,7 @@
 pub mod build;
 pub mod check;
 pub mod class;
+pub mod earlier;
 pub mod file;
 pub mod kinds;
 pub mod laws;

@@ -4,7 +4,7 @@ use crate::check::{check, Refusal};
 use crate::class::ClassCounts;
 use crate::node::{ml_words, Node};
 use crate::rules::RuleCounts;
-use crate::step::{turn, Step};
+use crate::step::{turn, Reduction, Step, Turn};
 use crate::tree::Ml;
 use std::rc::Rc;
 
@@ -62,16 +62,21 @@ impl Run {
 
 /// Checks the file and runs it with the step limit and two buffers of the given lengths.
 pub fn run(bytes: &[u8], limit: u32, first_len: usize, second_len: usize) -> Run {
-    let capacity = capacity(first_len, second_len);
+    run_by(Turn::step, bytes, limit, (first_len, second_len))
+}
+
+/// The same under another reduction.
+pub fn run_by(reduction: Reduction, bytes: &[u8], limit: u32, lengths: (usize, usize)) -> Run {
+    let capacity = capacity(lengths.0, lengths.1);
     let mut rules = RuleCounts::default();
     let (result, left) = match check(bytes).and_then(|recipe| fitting(recipe.term, capacity)) {
         Err(refusal) => (Err(refusal), None),
         Ok(term) => {
-            let (ended, left) = reduce(term, limit, capacity, &mut rules);
+            let (ended, left) = reduce_by(reduction, term, limit, capacity, &mut rules);
             (Ok(ended), left)
         }
     };
-    Run::new(result, left, (first_len, second_len), rules)
+    Run::new(result, left, lengths, rules)
 }
 
 /// "Capacity is the shorter length, at most 16,384."
@@ -89,14 +94,24 @@ pub fn fitting(term: Rc<Ml>, capacity: usize) -> Result<Rc<Ml>, Refusal> {
 
 /// Reduces a term to one of the four ends; the term that the run leaves comes second, none after an error.
 pub fn reduce(term: Rc<Ml>, limit: u32, capacity: usize, rules: &mut RuleCounts) -> (Ended, Option<Rc<Ml>>) {
-    let mut term = term;
+    reduce_by(Turn::step, term, limit, capacity, rules)
+}
+
+/// The same under another reduction.
+fn reduce_by(
+    reduction: Reduction,
+    mut term: Rc<Ml>,
+    limit: u32,
+    capacity: usize,
+    rules: &mut RuleCounts,
+) -> (Ended, Option<Rc<Ml>>) {
     let mut made = Ended { end: End::Value, code: 0, steps: 0, left: 0, wanted: 0, classes: ClassCounts::default() };
     loop {
         let Some(turn) = turn(&term) else { return keep(Ended { end: End::Value, ..made }, term) };
         if made.steps == limit {
             return keep(Ended { end: End::Spent, ..made }, term);
         }
-        let step = turn.step();
+        let step = reduction(&turn);
         if let Step::Next(_, next) = &step {
             let wanted = Node::Ml(next).size();
             if wanted > capacity {

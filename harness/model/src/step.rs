@@ -39,13 +39,24 @@ impl Turn {
         if let Some(code) = raised(&self.node) {
             return Step::Raised(code);
         }
-        let Some((rule, replaced)) = contract(&self.node) else { return Step::Stuck };
+        match contract(&self.node) {
+            Some((rule, replaced)) => Step::Next(rule, self.with(replaced)),
+            None => Step::Stuck,
+        }
+    }
+
+    /// The whole term with another in the node's place.
+    pub fn with(&self, replaced: Tree) -> Rc<Ml> {
         match self.context.iter().rev().fold(replaced, plug) {
-            Tree::Ml(next) => Step::Next(rule, next),
+            Tree::Ml(term) => term,
             _ => unreachable!("a term of ML stays one"),
         }
     }
 }
+
+/// A reduction: the step that it makes on the node whose turn it is. Document 01's with the requests of document 02 is
+/// `Turn::step`.
+pub type Reduction = fn(&Turn) -> Step;
 
 pub enum Step {
     Value,
