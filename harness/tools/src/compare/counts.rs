@@ -1,5 +1,6 @@
 //! What a comparison has reached: the outcomes of the rules, the ends and where the steps to them went, the refusals.
 
+use super::tested::TESTS;
 use model::rules::{Rule, RuleCounts};
 use model::{Class, End, Ended, Refusal};
 use std::fmt::Write;
@@ -15,6 +16,8 @@ pub struct Counts {
     /// Runs with a step of the class, for each end.
     classes: [[u64; 3]; 4],
     rules: RuleCounts,
+    /// By `TESTS`, of random recipes.
+    tests: [u64; TESTS.len()],
 }
 
 impl Counts {
@@ -33,6 +36,11 @@ impl Counts {
         self.rules.join(rules);
     }
 
+    /// Counts what Scheme's if0 has tested in the run of a random recipe.
+    pub fn tested(&mut self, kinds: [bool; TESTS.len()]) {
+        self.tests.iter_mut().zip(kinds).for_each(|(count, is)| *count += u64::from(is));
+    }
+
     /// The table of a comparison of checks.
     pub fn of_checks(&self) -> Vec<(String, u64)> {
         let mut rows = vec![("accepted".to_string(), self.accepted)];
@@ -46,10 +54,14 @@ impl Counts {
         self.end_rows().chain(self.class_rows()).chain(self.refusal_rows(7)).collect()
     }
 
-    /// The table of a comparison of runs: 49 outcomes of rules, 4 ends, 3 classes of steps to each, 8 refusals.
+    /// The table of a comparison of runs: 49 outcomes of rules, 6 kinds of tests that are no numbers, 4 ends, 3 classes of
+    /// steps to each, 8 refusals.
     pub fn of_runs(&self) -> Vec<(String, u64)> {
         let rules = Rule::ALL.iter().map(|rule| (rule.name().to_string(), self.rules.of(*rule)));
-        rules.chain(self.end_rows()).chain(self.class_rows()).chain(self.refusal_rows(8)).collect()
+        let tests =
+            TESTS.iter().zip(self.tests).map(|(test, count)| (format!("random recipe that tests {test}"), count));
+        let rows = rules.chain(tests).chain(self.end_rows());
+        rows.chain(self.class_rows()).chain(self.refusal_rows(8)).collect()
     }
 
     /// The rows that a comparison of pricings has of its runs: 4 ends, 3 classes of steps to each, 11 refusals.

@@ -15,6 +15,7 @@ mod run;
 pub mod save;
 mod seen;
 mod stack;
+mod tested;
 
 use crate::progress::Progress;
 

@@ -5,6 +5,7 @@ use super::case::Case;
 use super::lent::at_the_edges;
 use super::plan::{follow, plans};
 use super::seen::{lend, show_both, Seen};
+use super::tested::tested;
 use super::{Counts, Plan};
 use crate::engine::{RecipeRun, Run};
 use crate::make::*;
@@ -14,7 +15,7 @@ use model::laws::{ends_alike, try_counts, try_reduction};
 use model::{check, End};
 use std::collections::BTreeSet;
 
-/// Compares on every small recipe, on the edges and on random files. A difference comes back shrunk and shown.
+/// Compares on every small recipe, every test of if0, on the edges and on random files. A difference comes back shrunk and shown.
 pub fn compare_run(engine: Run, plan: Plan) -> Result<Counts, String> {
     let mut counts = Counts::default();
     if plan.start == 0 {
@@ -27,12 +28,17 @@ pub fn compare_run(engine: Run, plan: Plan) -> Result<Counts, String> {
 /// How often the laws are tried on a recipe's whole reduction.
 const LAWS_EVERY: u64 = 8;
 
+/// A maker of random files.
+type Make = fn(&mut Random) -> Vec<u8>;
+
 fn random_file(engine: Run, seed: u64, index: u64, counts: &mut Counts) -> Result<(), String> {
     let mut random = Random::new(seed, index);
-    let file = if random.chance(88) { well_typed_file(&mut random) } else { damaged_file(&mut random) };
+    let make = random.weighted(&[(84, well_typed_file as Make), (4, mistaken_file), (12, damaged_file)]);
+    let file = make(&mut random);
     counts.files += 1;
     let (case, larger) = plans(&mut random, file);
     let ran = compare_twice(engine, &case, &larger, counts)?;
+    counts.tested(tested(&case.file, &ran));
     if index.is_multiple_of(LAWS_EVERY) {
         laws(&case.file, &ran, counts)?;
     }
@@ -71,6 +77,9 @@ fn fixed(engine: Run, counts: &mut Counts) -> Result<(), String> {
         }
     });
     outcome?;
+    for file in every_test() {
+        small(engine, file, counts)?;
+    }
     for file in edges() {
         counts.files += 1;
         compare(engine, &Case::new(file, 3, 9, 8), counts)?;

@@ -45,6 +45,8 @@ pub struct Maker<'a> {
     /// How many nodes may still be made before terms are closed as soon as they can be.
     pub budget: usize,
     pub depth: usize,
+    /// How many of a hundred tests of Scheme's if0 are to be numbers.
+    pub numbers_tested: usize,
 }
 
 /// Levels after which terms are closed; what closes them, types included, nests far less than the rest of 256.
@@ -63,7 +65,7 @@ fn levels(t: &Type) -> usize {
 
 impl<'a> Maker<'a> {
     pub fn new(random: &'a mut Random, budget: usize) -> Maker<'a> {
-        Maker { random, lambdas: Vec::new(), budget, depth: 1 }
+        Maker { random, lambdas: Vec::new(), budget, depth: 1, numbers_tested: 80 }
     }
 
     pub fn must_close(&self) -> bool {

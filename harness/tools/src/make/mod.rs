@@ -1,5 +1,5 @@
-//! What to compare on: random well-typed recipes, cans, damaged files, edges, every small term, price tables, and words to
-//! save.
+//! What to compare on: random well-typed recipes, cans, damaged files, edges, every small term, every test of if0, price
+//! tables, and words to save.
 
 pub mod cans;
 mod damage;
@@ -11,11 +11,13 @@ mod plan;
 pub mod prices;
 pub mod saves;
 mod scheme;
+mod tests;
 mod text;
 mod types;
 
 pub use damage::{damage, telling_word};
 pub use edges::{deep_recipes, edges, nested};
 pub use every::{every_small_recipe, every_small_term, every_small_type};
-pub use plan::{damaged_file, well_typed_file};
+pub use plan::{damaged_file, mistaken_file, well_typed_file};
+pub use tests::every_test;
 pub use text::{file_of_text, sum};

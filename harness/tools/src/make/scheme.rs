@@ -25,7 +25,7 @@ impl Maker<'_> {
                 let a = self.small_type();
                 sc(Scheme::Application(self.operand(&to(a.clone(), t.clone())), self.scheme(&a)))
             }
-            Form::If0 => sc(Scheme::If0(self.scheme_test(), self.scheme(t), self.scheme(t))),
+            Form::If0 => self.scheme_if0(t),
             Form::Hd => sc(Scheme::Hd(self.operand(&list(t.clone())))),
             Form::Tl => sc(Scheme::Tl(self.operand(t))),
             Form::Arithmetic => self.scheme_arithmetic(),
@@ -80,10 +80,20 @@ impl Maker<'_> {
         sc(Scheme::Application(twice.clone(), twice))
     }
 
-    /// A test of if0, most often a number.
-    fn scheme_test(&mut self) -> Rc<Scheme> {
-        let t = if self.random.chance(75) { n() } else { self.small_type() };
-        self.scheme(&t)
+    /// An if0 whose test is a number or not, as often as the maker says.
+    pub fn scheme_if0(&mut self, t: &Rc<Type>) -> Rc<Scheme> {
+        let test = if self.random.chance(self.numbers_tested) { n() } else { self.no_number() };
+        sc(Scheme::If0(self.scheme(&test), self.scheme(t), self.scheme(t)))
+    }
+
+    /// A small type whose values are no numbers, or are sealed.
+    fn no_number(&mut self) -> Rc<Type> {
+        loop {
+            let t = self.small_type();
+            if *t != Type::Number {
+                return t;
+            }
+        }
     }
 
     fn scheme_arithmetic(&mut self) -> Rc<Scheme> {
