@@ -111,7 +111,8 @@ fn save(args: Args) -> Result<(), Fault> {
     let ((check, run), save) = linked.ok_or(without("run"))?;
     let engine = SavingEngine { check, run, save };
     let counts = on_large_stack(|| compare_save(engine, plan)).map_err(difference)?;
-    say(format!("{} saves, {} runs saved and gone on with, no difference", counts.saves, counts.pairs));
+    let (saves, pairs, earlier) = (counts.saves, counts.pairs, counts.earlier.files);
+    say(format!("{saves} saves, {pairs} runs saved and gone on with, {earlier} files saved before U4, no difference"));
     finish(counts.rows(), all_reached)
 }
 

@@ -15,7 +15,7 @@ pub struct Followed {
 }
 
 /// Steps that a reduction is followed, so that no run is longer.
-const FOLLOWED: usize = 250;
+pub const FOLLOWED: usize = 250;
 
 pub fn follow(file: &[u8]) -> Followed {
     let Ok(recipe) = check(file) else { return Followed { sizes: vec![6], ends: true } };

@@ -47,7 +47,7 @@ fn random_file(engine: Run, seed: u64, index: u64, counts: &mut Counts) -> Resul
 
 /// A run, and if it ends as a value or an error a second that is lent at least as much and must end the same. Answers
 /// with the first.
-fn compare_twice(engine: Run, case: &Case, larger: &Case, counts: &mut Counts) -> Result<model::Run, String> {
+pub fn compare_twice(engine: Run, case: &Case, larger: &Case, counts: &mut Counts) -> Result<model::Run, String> {
     let first = compare(engine, case, counts)?;
     if first.result.is_ok_and(|ended| matches!(ended.end, End::Value | End::Error)) {
         let second = compare(engine, larger, counts)?;
@@ -58,7 +58,8 @@ fn compare_twice(engine: Run, case: &Case, larger: &Case, counts: &mut Counts) -
     Ok(first)
 }
 
-fn laws(file: &[u8], ran: &model::Run, counts: &mut Counts) -> Result<(), String> {
+/// Tries demand 3 on what a file's reduction comes to, and the law of the counts on its run.
+pub fn laws(file: &[u8], ran: &model::Run, counts: &mut Counts) -> Result<(), String> {
     let Ok(recipe) = check(file) else { return Ok(()) };
     let shown = |law: String| format!("{law}\n{}", super::show_file(file));
     counts.laws += u64::from(try_reduction(&recipe, 60, 3_000).map_err(shown)?);

@@ -1,9 +1,9 @@
-//! What a comparison of saves has reached: refusals, their places and their order, lengths of buffers, empty words, and the
-//! ends of runs that were saved and went on.
+//! What a comparison of saves has reached: refusals, their places and their order, lengths of buffers, empty words, the ends
+//! of runs that were saved and went on, and files that were saved before U4.
 
 use super::faults::ORDER;
 use super::going::{GoingOn, WentOn};
-use super::SaveCase;
+use super::{EarlierCounts, SaveCase};
 use crate::compare::counts::order_rows;
 use crate::engine::RecipeRun;
 use model::file::MOST_BYTES;
@@ -37,6 +37,7 @@ pub struct SaveCounts {
     classes: [u64; 3],
     /// Refused saves of runs, by the refusal.
     unsaved: [u64; 14],
+    pub earlier: EarlierCounts,
 }
 
 /// Buffers for words that are otherwise in order.
@@ -166,7 +167,7 @@ impl SaveCounts {
         let rows = rows.chain(named("buffer ", &ROOMS, &self.rooms)).chain(named("words: ", &WORDS, &self.words));
         let rows = rows.chain(self.pair_rows()).chain(named("pair with ", &LENT, &self.lent));
         let classes = ["a call", "a conversion", "an other"].map(|class| format!("pair with {class} in both runs"));
-        rows.chain(classes.into_iter().zip(self.classes)).collect()
+        rows.chain(classes.into_iter().zip(self.classes)).chain(self.earlier.rows()).collect()
     }
 
     /// Pairs by their ends, how many times as many as are due, and refused saves of runs. A full run is full again in the

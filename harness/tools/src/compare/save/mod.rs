@@ -1,8 +1,9 @@
-//! The save compared: the answer and every byte of the buffer, over words of recipes, damaged words and any others; and runs
-//! that are saved and go on beside one run, under many limits and capacities.
+//! The save compared: the answer and every byte of the buffer, over words of recipes, damaged words and any others; runs that
+//! are saved and go on beside one run, under many limits and capacities; and files that an earlier release has saved.
 
 mod case;
 mod counts;
+mod earlier;
 pub mod edges;
 pub mod faults;
 mod going;
@@ -13,6 +14,8 @@ use crate::engine::{Check, Run, Save};
 use crate::make::saves::{any_room, any_words, outgrowing};
 use crate::make::*;
 use crate::random::Random;
+use earlier::{Before, EarlierCounts};
+use model::check;
 use model::run::MOST_WORDS;
 
 pub use case::SaveCase;
@@ -27,8 +30,8 @@ pub struct SavingEngine {
     pub save: Save,
 }
 
-/// Compares at the edges, with every choice of faults, on small recipes, on runs that outgrow a file and on random words and
-/// files. A difference comes back shrunk and shown.
+/// Compares at the edges, with every choice of faults, on small recipes, on runs that outgrow a file, on random words and
+/// files, and on files that were saved before U4. A difference comes back shrunk and shown.
 pub fn compare_save(engine: SavingEngine, plan: Plan) -> Result<SaveCounts, String> {
     let mut counts = SaveCounts::default();
     if plan.start == 0 {
@@ -41,7 +44,11 @@ pub fn compare_save(engine: SavingEngine, plan: Plan) -> Result<SaveCounts, Stri
 /// Pairs that are tried with a random recipe.
 const PAIRS_EACH: usize = 3;
 
-/// Random words in a random buffer, and a random recipe whose run is saved and goes on.
+/// With one random file of so many comes a recipe that was run and saved before U4.
+const EARLIER_EVERY: u64 = 4;
+
+/// Random words in a random buffer, a random recipe whose run is saved and goes on, and now and then one that was saved
+/// before U4.
 fn random_file(engine: SavingEngine, seed: u64, index: u64, counts: &mut SaveCounts) -> Result<(), String> {
     let mut random = Random::new(seed, index);
     let (declared, term) = any_words(&mut random);
@@ -53,7 +60,19 @@ fn random_file(engine: SavingEngine, seed: u64, index: u64, counts: &mut SaveCou
     for _ in 0..PAIRS_EACH {
         any_going_on(&mut random, &file, &followed).compare(engine, counts)?;
     }
-    Ok(())
+    match index.is_multiple_of(EARLIER_EVERY) {
+        true => saved_before(engine, &mut random, counts),
+        false => Ok(()),
+    }
+}
+
+/// A recipe that was run and saved before U4; most often a script in it tests what is no number.
+fn saved_before(engine: SavingEngine, random: &mut Random, counts: &mut SaveCounts) -> Result<(), String> {
+    let file = if random.chance(80) { mistaken_file(random) } else { well_typed_file(random) };
+    match check(&file) {
+        Ok(recipe) => Before::new(recipe).compare(engine, random, counts),
+        Err(_) => Ok(()),
+    }
 }
 
 /// Limits around the steps that the run makes in a capacity, buffers that are equal or not, and now and then a short buffer
