@@ -2,6 +2,7 @@
 
 use crate::engine::{RecipePriced, RecipePrices, RecipeRun, RecipeSaved};
 use model::check::answer;
+use model::step::{Reduction, Turn};
 use model::{Charges, Class, Ended, Priced, Refusal};
 
 /// The model's check: 0 for accepted, else number + 256 x place.
@@ -11,7 +12,12 @@ pub fn check(file: &[u8]) -> u64 {
 
 /// The model's run in two lent buffers.
 pub fn run(file: &[u8], limit: u32, first: &mut [u32], second: &mut [u32]) -> RecipeRun {
-    let ran = model::run(file, limit, first.len(), second.len());
+    run_by(Turn::step, file, limit, first, second)
+}
+
+/// The same under another reduction.
+pub fn run_by(reduction: Reduction, file: &[u8], limit: u32, first: &mut [u32], second: &mut [u32]) -> RecipeRun {
+    let ran = model::run::run_by(reduction, file, limit, (first.len(), second.len()));
     first.copy_from_slice(&ran.first);
     second.copy_from_slice(&ran.second);
     told(&ran.result)

@@ -108,6 +108,17 @@ fn an_ms_that_becomes_a_wrong_counted_as_an_other() {
 }
 
 #[test]
+fn an_if0_that_becomes_wrong_1_counted_as_a_conversion() {
+    let engine: Run = |file, limit, first, second| {
+        counted(file, limit, first, second, |turn| match turn.step() {
+            Step::Next(Rule::SchemeIf0NoNumber, _) => Class::Conversion,
+            _ => turn.class(),
+        })
+    };
+    finds(engine, "(if0 nil ", [0, 0, 1], [0, 1, 0]);
+}
+
+#[test]
 fn conversions_counted_at_ms_alone() {
     let engine: Run = |file, limit, first, second| {
         counted(file, limit, first, second, |turn| if kind(turn) == 45 { Class::Other } else { turn.class() })

@@ -1,12 +1,13 @@
 //! The makers make what they promise, and reach every rule, end and refusal.
 
+use model::earlier::before_u4;
 use model::laws::{try_counts, try_going_on, try_reduction, WentOn};
 use model::node::{ml_words, Node};
 use model::price::items;
 use model::rules::{Rule, RuleCounts};
-use model::run::reduce;
+use model::run::{reduce, run_by};
 use model::step::{step, Step};
-use model::{check, on_large_stack, run, save, End};
+use model::{check, on_large_stack, run, save, End, Recipe};
 use std::collections::BTreeSet;
 use tools::make::cans::can_file;
 use tools::make::prices::{any_prices, differing};
@@ -120,6 +121,53 @@ fn every_rule_is_reached() {
         for rule in Rule::ALL {
             assert!(rules.of(rule) > 0, "{} was never reached", rule.name());
         }
+    });
+}
+
+/// Whether a run of the file comes to a test that is no number.
+fn tests_no_number(file: &[u8]) -> bool {
+    run(file, 200, 2_000, 2_000).rules.of(Rule::SchemeIf0NoNumber) > 0
+}
+
+#[test]
+fn many_mistaken_files_come_to_a_test_that_is_no_number() {
+    on_large_stack(|| {
+        let files: Vec<Vec<u8>> = (0..FILES).map(|index| mistaken_file(&mut Random::new(1, index))).collect();
+        assert!(files.iter().all(|file| check(file).is_ok()));
+        let met: Vec<&Vec<u8>> = files.iter().filter(|file| tests_no_number(file)).collect();
+        assert!(met.len() > FILES as usize / 5, "{}", met.len());
+        // Before U4 many of them came to a value.
+        let value = |file: &&&Vec<u8>| {
+            run_by(before_u4, file, 200, (2_000, 2_000)).result.is_ok_and(|ended| ended.end == End::Value)
+        };
+        assert!(met.iter().filter(value).count() > met.len() / 3);
+    });
+}
+
+#[test]
+fn every_test_of_if0_is_there() {
+    on_large_stack(|| {
+        let files = every_test();
+        // 24 tests of Scheme, 14 of which come to no number; 3 choices of branches in 5 places. In ML 7 tests and 2 choices.
+        assert_eq!(files.len(), 24 * 3 * 5 + 7 * 2);
+        assert!(files.iter().all(|file| check(file).is_ok()));
+        assert_eq!(files.iter().filter(|file| tests_no_number(file)).count(), 14 * 3 * 5);
+    });
+}
+
+#[test]
+fn demand_3_holds_from_terms_that_no_file_holds() {
+    on_large_stack(|| {
+        let mut unsaved = BTreeSet::new();
+        for file in outgrowing() {
+            let Recipe { declared, term } = check(&file).expect("accepted");
+            let (_, left) = reduce(term, 270, 16_384, &mut RuleCounts::default());
+            let Some(term) = left else { continue };
+            let saved = save(&Node::Type(&declared).words(), &ml_words(&term), 16_384);
+            unsaved.extend(saved.result.err().map(|refusal| refusal.number));
+            try_reduction(&Recipe { declared, term }, 10, 16_384).expect("the laws hold");
+        }
+        assert_eq!(unsaved, [4, 12].into());
     });
 }
 

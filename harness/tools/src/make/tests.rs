@@ -1,4 +1,4 @@
-//! Recipes in which Scheme's if0 tests each kind of value, one after another.
+//! Recipes in which if0 tests each kind of value, one after another.
 
 use super::text::file_of_text;
 
@@ -42,8 +42,14 @@ const AROUND: [[&str; 2]; 5] = [
     ["N (add 1 (ms N (add 1 ", ")))"],
 ];
 
-/// Every test with every two branches in every place.
+/// Tests of ML, where a value that is no number has no type: numbers, and terms that come to a number or to a wrong.
+const ML_TESTS: [&str; 7] = ["0", "1", "16777215", "(ms N 0)", "(ms N 7)", "(ms N nil)", "(wrong 300 N)"];
+
+/// Every test of Scheme with every two branches in every place, and every test of ML.
 pub fn every_test() -> Vec<Vec<u8>> {
     let if0s = TESTS.iter().flat_map(|test| BRANCHES.map(|branches| format!("(if0 {test} {branches})")));
-    if0s.flat_map(|if0| AROUND.map(|[open, close]| file_of_text(&format!("{open}{if0}{close}")))).collect()
+    let scheme = if0s.flat_map(|if0| AROUND.map(|[open, close]| format!("{open}{if0}{close}")));
+    let ml =
+        ML_TESTS.iter().flat_map(|test| ["1 2", "(wrong 301 N) (wrong 302 N)"].map(|b| format!("N (if0 {test} {b})")));
+    scheme.chain(ml).map(|text| file_of_text(&text)).collect()
 }

@@ -14,12 +14,13 @@ use crate::engine::{Check, Run, Save};
 use crate::make::saves::{any_room, any_words, outgrowing};
 use crate::make::*;
 use crate::random::Random;
-use earlier::{Before, EarlierCounts};
+use earlier::EarlierCounts;
 use model::check;
 use model::run::MOST_WORDS;
 
 pub use case::SaveCase;
 pub use counts::{SaveCounts, PAIRS};
+pub use earlier::Before;
 pub use going::GoingOn;
 
 /// The engine's functions that a saved run goes through.
