@@ -1,10 +1,14 @@
-//! The recipes of document 01 and the can in recipes/: each text makes its file, and the model lists it as written by hand.
+//! The recipes of document 01, the can and the file saved by an earlier release in recipes/: each text makes its file, and the
+//! model lists it as written by hand.
 
+use model::earlier::before_u4;
 use model::file::file;
-use model::on_large_stack;
+use model::run::run_by;
 use model::text::parse_recipe;
+use model::{on_large_stack, save};
 use std::path::{Path, PathBuf};
 use tools::compare::listed;
+use tools::make::file_of_text;
 
 fn folder() -> PathBuf {
     Path::new(env!("CARGO_MANIFEST_DIR")).join("../../recipes")
@@ -24,7 +28,7 @@ fn read(path: &Path, ending: &str) -> Vec<u8> {
 
 #[test]
 fn texts_make_the_files() {
-    assert_eq!(recipes().len(), 14);
+    assert_eq!(recipes().len(), 15);
     for path in recipes() {
         let text = String::from_utf8(read(&path, "txt")).expect("text");
         let parsed = parse_recipe(&text).expect("a recipe");
@@ -38,4 +42,12 @@ fn files_are_listed_as_written() {
         let expected = String::from_utf8(read(&path, "expected")).expect("text");
         assert_eq!(on_large_stack(|| listed(&read(&path, "bin"))), expected, "{}", path.display());
     }
+}
+
+/// The release before U4 wrote it after one step of this recipe: 15 words, 80 bytes.
+#[test]
+fn the_file_saved_before_is_what_that_release_left() {
+    let recipe = file_of_text("N (add 12 (ms N (app (fn (if0 v0 0 (add (hd v0) 1))) (cons 5 nil))))");
+    let left = on_large_stack(|| run_by(before_u4, &recipe, 1, (16, 16)).first);
+    assert_eq!(save(&[1], &left[..15], 80).buffer, read(&folder().join("saved-before"), "bin"));
 }
