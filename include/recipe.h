@@ -79,8 +79,9 @@ uint64_t recipe_check(const uint8_t *file, size_t file_len);
  *
  *   value  the term is a value: the result
  *   spent  the steps made equal the limit
- *   error  a wrong ends the run; `code` says which: 1 no number, 2 no function, 3 no list, 4 empty list, 5 number over
- *          16,777,215, or the recipe's own, which may be any from 1 to 65,535
+ *   error  a wrong ends the run; `code` says which: 1 no number, for a Scheme add, subtract or if0, or for an ms N;
+ *          2 no function, 3 no list, 4 empty list, 5 number over 16,777,215, or the recipe's own, which may be any from
+ *          1 to 65,535
  *   full   the next term has more words than the capacity */
 enum { RECIPE_VALUE = 0, RECIPE_SPENT = 1, RECIPE_ERROR = 2, RECIPE_FULL = 3 };
 
@@ -159,6 +160,10 @@ typedef struct {
  * are to be added up. After full it is full again, unless it is lent more words: at least as many as the first wanted. The
  * save of such a run is refused by 4, 12 or 13 alone. 4 and 12 are no fault of the recipe: the term nests deeper or is
  * larger, at this step, than a file may; some steps further it may be smaller again.
+ *
+ * A file that an earlier archive has saved is read like any other, and goes on by the rules of the archive that runs it, from
+ * the term that it holds. So it may end otherwise than it would have with the earlier one: there a Scheme if0 whose test was
+ * no number took its third part, and here it is error 1.
  *
  * Any other words may be handed over too: a file that is written is one that recipe_check accepts. */
 RecipeSaved recipe_save(const uint32_t *type, size_t type_len, const uint32_t *term, size_t term_len,

@@ -70,6 +70,8 @@ same() {
     words 2 4 7 6 3 1 20 18 3 1 25 273 16 >nests
     # ms N (num? (app (fn (app v0 (app v0 .. 1))) (fn (cons v0 v0)))): a list that is doubled twelve times.
     { words 1 4 34 5 1 30 1 811 35 34; for i in 1 2 3 4 5 6 7 8 9 10 11 12; do words 35 32; done; words 289 34 40 32 32; } >doubles
+    # ms N (if0 nil 1 2).
+    words 1 4 6 5 1 30 1 38 39 289 545 >if0-nil
     # What wrapped is after three steps: ms N (app (fn v0) 7).
     words 1 4 6 5 1 30 1 35 34 32 1825 >lunch-due
     rm -f lunch larger again unsaved
@@ -113,6 +115,8 @@ if [ "${1:-}" = run ]; then
 1809" ./run wrapped
     same run-hd-nil 0 "error, code 4, 2 steps, 0 words left, 0 wanted
 0 calls, 0 conversions, 2 others" ./run hd-nil
+    same run-if0-nil 0 "error, code 1, 2 steps, 0 words left, 0 wanted
+0 calls, 0 conversions, 2 others" ./run if0-nil
     same run-kind 1 "refused 3 at word 5" ./run kind
 
     (cd ../.. && ${CC:-cc} $flags -o "$out/price" panel/price.c "$archive")
@@ -157,6 +161,10 @@ saved in lunch, 44 bytes" ./save wrapped 3 lunch
     same save-goes-on 0 "value, code 0, 2 steps, 1 words left, 0 wanted
 1 calls, 1 conversions, 0 others
 1809" ./run lunch
+    # A file that an earlier release saved, which took the third part of an if0 whose test is a list.
+    same saved-before-checked 0 "../../recipes/saved-before.bin: accepted" ./panel ../../recipes/saved-before.bin
+    same saved-before-goes-on 0 "error, code 1, 2 steps, 0 words left, 0 wanted
+0 calls, 0 conversions, 2 others" ./run ../../recipes/saved-before.bin
     # After a call and 10 doublings: 3 words, two applications of 5 and a list of 2,047; next 3, 5 and 4,095.
     same save-full 0 "full, code 0, 11 steps, 2060 words left, 4103 wanted
 11 calls, 0 conversions, 0 others
