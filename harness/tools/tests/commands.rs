@@ -51,7 +51,8 @@ fn run_tells_where_the_steps_went_at_every_end() {
     assert_eq!(told(&["run"], WRAPPED), "value after 5 steps, 1 word\n2 calls, 3 conversions, 0 others\n7\n");
     let spent = "spent after 3 steps, 6 words\n1 call, 2 conversions, 0 others\n(ms N (app (fn v0) 7))\n";
     assert_eq!(told(&["run", "--limit", "3"], WRAPPED), spent);
-    let error = "error 1 after 2 steps: no number, or the recipe's own code\n0 calls, 1 conversion, 1 other\n";
+    let error = "error 1 after 2 steps: no number for add, subtract, if0 or ms N, or the recipe's own code\n\
+                 0 calls, 1 conversion, 1 other\n";
     assert_eq!(told(&["run"], b"N (ms N nil)"), error);
     // A term of 7 words, then of 9; the next does not fit.
     let full = "full after 1 step: the next term has 11 words\n1 call, 0 conversions, 0 others\n";

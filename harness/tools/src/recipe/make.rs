@@ -18,6 +18,7 @@ ML         v0  7  (fn t e)  (app f a)  (fix e)  (add a b)  (subtract a b)  (if0 
 Scheme     v0  7  (fn e)  (app f a)  (add a b)  (subtract a b)  (if0 a b c)
            nil  (cons a b)  (hd e)  (tl e)  (fun? e)  (list? e)  (null? e)  (num? e)  (wrong CODE)  (sm t M)
 v and a number is a variable: the number counts the fn of both languages between it and its own.
+if0 tests a number, in Scheme too: (if0 (null? e) b c) asks whether a list is empty; null?, num?, .. are 0 for yes.
 lambda and application may be written for fn and app; a comment runs from ; to the end of its line.
 
 Example: printf 'N (add 2 3)' | recipe make > add.bin

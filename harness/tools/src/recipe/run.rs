@@ -26,7 +26,8 @@ Status 0: ended, whatever the end; 1: refused.
 With --save the term that a spent or full run leaves is written to OUT, a recipe file with the same declared type, and
 `recipe run OUT` goes on with it: both runs together end as one run would have, and their steps and counts add up. A
 full run needs more words to go on. After a value or an error nothing is written. A term that is too deep or too large
-for a file is refused; status 1, and OUT stays as it was.
+for a file is refused; status 1, and OUT stays as it was. A file that an earlier release saved goes on by the rules of
+this one.
 ";
 
 /// Words of each buffer where the command names no number.
@@ -119,7 +120,7 @@ fn end(result: &RecipeRun) -> String {
 /// What the rules mean by a code.
 fn meaning(code: u32) -> &'static str {
     match code {
-        1 => ": no number, or the recipe's own code",
+        1 => ": no number for add, subtract, if0 or ms N, or the recipe's own code",
         2 => ": no function, or the recipe's own code",
         3 => ": no list, or the recipe's own code",
         4 => ": an empty list, or the recipe's own code",

@@ -21,6 +21,8 @@ in double brackets, the rule that comes next, and in parentheses what that step 
 a conversion on an ms or an sm, else an other. It starts at step 0 or --from, and stops at the run's end, at --to, or
 after 1,000 steps. The end is told with the counts of all its steps, as `recipe run` tells them. Reads standard input
 where no FILE is named. Status 0: shown; 1: refused.
+
+An error that a rule makes comes from the last step but one: after 900 steps, --from 898 shows the node it comes from.
 ";
 
 /// Steps shown where none is named to stop at.
