@@ -24,22 +24,25 @@ usage: compare check [--files N] [--seed S] [--start I] [--all-reached]
        compare stack [--kib K]
 
 check        every term of up to 3 words, files at the edges, and N random files (200000): number and place
-run          every small recipe, edges of files and of what is lent, and N random files (100000): result and every word
-             of both buffers
+run          every small recipe, every kind of value that if0 tests, edges of files and of what is lent, and N random
+             files (100000): result and every word of both buffers
 price        edges of prices, pulses, items and of what is lent, every choice of faults, every small recipe, edges of
              files, and N random files (100000) under random price tables: result, charges, total and every word of both
              buffers
 save         words at the edges, every choice of faults, every term of up to 3 words, and N times (20000) random words in a
              random buffer: answer and every byte of the buffer; runs that are saved and go on, of every small recipe, of
-             recipes that outgrow a file, and N times of a random recipe: as one run, result and every word of both buffers
+             recipes that outgrow a file, and N times of a random recipe: as one run, result and every word of both buffers;
+             files of N/4 random recipes that a release before U4 has saved: accepted, result and every word of both
+             buffers
 list         files at the edges, two long recipes, and those of N random files (3000) that end soon: every byte that the
              listing program, target/bin/listing, prints of each
 stack        the deepest runs of 16,384 words, and the deepest files, run, priced and saved on a stack of K KiB (2048)
 --seed S     random files depend on the seed (1) and their index alone
 --start I    begin with random file I; the files that are the same every time are left out unless I is 0
 --all-reached  fail if a rule, an end, a class of steps before an end (call, conversion, other) or a refusal was never
-             reached; of pricings, also an order of two refusals, a number of items, a pump or a band; of saves, also an
-             order, a place, a length of the buffer, two ends of a run and the one that goes on, or 20,000 of these
+             reached; of runs, also a kind of value that Scheme's if0 tests; of pricings, also an order of two refusals, a
+             number of items, a pump or a band; of saves, also an order, a place, a length of the buffer, two ends of a run
+             and the one that goes on, 20,000 of these, or an end that a file saved before U4 no longer comes to
 
 Status 0: no difference; 1: a difference, shrunk and shown; 2: not understood, or built without the engine.
 ";
@@ -111,8 +114,10 @@ fn save(args: Args) -> Result<(), Fault> {
     let ((check, run), save) = linked.ok_or(without("run"))?;
     let engine = SavingEngine { check, run, save };
     let counts = on_large_stack(|| compare_save(engine, plan)).map_err(difference)?;
-    let (saves, pairs, earlier) = (counts.saves, counts.pairs, counts.earlier.files);
-    say(format!("{saves} saves, {pairs} runs saved and gone on with, {earlier} files saved before U4, no difference"));
+    let (saves, pairs, earlier) = (counts.saves, counts.pairs, &counts.earlier);
+    let (files, laws) = (earlier.files, earlier.runs.laws);
+    say(format!("{saves} saves, {pairs} runs saved and gone on with, {files} files saved before U4, no difference"));
+    say(format!("of files saved before U4, demand 3 tried on {laws} terms"));
     finish(counts.rows(), all_reached)
 }
 

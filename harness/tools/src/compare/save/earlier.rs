@@ -136,7 +136,7 @@ impl Before {
 pub struct EarlierCounts {
     pub files: u64,
     /// The runs of today.
-    runs: Counts,
+    pub runs: Counts,
     /// By `HELD`.
     held: [u64; HELD.len()],
     /// Those that end as error 1 today and otherwise before, by the end before.
