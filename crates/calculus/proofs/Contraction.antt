@@ -13,7 +13,7 @@ use Rattle.calculus.specs.Trees.{fix, null?, test}
 use Rattle.calculus.specs.Words.{largest}
 use Rattle.calculus.specs.Scope.{Scoped}
 use Rattle.calculus.specs.Reduction.{substitute, Form, number, lambda, nilForm, consForm, sealed, other, form, Became, becomes, raises, nothing}
-use Rattle.calculus.specs.Reduction.{onNumber, onLambda, onList, onLump, amiss, third, answer, contract1, onNumbers, contract2, toML, toScheme}
+use Rattle.calculus.specs.Reduction.{onNumber, onLambda, onList, onLump, amiss, answer, contract1, onNumbers, contract2, toML, toScheme}
 use Rattle.calculus.specs.Reduction.{contract}
 use Rattle.calculus.specs.Evaluation.{Ready}
 use Rattle.calculus.specs.Rules.{Value, lamV, numV, nilV, consV, lumpV, Lambda, Number, Nil, Cons, _⊢_⇒_, app-lambda, app-no-lambda, fix-lambda}
@@ -149,7 +149,7 @@ sm-ruled v t u r b s q =
 
 -- So it is at every node that is ready and closed.
 pub contract-ruled : {l : Lang} (e : Term l) → Scoped [] e → Ready e → Ruled e (contract e)
-unfolding contract contract1 contract2 toML toScheme form onLump amiss third
+unfolding contract contract1 contract2 toML toScheme form onLump amiss
 contract-ruled (var i) s h = tt
 contract-ruled (num n) s h = tt
 contract-ruled (lam t b) s h = tt
@@ -189,7 +189,7 @@ contract-ruled (sm (list t) v) s h = on-list (Ruled (sm (list t) v)) _ _ _ h (λ
 contract-ruled (sm (t to u) v) s h = on-lambda (Ruled (sm (t to u) v)) _ _ h (λ n. tt) (λ r b q. sm-ruled v t u r b s q)
 
 rule-made : {l : Lang} {e r : Term l} → Scoped [] e → l ⊢ e ⇒ r → Ready e × (contract e ≡ becomes r)
-unfolding contract contract1 contract2 toML toScheme onNumbers onNumber onLambda onList onLump form amiss third answer
+unfolding contract contract1 contract2 toML toScheme onNumbers onNumber onLambda onList onLump form amiss answer
 rule-made s (app-lambda {b = b} {u} v) = ((refl, lamV, v), ap becomes (substitute-ordinary u b (s .1) (s .0)))
 rule-made s (app-no-lambda f u ne) = ((refl, f, u), no-lambda f _ _ ne)
 rule-made s (fix-lambda {t} {b}) = (lamV, ap becomes (substitute-ordinary (fix (lam t b)) b s s))

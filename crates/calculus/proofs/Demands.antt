@@ -11,8 +11,9 @@ use Rattle.calculus.specs.Rules.{Value, Steps, stay, then}
 use Rattle.calculus.specs.Verdicts.{passed}
 use Rattle.calculus.specs.Run.{uncounted, Final, Result, capacity}
 use Rattle.calculus.specs.File.{operate}
-use Rattle.calculus.specs.Demands.{ExactlyOne, the-first, the-second, the-third, RaisedError, Reducible, Sound, Safe, Demand3}
+use Rattle.calculus.specs.Demands.{ExactlyOne, the-first, the-second, the-third, RaisedError, Reducible, Sound, Safe, FromEveryTerm, Demand3}
 use Rattle.calculus.proofs.Typing.{typed-scoped}
+use Rattle.calculus.proofs.Inference.{one-type}
 use Rattle.calculus.proofs.Soundness.{Kept, sound}
 use Rattle.calculus.proofs.Agreement.{next-iff, raised-iff, value-step-iff, value-no-step, value-no-error, error-no-step}
 use Rattle.calculus.proofs.Growth.{run-more}
@@ -33,10 +34,13 @@ steps-typed : {l : Lang} {n : ℕ} {e r : Term l} (τ : Static l) → Steps n e 
 steps-typed τ stay h = h
 steps-typed τ (then {e = e} {f} a p) h = steps-typed τ p (subst (Kept τ) (next-iff e f (typed-scoped [] e τ h) .1 a) (sound e τ h))
 
--- The first half holds "from every well-typed term whose variables have their lambdas, with that term's type as the declared one". A term
--- that has a type in no lambdas has its variables' lambdas in itself.
+-- The first half, from every term that has a type.
 pub typed-safe : {l : Lang} (e : Term l) (τ : Static l) → Typed [] e τ → Safe τ e
 typed-safe e τ h = record { reached = λ n r p. typed-sound r τ (steps-typed τ p h) }
+
+pub from-every-term : FromEveryTerm
+from-every-term =
+    record { safe = λ l τ e h. typed-safe e τ h; one = λ l τ σ e h k. one-type [] e τ σ h k; lambdas = λ l τ e h. typed-scoped [] e τ h }
 
 -- The second half.
 operate-more : (bytes : List ℕ) (limit first second limit′ first′ second′ : ℕ) (r : Result) → limit ≤ limit′

@@ -43,10 +43,13 @@ no-list = (
   by-wrong (in-second CONS (num 1) numV hole) (list N),
 )
 
--- ms N (if0 nil 1 2): 2, 2 steps.
-pub third : Steps 2 (ms N (if0 (nil tt) (num 1) (num 2))) (num 2)
+-- ms N (if0 nil 1 2): error 1, in the second step.
+pub no-number-tested : Steps 1 (ms N (if0 (nil tt) (num 1) (num 2))) (ms N (wrong 1 tt)) × Raises {l = ml} 1 (ms N (wrong 1 tt))
 unfolding around form
-third = then (by-rule (in-ms N hole) (if0-no-number nilV (λ h. omega (arith, ap mark (h .1))))) (then (rule ms-number) stay)
+no-number-tested = (
+  then (by-rule (in-ms N hole) (if0-no-number nilV (λ h. omega (arith, ap mark (h .1))))) stay,
+  by-wrong (in-ms N hole) tt,
+)
 
 -- ms N (add (fn v0) (wrong 300)): error 300, in the first step.
 pub own-code : Raises 300 (ms N (add (lam tt (var 0)) (wrong 300 tt)))

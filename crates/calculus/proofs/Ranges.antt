@@ -10,7 +10,7 @@ use Rattle.calculus.specs.Trees.{NULL?, TEST, Op2, APP, ADD, SUB, CONS, 
 use Rattle.calculus.specs.Words.{largest, lastCode}
 use Rattle.calculus.specs.Limits.{InRange}
 use Rattle.calculus.specs.Reduction.{replaced, substitute, Form, number, lambda, nilForm, consForm, sealed, other, form, Became, becomes}
-use Rattle.calculus.specs.Reduction.{raises, nothing, onNumber, onLambda, onList, amiss, third, answer, contract1, onNumbers, contract2, toML}
+use Rattle.calculus.specs.Reduction.{raises, nothing, onNumber, onLambda, onList, amiss, answer, contract1, onNumbers, contract2, toML}
 use Rattle.calculus.specs.Reduction.{toScheme, contract, Frame, under, first, second, tested, intoML, intoScheme, plug, Context, here, within}
 use Rattle.calculus.specs.Reduction.{fill, Outcome, value, raised, next, stuck, outcome, step}
 use Rattle.calculus.proofs.Forms.{on-number, on-lambda, on-list, on-lump}
@@ -78,11 +78,6 @@ amiss-in-range : (l : Lang) (c : ℕ) → (1 ≤ c) × (c ≤ lastCode) → Beca
 unfolding amiss InRange
 amiss-in-range ml c h = tt
 amiss-in-range sc c h = h
-
-third-in-range : (l : Lang) (c : Term l) → InRange c → BecameInRange (third l c)
-unfolding third
-third-in-range ml c h = tt
-third-in-range sc c h = h
 
 -- The rules.
 answers-in-range : (f : Form sc)
@@ -157,7 +152,7 @@ contract-in-range (lam t b) h = tt
 contract-in-range (op1 o a) h = contract1-in-range o a h
 contract-in-range (op2 {l} o a b) h = contract2-in-range l o a b (h .0) (h .1)
 contract-in-range (if0 {l} a b c) h =
-    by-number a (h .0) _ (third-in-range l c (h .2)) _ (λ n p. cond-in-range (eqb n 0) b c (λ q. h .1) (h .2))
+    by-number a (h .0) _ (amiss-in-range l 1 (omega arith, omega arith)) _ (λ n p. cond-in-range (eqb n 0) b c (λ q. h .1) (h .2))
 contract-in-range (nil t) h = tt
 contract-in-range (wrong c t) h = h
 contract-in-range (ms t a) h = toML-in-range t a h

@@ -4,14 +4,14 @@ use Rattle.calculus.specs.Words.{put, putTy, size, sizeTy}
 use Rattle.calculus.specs.Kinds.{rowFor}
 use Rattle.calculus.specs.Reading.{walk, inOrder, read, readTree}
 use Rattle.calculus.specs.Inference.{infer}
-use Rattle.calculus.specs.Reduction.{substitute, form, onNumber, onLambda, onList, onLump, amiss, third, answer, contract1, contract2}
+use Rattle.calculus.specs.Reduction.{substitute, form, onNumber, onLambda, onList, onLump, amiss, answer, contract1, contract2}
 use Rattle.calculus.specs.Reduction.{onNumbers, toML, toScheme, contract, fill, turn, step}
 use Rattle.calculus.specs.Run.{run}
 use Rattle.calculus.specs.File.{wordsOf, typed, checkWords, check, runIn, operate}
 use Rattle.calculus.specs.Recipes.{Starred, Classified, Refused}
 
 pub starred : Starred
-unfolding operate runIn check checkWords typed wordsOf run step turn fill contract toScheme toML contract2 contract1 onNumbers answer third amiss
+unfolding operate runIn check checkWords typed wordsOf run step turn fill contract toScheme toML contract2 contract1 onNumbers answer amiss
     onLump onList onLambda onNumber form substitute infer read readTree inOrder walk rowFor put putTy size sizeTy
 starred =
     record {
@@ -28,7 +28,7 @@ starred =
       endless = refl;
       no-list = refl;
       hd-of-nil = refl;
-      third = refl;
+      no-number-tested = refl;
       own-code = refl;
     }
 

@@ -9,7 +9,7 @@ use Rattle.calculus.specs.Trees.{ADD, SUB, CONS, Term, var, num, lam, op
 use Rattle.calculus.specs.Words.{largest}
 use Rattle.calculus.specs.Typing.{of, Rule1, Rule2, Typed}
 use Rattle.calculus.specs.Reduction.{isLump, isCons, Form, number, lambda, nilForm, consForm, sealed, other, form, Became, becomes, raises}
-use Rattle.calculus.specs.Reduction.{nothing, onNumber, onLambda, onList, onLump, amiss, third, contract1, onNumbers, contract2, toML, toScheme}
+use Rattle.calculus.specs.Reduction.{nothing, onNumber, onLambda, onList, onLump, amiss, contract1, onNumbers, contract2, toML, toScheme}
 use Rattle.calculus.specs.Reduction.{contract, Frame, under, first, second, tested, intoML, intoScheme, plug, Context, fill, Turn, done, at}
 use Rattle.calculus.specs.Reduction.{into, own, turn, Outcome, value, raised, next, stuck, outcome, stepped, step}
 use Rattle.calculus.proofs.Forms.{class, on-number, on-lambda, on-list, on-lump}
@@ -104,11 +104,6 @@ unfolding amiss
 amiss-typed ml τ c = tt
 amiss-typed sc τ c = refl
 
-third-typed : (l : Lang) (τ : Static l) (c : Term l) → Typed [] c τ → InScheme l (Preserved τ (third l c))
-unfolding third
-third-typed ml τ c h = tt
-third-typed sc τ c h = h
-
 cond-typed : {l : Lang} (τ : Static l) (b : Bool) (x y : Term l) → Typed [] x τ → Typed [] y τ → Typed [] (cond b x y) τ
 cond-typed τ true x y h k = h
 cond-typed τ false x y h k = k
@@ -191,7 +186,7 @@ turn-placed (op2 {l} o a b) τ h =
 turn-placed (if0 {l} a b c) τ h =
     into-placed (tested b c) a (if0 a b c) (numbers l) τ (turn a) _ (turn-placed a _ (h .0)) (λ x p. (p, h .1, h .2))
     (λ f. own-placed (if0 a b c) τ
-    (by-number τ (form a) _ (third-typed l τ c (h .2)) _ f (λ n. cond-typed τ (eqb n 0) b c (h .1) (h .2))))
+    (by-number τ (form a) _ (amiss-typed l τ 1) _ f (λ n. cond-typed τ (eqb n 0) b c (h .1) (h .2))))
 turn-placed (nil t) τ h = h
 turn-placed (wrong {l} c t) τ h = own-placed {l = l} (wrong c t) τ tt
 turn-placed (ms t a) τ h =

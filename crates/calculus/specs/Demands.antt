@@ -34,6 +34,14 @@ pub record Sound {l : Lang} (τ : Static l) (r : Term l) : Type 0 where
 pub record Safe {l : Lang} (τ : Static l) (e : Term l) : Type 0 where
   pub reached : (n : ℕ) (r : Term l) → Steps n e r → Sound τ r
 
+-- Document 02: "What it says of the terms reached holds from every well-typed term whose variables have their lambdas, with that term's type as the
+-- declared one." So it is of the terms of both languages; a Scheme term's type is that it is well formed. A term that has a type, which is one, in no
+-- lambdas has its variables' lambdas in itself.
+pub record FromEveryTerm : Type 0 where
+  pub safe : (l : Lang) (τ : Static l) (e : Term l) → Typed [] e τ → Safe τ e
+  pub one : (l : Lang) (τ σ : Static l) (e : Term l) → Typed [] e τ → Typed [] e σ → τ ≡ σ
+  pub lambdas : (l : Lang) (τ : Static l) (e : Term l) → Typed [] e τ → Scoped [] e
+
 -- Of a file: "Whatever recipe the check accepts", all that its reduction reaches. "And whatever file is run twice, .. let the second run be
 -- lent at least as many steps and at least the capacity of the first. If the first ends as a value or an error, the second gives the same
 -- end, the same code, the same count of steps and the same words." The operation is not handed what the buffers held before.

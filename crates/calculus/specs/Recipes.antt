@@ -58,8 +58,8 @@ pub record Starred : Type 0 where
   -- ms {N} (cons 1 2): error 3, 4 steps; hd (nil N): error 4, 2
   pub no-list : EndsAs (fileOf (3 ∷ 1 ∷ []) (30 ∷ 3 ∷ 1 ∷ 40 ∷ 289 ∷ 545 ∷ [])) plenty error 3 (counting 4 0 3 1) [] 0
   pub hd-of-nil : EndsAs (fileOf (1 ∷ []) (26 ∷ 24 ∷ 1 ∷ [])) plenty error 4 (counting 2 0 0 2) [] 0
-  -- ms N (if0 nil 1 2): 2, 2 steps; ms N (add (fn v0) (wrong 300)): error 300, 1 step
-  pub third : EndsAs (fileOf (1 ∷ []) (30 ∷ 1 ∷ 38 ∷ 39 ∷ 289 ∷ 545 ∷ [])) plenty valued 0 (counting 2 0 1 1) (529 ∷ []) 0
+  -- ms N (if0 nil 1 2), by document 02: error 1, 2 steps; ms N (add (fn v0) (wrong 300)): error 300, 1 step
+  pub no-number-tested : EndsAs (fileOf (1 ∷ []) (30 ∷ 1 ∷ 38 ∷ 39 ∷ 289 ∷ 545 ∷ [])) plenty error 1 (counting 2 0 0 2) [] 0
   pub own-code : EndsAs (fileOf (1 ∷ []) (30 ∷ 1 ∷ 36 ∷ 34 ∷ 32 ∷ 76844 ∷ [])) plenty error 300 (counting 1 0 0 1) [] 0
 
 -- Document 02, "Where the steps went", counts by the node and not by what it becomes: a call that makes wrong 2, a conversion that makes wrong 1, and

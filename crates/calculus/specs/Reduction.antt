@@ -129,11 +129,6 @@ unfoldable pub amiss : (l : Lang) → ℕ → Became l
 amiss ml c = nothing
 amiss sc c = becomes (wrong c tt)
 
--- "In Scheme every value other than the number 0 takes the third."
-unfoldable pub third : (l : Lang) → Term l → Became l
-third ml c = nothing
-third sc c = becomes c
-
 -- "null? and tests: 0 for yes, 1 for no. list? holds of nil and cons."
 unfoldable pub answer : Test → Form sc → ℕ
 answer isFun (number n) = 1
@@ -195,14 +190,15 @@ toScheme L v = onLump (form v) nothing becomes
 toScheme (list t) v = onList (form v) nothing (λ u. becomes (nil tt)) (λ a b. becomes (cons (sm t a) (sm (list t) b)))
 toScheme (t to u) v = onLambda (form v) nothing (λ s b. becomes (lam tt (sm u (app v (ms t (var 0))))))
 
--- What a node becomes whose turn it is. "if0: second part if the test is 0, else third."
+-- What a node becomes whose turn it is. "if0: second part if the test is 0, else third." Document 02: "Scheme's if0 on a value that is no number now
+-- becomes wrong 1."
 unfoldable pub contract : {l : Lang} → Term l → Became l
 contract (var i) = nothing
 contract (num n) = nothing
 contract (lam t b) = nothing
 contract (op1 o v) = contract1 o v
 contract (op2 {l} o v w) = contract2 l o v w
-contract (if0 {l} v b c) = onNumber (form v) (third l c) (λ n. becomes (cond (eqb n 0) b c))
+contract (if0 {l} v b c) = onNumber (form v) (amiss l 1) (λ n. becomes (cond (eqb n 0) b c))
 contract (nil t) = nothing
 contract (wrong c t) = raises c
 contract (ms t v) = toML t v

@@ -3,8 +3,8 @@
 -- this, of every term whose variables have their lambdas.
 -- `l ⊢ e ⇒ r` is a rule of the language l; a rule that both languages have stands once, for any l.
 -- Codes: 1 not a number, 2 not a function, 3 not a list, 4 nil has neither head nor tail, 5 over the limit.
--- Where document 01 departs from the figures: fix-lambda is of documents 000 and 003; add-over is its own; if0-no-number takes the third
--- part, where figure 2.18 has wrong 1; sm-lambda asks for a lambda, where figure 2.20 takes any value.
+-- Where document 01 departs from the figures: fix-lambda is of documents 000 and 003; add-over is its own; sm-lambda asks for a lambda, where
+-- figure 2.20 takes any value.
 use Prim.Native.Nat.{ℕ, suc, _+_, _-_, _≤_, _<_}
 use mathlib.Core.Path.{_≡_}
 use mathlib.Core.Logic.{_⊎_}
@@ -51,7 +51,7 @@ pub data _⊢_⇒_ : (l : Lang) → Term l → Term l → Type 0 where
   -- if0
   if0-zero : {l : Lang} {a b : Term l} → l ⊢ if0 (num 0) a b ⇒ a
   if0-other : {l : Lang} {n : ℕ} {a b : Term l} → ¬ (n ≡ 0) → l ⊢ if0 (num n) a b ⇒ b
-  if0-no-number : {v a b : Term sc} → Value sc v → ¬ Number v → sc ⊢ if0 v a b ⇒ b
+  if0-no-number : {v a b : Term sc} → Value sc v → ¬ Number v → sc ⊢ if0 v a b ⇒ wrong 1 tt
   -- hd, tl
   hd-cons : {l : Lang} {v w : Term l} → Value l v → Value l w → l ⊢ hd (cons v w) ⇒ v
   hd-nil : {l : Lang} {t : Static l} → l ⊢ hd (nil t) ⇒ wrong 4 t

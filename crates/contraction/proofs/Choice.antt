@@ -3,23 +3,23 @@ use Prim.Native.Nat.{ℕ, _+_, _/_}
 use mathlib.Core.Bool.{Bool, true, false, cond}
 use mathlib.Core.List.{List}
 use mathlib.Core.Path.{_≡_, refl, sym, ap, _∙_, subst}
-use lib.Dec.{eqb}
+use lib.Dec.{eqb, leb}
 use lib.ListN.{getD, drop}
 use borrow.Author.Tests.{eq-eqb, ne-eqb}
 use native.Mathlib.Omega.{arith}
 use Rattle.calculus.specs.Trees.{Lang, ml, sc, Term, if0}
 use Rattle.calculus.specs.Words.{put}
 use Rattle.calculus.specs.Kinds.{term}
-use Rattle.calculus.specs.Reduction.{form, onNumber, third, contract}
+use Rattle.calculus.specs.Reduction.{form, onNumber, amiss, contract}
 use Rattle.writing.specs.Spans.{span}
-use Rattle.contraction.specs.declared.became.Became.the-variants.{Nothing, Becomes}
+use Rattle.contraction.specs.declared.became.Became.the-variants.{Becomes}
 use Rattle.contraction.specs.declared.became.Piece.the-variants.{Part}
-use Rattle.contraction.specs.Forms.{formAt}
-use Rattle.contraction.specs.Pieces.{Tells}
+use Rattle.contraction.specs.Forms.{formAt, isScheme}
+use Rattle.contraction.specs.Pieces.{Tells, amissIn}
 use Rattle.contraction.specs.Chosen.{OfIf}
 use Rattle.contraction.proofs.ByForm.{Formed, is-number, by-form}
 use Rattle.contraction.proofs.Parts.{Stands, stands}
-use Rattle.contraction.proofs.Looks.{no-number, number-of}
+use Rattle.contraction.proofs.Looks.{no-number, amiss-told, number-of}
 
 -- What is known of the parts: the first one's form, and where the words of each end.
 pub record ThreeParts (ws : List ℕ) (form x y end : ℕ) : Type 0 where
@@ -43,25 +43,20 @@ module _ {ws : List ℕ} {form-number x y end : ℕ} (p : ThreeParts ws form-num
     test-form : (n : ℕ) → form-number ≡ n → Formed l n a
     test-form n e = by-form l a (put b (put c k)) (drop 1 ws) tail-of n (sym (p .form-is) ∙ e)
 
-  scheme-told : (l : Lang) (a b c : Term l) (k : List ℕ) → ws ≡ put (if0 a b c) k → getD ws 0 0 ≡ 38 → (form-number ≡ 1 → ⊥)
-      → Tells ws (Becomes (Part y end)) (contract (if0 a b c))
-  unfolding contract third put
-  scheme-told ml a b c k q w h = absurd (omega (arith, w, ap (λ (v : List ℕ). getD v 0 0) q))
-  scheme-told sc a b c k q w h =
-      subst (Tells ws (Becomes (Part y end))) (sym (no-number (third sc c) _ (test-form sc a b c k q form-number refl) h))
-      (_, refl, sym (third-stands sc a b c k q .own))
+  language : (l : Lang) (a b c : Term l) (k : List ℕ) → ws ≡ put (if0 a b c) k → leb 32 (getD ws 0 0) ≡ isScheme l
+  unfolding put
+  language ml a b c k q = ap (λ (v : List ℕ). leb 32 (getD v 0 0)) q
+  language sc a b c k q = ap (λ (v : List ℕ). leb 32 (getD v 0 0)) q
 
-  pub if-scheme : getD ws 0 0 ≡ 38 → (form-number ≡ 1 → ⊥) → OfIf ws (Becomes (Part y end))
-  if-scheme w h = record { of = λ l a b c k q. scheme-told l a b c k q w h }
+  no-number-told : (l : Lang) (a b c : Term l) (k : List ℕ) → ws ≡ put (if0 a b c) k → (form-number ≡ 1 → ⊥)
+      → Tells ws (amissIn (isScheme l) 1) (contract (if0 a b c))
+  unfolding contract
+  no-number-told l a b c k q h =
+      subst (Tells ws (amissIn (isScheme l) 1)) (sym (no-number (amiss l 1) _ (test-form l a b c k q form-number refl) h)) (amiss-told ws l 1)
 
-  ml-told : (l : Lang) (a b c : Term l) (k : List ℕ) → ws ≡ put (if0 a b c) k → (getD ws 0 0 ≡ 38 → ⊥) → (form-number ≡ 1 → ⊥)
-      → Tells ws Nothing (contract (if0 a b c))
-  unfolding contract third put
-  ml-told ml a b c k q w h = subst (Tells ws Nothing) (sym (no-number (third ml c) _ (test-form ml a b c k q form-number refl) h)) refl
-  ml-told sc a b c k q w h = absurd (w (ap (λ (v : List ℕ). getD v 0 0) q))
-
-  pub if-ml : (getD ws 0 0 ≡ 38 → ⊥) → (form-number ≡ 1 → ⊥) → OfIf ws Nothing
-  if-ml w h = record { of = λ l a b c k q. ml-told l a b c k q w h }
+  pub if-no-number : (form-number ≡ 1 → ⊥) → OfIf ws (amissIn (leb 32 (getD ws 0 0)) 1)
+  if-no-number h =
+      record { of = λ l a b c k q. subst (λ (s : Bool). Tells ws (amissIn s 1) (contract (if0 a b c))) (sym (language l a b c k q)) (no-number-told l a b c k q h) }
 
   module _ (h : form-number ≡ 1) {n : ℕ} (n-is : n ≡ getD (drop 1 ws) 0 0 / 256) where
     number-told : (l : Lang) (a b c : Term l) (k : List ℕ) → ws ≡ put (if0 a b c) k → Formed l 1 a → (t : Bool) → eqb n 0 ≡ t

@@ -152,13 +152,7 @@ pub fn of_if(table: &Kinds, words: &[u32], end: usize) -> Became
     let second = 1 + skip(table, &words[1..], 1);
     let third = second + skip(table, &words[second..], 1);
     if form_at(table, &words[1..]) != crate::forms::NUMBER {
-        if words[0] == nodes::words::SCHEME_IF0 {
-            return Became::Becomes(Piece::Part {
-                from: third,
-                to: end,
-            });
-        }
-        return Became::Nothing;
+        return amiss(nodes::words::FIRST_SCHEME <= words[0], crate::codes::NO_NUMBER);
     }
     if number_at(&words[1..]) == 0 {
         return Became::Becomes(Piece::Part {

@@ -49,8 +49,6 @@ pub const SCHEME_APPLICATION: u32 = 35;
 
 pub const SCHEME_ADD: u32 = 36;
 
-pub const SCHEME_IF0: u32 = 38;
-
 pub const SCHEME_NIL: u32 = 39;
 
 pub const SCHEME_CONS: u32 = 40;

@@ -4,7 +4,7 @@ use Rattle.calculus.specs.Words.{put, putTy, size, sizeTy}
 use Rattle.calculus.specs.Kinds.{rowFor}
 use Rattle.calculus.specs.Reading.{walk, inOrder, read, readTree}
 use Rattle.calculus.specs.Inference.{infer}
-use Rattle.calculus.specs.Reduction.{substitute, form, onNumber, onLambda, onList, onLump, amiss, third, answer, contract1, contract2}
+use Rattle.calculus.specs.Reduction.{substitute, form, onNumber, onLambda, onList, onLump, amiss, answer, contract1, contract2}
 use Rattle.calculus.specs.Reduction.{onNumbers, toML, toScheme, contract, fill, turn, step}
 use Rattle.calculus.specs.Run.{run}
 use Rattle.calculus.specs.File.{wordsOf, typed, checkWords, check, runIn, operate}
@@ -31,6 +31,6 @@ tried =
     }
 
 pub too-deep : TooDeep
-unfolding saving operate runIn check checkWords typed wordsOf run step turn fill contract toScheme toML contract2 contract1 onNumbers answer third
+unfolding saving operate runIn check checkWords typed wordsOf run step turn fill contract toScheme toML contract2 contract1 onNumbers answer
     amiss onLump onList onLambda onNumber form substitute infer read readTree inOrder walk rowFor put putTy size sizeTy
 too-deep = record { spent-after-one = refl; refused-by-four = refl }

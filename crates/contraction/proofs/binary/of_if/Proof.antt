@@ -2,13 +2,15 @@
 use borrow.Author.Needs.{needs}
 use mathlib.Core.List.{List}
 use Prim.Native.Nat.{ℕ, _+_}
-use lib.ListN.{length}
+use lib.Dec.{leb}
+use lib.ListN.{length, getD}
 use native.Mathlib.Omega.{arith}
 use Rattle.nodes.proofs.Ways.{part-length}
 use Rattle.writing.proofs.Lengths.{span-next}
 use Rattle.contraction.specs.Pieces.{PartIn}
 use Rattle.contraction.proofs.Parts.{rest-span, rest-form, rest-number}
-use Rattle.contraction.proofs.Choice.{ThreeParts, if-scheme, if-ml, if-zero, if-more}
+use Rattle.contraction.proofs.Looks.{amiss-placed}
+use Rattle.contraction.proofs.Choice.{ThreeParts, if-no-number, if-zero, if-more}
 use Rattle.contraction.proofs.binary.of_if.Statement.{statement}
 use Rattle.contraction.proofs.binary.of_if.Tie as tie
 
@@ -48,22 +50,24 @@ module _ (c : tie.After-form-at) where
   third-part = record { order = omega (arith, known .end-is); most = start .pre .most }
 
 returns : tie.Need-returns
-returns c = let f = c .before .before .before in (third-part f, if-scheme (known f) (c .if2 .taken) (c .before .before .if1 .taken))
+returns c =
+    let f = c .before .before .before in
+    let e = c .amiss .ensures in (
+      rw e (amiss-placed (length (ws f)) (leb 32 (getD (ws f) 0 0)) 1),
+      rw e (if-no-number (known f) (c .before .before .if1 .taken)),
+    )
 
 returns-2 : tie.Need-returns-2
-returns-2 c = (tt, if-ml (known (c .before .before .before)) (c .if2 .left) (c .before .before .if1 .taken))
+returns-2 c =
+    let f = c .before .before .before .before in
+    let n = rest-number (ws f) 1 (c .before .number-at .ensures .0) in
+    (second-part f, if-zero (known f) (c .before .before .before .if1 .left) n (c .if2 .taken))
 
 returns-3 : tie.Need-returns-3
 returns-3 c =
     let f = c .before .before .before .before in
     let n = rest-number (ws f) 1 (c .before .number-at .ensures .0) in
-    (second-part f, if-zero (known f) (c .before .before .before .if1 .left) n (c .if3 .taken))
-
-returns-4 : tie.Need-returns-4
-returns-4 c =
-    let f = c .before .before .before .before in
-    let n = rest-number (ws f) 1 (c .before .number-at .ensures .0) in
-    (third-part f, if-more (known f) (c .before .before .before .if1 .left) n (c .if3 .left))
+    (third-part f, if-more (known f) (c .before .before .before .if1 .left) n (c .if2 .left))
 
 pub of-if-spec : {M : Type 1} → statement M
 of-if-spec =
@@ -85,11 +89,11 @@ of-if-spec =
     (λ c. search needs)
     (λ c κs. search needs)
     (λ c. search needs)
+    (λ c κs. search needs)
     returns
-    returns-2
     (λ c. search needs)
     (λ c. search needs)
     (λ c. search needs)
     (λ c κs. search needs)
-    returns-3
-    returns-4)
+    returns-2
+    returns-3)
