@@ -11,7 +11,7 @@ use Rattle.calculus.specs.File as calculus
 use Rattle.calculus.proofs.Verdicts.{not-both}
 use Rattle.calculus.proofs.Checks.{check-iff, accepted-once}
 use Rattle.calculus.proofs.Refusing.{Numbered, number-in-table}
-use Rattle.calculus.proofs.Demands.{typed-safe}
+use Rattle.calculus.proofs.Demands.{typed-safe, from-every-term}
 use Rattle.nodes.specs.declared.refusals.Refusal.{Refusal}
 use Rattle.nodes.specs.declared.refusals.Refusal.the-variants as r
 use Rattle.nodes.specs.Refusals.{numberOf, placeOf, refusal}
@@ -21,6 +21,7 @@ use Rattle.checker.specs.Checks.{checked, accepting}
 use Rattle.demands.specs.Demanded.{RecipeOf, Checks, Twice}
 use Rattle.engine.specs.Lent.{Lent, Returned}
 use Rattle.demands.proofs.Running.{Promised, grow}
+use Rattle.demands.proofs.Leaving.{leaves}
 
 -- A refusal is its number and place.
 abbrev pub numbered : ℕ → ℕ → Refusal
@@ -100,5 +101,7 @@ twice c l m g h b k p q =
     record {
       accepts = accepts-iff (l .bytes) c k;
       safe = λ τ e a. typed-safe e τ (a .typed);
+      leaves = λ τ e a x q n. leaves l g p τ e a x q n;
+      from-every-term = from-every-term;
       grows = λ x i j a f. grow l m g h x b i j p q a f;
     }

@@ -1,4 +1,5 @@
 pub mod Running
+pub mod Leaving
 pub mod Demanding
 pub mod Costing
 pub mod Saving

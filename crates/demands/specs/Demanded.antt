@@ -5,14 +5,15 @@ use mathlib.Core.Logic.{_↔_}
 use mathlib.Core.Path.{_≡_}
 use lib.ListN.{length, take, replicate}
 use Rattle.calculus.specs.Trees.{Ty, ml, Term}
-use Rattle.calculus.specs.Words.{size}
+use Rattle.calculus.specs.Words.{words, size}
+use Rattle.calculus.specs.Rules.{Steps}
 use Rattle.calculus.specs.Verdicts.{refused}
-use Rattle.calculus.specs.Run.{Final}
+use Rattle.calculus.specs.Run.{error, Final}
 use Rattle.calculus.specs.Counting.{Counted}
 use Rattle.calculus.specs.Endings.{Ending}
 use Rattle.calculus.specs.File.{check, padded}
 use Rattle.calculus.specs.Accepted.{Accepted}
-use Rattle.calculus.specs.Demands.{Safe}
+use Rattle.calculus.specs.Demands.{Sound, Safe, FromEveryTerm}
 use Rattle.nodes.specs.declared.refusals.Refusal.{Refusal}
 use Rattle.nodes.specs.declared.refusals.Refusal.the-variants.{Capacity}
 use Rattle.nodes.specs.Refusals.{numberOf, placeOf, refusal}
@@ -91,9 +92,20 @@ pub record Same (x : Report) (g h : Returned) : Type 0 where
   pub numbers : told report ≡ told x
   pub words : take (x .left) (h .first) ≡ take (x .left) (g .first)
 
--- Demand 3. "Whatever recipe the check accepts", all that its reduction reaches is sound; "And whatever file is run twice, .. let the second run be
--- lent at least as many steps and at least the capacity of the first. If the first ends as a value or an error, the second gives the same" as it.
+-- The words that a run of e leaves are those of a term that its reduction reaches in the steps told; it has the declared type and is exactly one of
+-- the three.
+pub record Leaves (τ : Ty) (e : Term ml) (x : Report) (g : Returned) : Type 0 where
+  pub term : Term ml
+  pub reached : Steps (x .made .steps) e term
+  pub left : take (x .left) (g .first) ≡ words term
+  pub sound : Sound τ term
+
+-- Demand 3. "Whatever recipe the check accepts", all that its reduction reaches is sound, what a run leaves too; document 02: so it is "from every
+-- well-typed term". "And whatever file is run twice, .. let the second run be lent at least as many steps and at least the capacity of the first. If
+-- the first ends as a value or an error, the second gives the same" as it.
 pub record Twice (c : Checked) (l : Lent) (g : Returned) (m : Lent) (h : Returned) : Type 0 where
   pub accepts : (c ≡ checked.Accepted) ↔ RecipeOf (l .bytes)
   pub safe : (τ : Ty) (e : Term ml) → Accepted (l .bytes) τ e → Safe τ e
+  pub leaves : (τ : Ty) (e : Term ml) → Accepted (l .bytes) τ e → (x : Report) → g .answer ≡ Ended x → ¬ (endOf (x .end) ≡ error) → Leaves τ e x g
+  pub from-every-term : FromEveryTerm
   pub grows : (x : Report) → l .limit ≤ m .limit → room l ≤ room m → g .answer ≡ Ended x → Final (endOf (x .end)) → Same x g h
