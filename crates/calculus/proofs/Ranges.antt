@@ -152,7 +152,7 @@ contract-in-range (lam t b) h = tt
 contract-in-range (op1 o a) h = contract1-in-range o a h
 contract-in-range (op2 {l} o a b) h = contract2-in-range l o a b (h .0) (h .1)
 contract-in-range (if0 {l} a b c) h =
-    by-number a (h .0) _ (amiss-in-range l 1 (omega arith, omega arith)) _ (λ n p. cond-in-range (eqb n 0) b c (λ q. h .1) (h .2))
+    by-number a (h .0) _ (amiss-in-range l _ (omega arith, omega arith)) _ (λ n p. cond-in-range (eqb n 0) b c (λ q. h .1) (h .2))
 contract-in-range (nil t) h = tt
 contract-in-range (wrong c t) h = h
 contract-in-range (ms t a) h = toML-in-range t a h

@@ -186,7 +186,7 @@ turn-placed (op2 {l} o a b) τ h =
 turn-placed (if0 {l} a b c) τ h =
     into-placed (tested b c) a (if0 a b c) (numbers l) τ (turn a) _ (turn-placed a _ (h .0)) (λ x p. (p, h .1, h .2))
     (λ f. own-placed (if0 a b c) τ
-    (by-number τ (form a) _ (amiss-typed l τ 1) _ f (λ n. cond-typed τ (eqb n 0) b c (h .1) (h .2))))
+    (by-number τ (form a) _ (amiss-typed l τ _) _ f (λ n. cond-typed τ (eqb n 0) b c (h .1) (h .2))))
 turn-placed (nil t) τ h = h
 turn-placed (wrong {l} c t) τ h = own-placed {l = l} (wrong c t) τ tt
 turn-placed (ms t a) τ h =

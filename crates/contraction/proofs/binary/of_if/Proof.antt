@@ -2,14 +2,12 @@
 use borrow.Author.Needs.{needs}
 use mathlib.Core.List.{List}
 use Prim.Native.Nat.{ℕ, _+_}
-use lib.Dec.{leb}
-use lib.ListN.{length, getD}
+use lib.ListN.{length}
 use native.Mathlib.Omega.{arith}
 use Rattle.nodes.proofs.Ways.{part-length}
 use Rattle.writing.proofs.Lengths.{span-next}
 use Rattle.contraction.specs.Pieces.{PartIn}
 use Rattle.contraction.proofs.Parts.{rest-span, rest-form, rest-number}
-use Rattle.contraction.proofs.Looks.{amiss-placed}
 use Rattle.contraction.proofs.Choice.{ThreeParts, if-no-number, if-zero, if-more}
 use Rattle.contraction.proofs.binary.of_if.Statement.{statement}
 use Rattle.contraction.proofs.binary.of_if.Tie as tie
@@ -50,12 +48,7 @@ module _ (c : tie.After-form-at) where
   third-part = record { order = omega (arith, known .end-is); most = start .pre .most }
 
 returns : tie.Need-returns
-returns c =
-    let f = c .before .before .before in
-    let e = c .amiss .ensures in (
-      rw e (amiss-placed (length (ws f)) (leb 32 (getD (ws f) 0 0)) 1),
-      rw e (if-no-number (known f) (c .before .before .if1 .taken)),
-    )
+returns c = if-no-number (known (c .before .before .before)) (c .before .before .if1 .taken) (c .amiss .ensures)
 
 returns-2 : tie.Need-returns-2
 returns-2 c =
