@@ -8,7 +8,7 @@ use Rattle.calculus.specs.Reduction.{substitute, form, onNumber, onLambd
 use Rattle.calculus.specs.Reduction.{onNumbers, toML, toScheme, contract, fill, turn, step}
 use Rattle.calculus.specs.Run.{run}
 use Rattle.calculus.specs.File.{wordsOf, typed, checkWords, check, runIn, operate}
-use Rattle.calculus.specs.Recipes.{Starred, Classified, Refused}
+use Rattle.calculus.specs.Recipes.{Starred, Classified, SavedBefore, Refused}
 
 pub starred : Starred
 unfolding operate runIn check checkWords typed wordsOf run step turn fill contract toScheme toML contract2 contract1 onNumbers answer amiss
@@ -36,6 +36,11 @@ pub classified : Classified
 unfolding operate runIn check checkWords typed wordsOf run step turn fill contract toML contract2 amiss onNumber onLambda form infer read readTree
     inOrder walk rowFor put putTy size sizeTy
 classified = record { failed-call = refl; failed-conversion = refl; own-step = refl }
+
+pub saved-before : SavedBefore
+unfolding operate runIn check checkWords typed wordsOf run step turn fill contract amiss onNumber form infer read readTree inOrder walk rowFor put
+    putTy size sizeTy
+saved-before = record { goes-on = refl }
 
 pub refused : Refused
 unfolding operate runIn check checkWords typed wordsOf infer read readTree inOrder walk rowFor size sizeTy

@@ -1,5 +1,5 @@
 -- Document 01, "Recipes tried by hand": those with a star, and the small inputs of the table of refusals, from the file's bytes to the
--- result; and three recipes that tell classes of steps apart. proofs/Recipes.antt proves them all.
+-- result; three recipes that tell classes of steps apart; and one that an earlier engine saved. proofs/Recipes.antt proves them all.
 use Prim.Native.Nat.{ℕ}
 use mathlib.Core.List.{List, [], _∷_, _++_}
 use mathlib.Core.Path.{_≡_}
@@ -69,6 +69,13 @@ pub record Classified : Type 0 where
   pub failed-call : EndsAs (fileOf (1 ∷ []) (30 ∷ 1 ∷ 35 ∷ 289 ∷ 545 ∷ [])) plenty error 2 (counting 2 1 0 1) [] 0
   pub failed-conversion : EndsAs (fileOf (1 ∷ []) (30 ∷ 1 ∷ 39 ∷ [])) plenty error 1 (counting 2 0 1 1) [] 0
   pub own-step : EndsAs (fileOf (1 ∷ []) (30 ∷ 1 ∷ 76844 ∷ [])) plenty error 300 (counting 1 0 0 1) [] 0
+
+-- Document 02: "A file saved before the change is read and continued under the new reduction from the term it holds." The file
+-- recipes/saved-before-u4.bin, whose term tests a list: add 12 (ms N (if0 (cons 5 nil) 0 (add (hd (cons 5 nil)) 1))).
+pub record SavedBefore : Type 0 where
+  pub goes-on : EndsAs
+      (fileOf (1 ∷ []) (21 ∷ 3089 ∷ 30 ∷ 1 ∷ 38 ∷ 40 ∷ 1313 ∷ 39 ∷ 33 ∷ 36 ∷ 41 ∷ 40 ∷ 1313 ∷ 39 ∷ 289 ∷ []))
+      plenty error 1 (counting 2 0 0 2) [] 0
 
 -- The small inputs of the table of refusals, fn N (ms N v0) with Scheme v0, and "3 before 4 at a word".
 pub record Refused : Type 0 where
