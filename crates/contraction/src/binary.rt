@@ -151,17 +151,20 @@ pub fn of_if(table: &Kinds, words: &[u32], end: usize) -> Became
 {
     let second = 1 + skip(table, &words[1..], 1);
     let third = second + skip(table, &words[second..], 1);
-    if form_at(table, &words[1..]) != crate::forms::NUMBER {
-        return amiss(nodes::words::FIRST_SCHEME <= words[0], crate::codes::NO_NUMBER);
-    }
-    if number_at(&words[1..]) == 0 {
+    if form_at(table, &words[1..]) == crate::forms::NUMBER {
+        if number_at(&words[1..]) == 0 {
+            return Became::Becomes(Piece::Part {
+                from: second,
+                to: third,
+            });
+        }
         return Became::Becomes(Piece::Part {
-            from: second,
-            to: third,
+            from: third,
+            to: end,
         });
     }
-    Became::Becomes(Piece::Part {
-        from: third,
-        to: end,
-    })
+    amiss(
+        nodes::words::FIRST_SCHEME <= words[0],
+        crate::codes::NO_NUMBER,
+    )
 }

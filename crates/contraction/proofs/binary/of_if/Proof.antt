@@ -48,19 +48,19 @@ module _ (c : tie.After-form-at) where
   third-part = record { order = omega (arith, known .end-is); most = start .pre .most }
 
 returns : tie.Need-returns
-returns c = if-no-number (known (c .before .before .before)) (c .before .before .if1 .taken) (c .amiss .ensures)
+returns c =
+    let f = c .before .before .before .before in
+    let n = rest-number (ws f) 1 (c .before .number-at .ensures .0) in
+    (second-part f, if-zero (known f) (c .before .before .before .if1 .taken) n (c .if2 .taken))
 
 returns-2 : tie.Need-returns-2
 returns-2 c =
     let f = c .before .before .before .before in
     let n = rest-number (ws f) 1 (c .before .number-at .ensures .0) in
-    (second-part f, if-zero (known f) (c .before .before .before .if1 .left) n (c .if2 .taken))
+    (third-part f, if-more (known f) (c .before .before .before .if1 .taken) n (c .if2 .left))
 
 returns-3 : tie.Need-returns-3
-returns-3 c =
-    let f = c .before .before .before .before in
-    let n = rest-number (ws f) 1 (c .before .number-at .ensures .0) in
-    (third-part f, if-more (known f) (c .before .before .before .if1 .left) n (c .if2 .left))
+returns-3 c = if-no-number (known (c .before .before .before)) (c .before .before .if1 .left) (c .amiss .ensures)
 
 pub of-if-spec : {M : Type 1} → statement M
 of-if-spec =
@@ -82,11 +82,11 @@ of-if-spec =
     (λ c. search needs)
     (λ c κs. search needs)
     (λ c. search needs)
+    (λ c. search needs)
+    (λ c. search needs)
     (λ c κs. search needs)
     returns
-    (λ c. search needs)
-    (λ c. search needs)
+    returns-2
     (λ c. search needs)
     (λ c κs. search needs)
-    returns-2
     returns-3)
