@@ -6,7 +6,6 @@ use mathlib.Core.Path.{_≡_, refl, sym, ap, _∙_, subst}
 use lib.Dec.{eqb, leb}
 use lib.ListN.{length, getD, drop}
 use borrow.Author.Tests.{eq-eqb, ne-eqb}
-use native.Mathlib.Omega.{arith}
 use Rattle.calculus.specs.Trees.{Lang, ml, sc, Term, if0}
 use Rattle.calculus.specs.Words.{put}
 use Rattle.calculus.specs.Kinds.{term}

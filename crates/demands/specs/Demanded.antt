@@ -20,7 +20,6 @@ use Rattle.nodes.specs.Refusals.{numberOf, placeOf, refusal}
 use Rattle.checker.specs.declared.Checked.{Checked}
 use Rattle.checker.specs.declared.Checked.the-variants as checked
 use Rattle.engine.specs.declared.ends.Report.{Report}
-use Rattle.engine.specs.declared.runs.Answer.{Answer}
 use Rattle.engine.specs.declared.runs.Answer.the-variants.{Refused, Ended}
 use Rattle.counts.specs.Counting.{countsOf}
 use Rattle.engine.specs.Results.{lineOf, endOf, told}
