@@ -71,7 +71,7 @@ pub record Classified : Type 0 where
   pub own-step : EndsAs (fileOf (1 ∷ []) (30 ∷ 1 ∷ 76844 ∷ [])) plenty error 300 (counting 1 0 0 1) [] 0
 
 -- Document 02: "A file saved before the change is read and continued under the new reduction from the term it holds." The file
--- recipes/saved-before-u4.bin, whose term tests a list: add 12 (ms N (if0 (cons 5 nil) 0 (add (hd (cons 5 nil)) 1))).
+-- recipes/saved-before.bin, whose term tests a list: add 12 (ms N (if0 (cons 5 nil) 0 (add (hd (cons 5 nil)) 1))).
 pub record SavedBefore : Type 0 where
   pub goes-on : EndsAs
       (fileOf (1 ∷ []) (21 ∷ 3089 ∷ 30 ∷ 1 ∷ 38 ∷ 40 ∷ 1313 ∷ 39 ∷ 33 ∷ 36 ∷ 41 ∷ 40 ∷ 1313 ∷ 39 ∷ 289 ∷ []))
