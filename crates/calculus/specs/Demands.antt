@@ -35,8 +35,8 @@ pub record Safe {l : Lang} (τ : Static l) (e : Term l) : Type 0 where
   pub reached : (n : ℕ) (r : Term l) → Steps n e r → Sound τ r
 
 -- Document 02: "What it says of the terms reached holds from every well-typed term whose variables have their lambdas, with that term's type as the
--- declared one." So it is of the terms of both languages; a Scheme term's type is that it is well formed. A term that has a type, which is one, in no
--- lambdas has its variables' lambdas in itself.
+-- declared one." Of terms of both languages: a Scheme term has its type if it is well formed. A term's type is one; and a term that has a type in no
+-- lambdas has its variables' lambdas in itself, so that this is no condition of its own.
 pub record FromEveryTerm : Type 0 where
   pub safe : (l : Lang) (τ : Static l) (e : Term l) → Typed [] e τ → Safe τ e
   pub one : (l : Lang) (τ σ : Static l) (e : Term l) → Typed [] e τ → Typed [] e σ → τ ≡ σ
