@@ -4,7 +4,7 @@ use mathlib.Core.Bool.{Bool, true, false, cond}
 use mathlib.Core.List.{List}
 use mathlib.Core.Path.{_≡_, refl, sym, ap, _∙_, subst}
 use lib.Dec.{eqb, leb}
-use lib.ListN.{length, getD, drop}
+use lib.ListN.{getD, drop}
 use borrow.Author.Tests.{eq-eqb, ne-eqb}
 use Rattle.calculus.specs.Trees.{Lang, ml, sc, Term, if0}
 use Rattle.calculus.specs.Words.{put}
@@ -15,11 +15,11 @@ use Rattle.contraction.specs.declared.became.Became.{Became}
 use Rattle.contraction.specs.declared.became.Became.the-variants.{Becomes}
 use Rattle.contraction.specs.declared.became.Piece.the-variants.{Part}
 use Rattle.contraction.specs.Forms.{formAt, isScheme}
-use Rattle.contraction.specs.Pieces.{Tells, BecameIn, amissIn}
+use Rattle.contraction.specs.Pieces.{Tells, amissIn}
 use Rattle.contraction.specs.Chosen.{OfIf}
 use Rattle.contraction.proofs.ByForm.{Formed, is-number, by-form}
 use Rattle.contraction.proofs.Parts.{Stands, stands}
-use Rattle.contraction.proofs.Looks.{no-number, amiss-told, amiss-placed, number-of}
+use Rattle.contraction.proofs.Looks.{no-number, amiss-told, number-of}
 
 -- What is known of the parts: the first one's form, and where the words of each end.
 pub record ThreeParts (ws : List ℕ) (form x y end : ℕ) : Type 0 where
@@ -54,11 +54,8 @@ module _ {ws : List ℕ} {form-number x y end : ℕ} (p : ThreeParts ws form-num
   no-number-told l a b c k q h =
       subst (Tells ws (amissIn (isScheme l) 1)) (sym (no-number (amiss l 1) _ (test-form l a b c k q form-number refl) h)) (amiss-told ws l 1)
 
-  pub if-no-number : {r : Became} → (form-number ≡ 1 → ⊥) → r ≡ amissIn (leb 32 (getD ws 0 0)) 1 → BecameIn (length ws) r × OfIf ws r
-  if-no-number h e = (
-    rw e (amiss-placed (length ws) (leb 32 (getD ws 0 0)) 1),
-    record { of = λ l a b c k q. rw (e, language l a b c k q) (no-number-told l a b c k q h) },
-  )
+  pub if-no-number : {r : Became} → (form-number ≡ 1 → ⊥) → r ≡ amissIn (leb 32 (getD ws 0 0)) 1 → OfIf ws r
+  if-no-number h e = record { of = λ l a b c k q. rw (e, language l a b c k q) (no-number-told l a b c k q h) }
 
   module _ (h : form-number ≡ 1) {n : ℕ} (n-is : n ≡ getD (drop 1 ws) 0 0 / 256) where
     number-told : (l : Lang) (a b c : Term l) (k : List ℕ) → ws ≡ put (if0 a b c) k → Formed l 1 a → (t : Bool) → eqb n 0 ≡ t

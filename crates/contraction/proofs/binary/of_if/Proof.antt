@@ -2,12 +2,15 @@
 use borrow.Author.Needs.{needs}
 use mathlib.Core.List.{List}
 use Prim.Native.Nat.{ℕ, _+_}
-use lib.ListN.{length}
+use lib.Dec.{leb}
+use lib.ListN.{length, getD}
 use native.Mathlib.Omega.{arith}
 use Rattle.nodes.proofs.Ways.{part-length}
 use Rattle.writing.proofs.Lengths.{span-next}
-use Rattle.contraction.specs.Pieces.{PartIn}
+use Rattle.contraction.specs.Pieces.{PartIn, BecameIn}
+use Rattle.contraction.specs.Chosen.{OfIf}
 use Rattle.contraction.proofs.Parts.{rest-span, rest-form, rest-number}
+use Rattle.contraction.proofs.Looks.{amiss-placed}
 use Rattle.contraction.proofs.Choice.{ThreeParts, if-no-number, if-zero, if-more}
 use Rattle.contraction.proofs.binary.of_if.Statement.{statement}
 use Rattle.contraction.proofs.binary.of_if.Tie as tie
@@ -59,8 +62,14 @@ returns-2 c =
     let n = rest-number (ws f) 1 (c .before .number-at .ensures .0) in
     (third-part f, if-more (known f) (c .before .before .before .if1 .taken) n (c .if2 .left))
 
+-- Whatever is returned is in place, a part of the node too; what is told of it says which it is.
 returns-3 : tie.Need-returns-3
-returns-3 c = if-no-number (known (c .before .before .before)) (c .before .before .if1 .left) (c .amiss .ensures)
+returns-3 c =
+    let f = c .before .before .before in
+    let e = c .amiss .ensures in
+    let told : OfIf (ws f) (c .amiss .result) = if-no-number (known f) (c .before .before .if1 .left) e in
+    let placed : BecameIn (length (ws f)) (c .amiss .result) = rw e (amiss-placed (length (ws f)) (leb 32 (getD (ws f) 0 0)) 1) in
+    (search (placed, third-part f), told)
 
 pub of-if-spec : {M : Type 1} → statement M
 of-if-spec =
