@@ -12,8 +12,7 @@ use Rattle.calculus.specs.Classes.{Class, call, conversion, other, nextC
 use Rattle.calculus.specs.Run.{End, valued, spent, error, full, Counts, uncounted, counted}
 use Rattle.calculus.specs.Counting.{counts, together, ownStep, AddsUp, Counted}
 use Rattle.calculus.proofs.Typing.{typed-scoped}
-use Rattle.calculus.proofs.Soundness.{sound}
-use Rattle.calculus.proofs.Agreement.{next-iff}
+use Rattle.calculus.proofs.Keeping.{next-typed}
 use Rattle.calculus.proofs.Classes.{step-class}
 
 -- Counts are the same whose four numbers are.
@@ -34,10 +33,6 @@ counted-together x m n = same-counts (add-assoc _ _ _) (add-assoc _ _ _) (add-as
 pub then-together : {n : ℕ} {e f r : Term ml} (m : Counts) (a : e ⟶ f) (p : Steps n f r)
     → together (counted (stepClass a) m) (counts p) ≡ together m (counts (then a p))
 then-together m a p = same-counts (omega arith) (add-assoc _ _ _) (add-assoc _ _ _) (add-assoc _ _ _)
-
--- A next term has its term's type.
-pub next-typed : (τ : Ty) {e r : Term ml} → Typed [] e τ → e ⟶ r → (step e ≡ next r) × Typed [] r τ
-next-typed τ {e} {r} h a = let q = next-iff e r (typed-scoped [] e τ h) .1 a in (q, rw q at (sound e τ h))
 
 -- How many steps of a class the computed reduction has among its first n.
 abbrev follow : Outcome ml → (Term ml → ℕ) → ℕ

@@ -7,7 +7,7 @@ use Rattle.calculus.specs.Trees.{Lang, Static, Term}
 use Rattle.calculus.specs.Scope.{Scoped}
 use Rattle.calculus.specs.Typing.{Typed}
 use Rattle.calculus.specs.Reduction.{Outcome, value, raised, next, stuck, step}
-use Rattle.calculus.specs.Rules.{Value, Steps, stay, then}
+use Rattle.calculus.specs.Rules.{Value}
 use Rattle.calculus.specs.Verdicts.{passed}
 use Rattle.calculus.specs.Run.{uncounted, Final, Result, capacity}
 use Rattle.calculus.specs.File.{operate}
@@ -15,6 +15,7 @@ use Rattle.calculus.specs.Demands.{ExactlyOne, the-first, the-second, th
 use Rattle.calculus.proofs.Typing.{typed-scoped}
 use Rattle.calculus.proofs.Inference.{one-type}
 use Rattle.calculus.proofs.Soundness.{Kept, sound}
+use Rattle.calculus.proofs.Keeping.{steps-typed}
 use Rattle.calculus.proofs.Agreement.{next-iff, raised-iff, value-step-iff, value-no-step, value-no-error, error-no-step}
 use Rattle.calculus.proofs.Growth.{run-more}
 use Rattle.calculus.proofs.Checks.{check-iff, operate-iff}
@@ -30,13 +31,9 @@ exactly-one r τ stuck c q k = absurd k
 typed-sound : {l : Lang} (r : Term l) (τ : Static l) → Typed [] r τ → Sound τ r
 typed-sound r τ h = let c = typed-scoped [] r τ h in record { typed = h; scoped = c; one = exactly-one r τ (step r) c refl (sound r τ h) }
 
-steps-typed : {l : Lang} {n : ℕ} {e r : Term l} (τ : Static l) → Steps n e r → Typed [] e τ → Typed [] r τ
-steps-typed τ stay h = h
-steps-typed τ (then {e = e} {f} a p) h = steps-typed τ p (subst (Kept τ) (next-iff e f (typed-scoped [] e τ h) .1 a) (sound e τ h))
-
 -- The first half, from every term that has a type.
 pub typed-safe : {l : Lang} (e : Term l) (τ : Static l) → Typed [] e τ → Safe τ e
-typed-safe e τ h = record { reached = λ n r p. typed-sound r τ (steps-typed τ p h) }
+typed-safe e τ h = record { reached = λ n r p. typed-sound r τ (steps-typed τ h p) }
 
 pub from-every-term : FromEveryTerm
 from-every-term =

@@ -16,8 +16,9 @@ use Rattle.calculus.specs.Endings.{InCapacity, Ends, by-value, by-limit,
 use Rattle.calculus.proofs.Typing.{typed-scoped}
 use Rattle.calculus.proofs.Agreement.{next-iff, raised-iff, value-step-iff}
 use Rattle.calculus.proofs.Soundness.{sound}
+use Rattle.calculus.proofs.Keeping.{next-typed, steps-typed}
 use Rattle.calculus.proofs.Classes.{step-class}
-use Rattle.calculus.proofs.Counting.{same-counts, none-together, together-none, counted-together, then-together, next-typed, counted-over}
+use Rattle.calculus.proofs.Counting.{same-counts, none-together, together-none, counted-together, then-together, counted-over}
 use Rattle.calculus.proofs.Runs.{Ran, at-value, at-limit, at-error, at-full, at-stuck, by-step, run-ran, run-value, run-next, run-full}
 
 -- One step more at the end.
@@ -49,10 +50,6 @@ steps-run τ cap h (then {e = e} {f} {r = t} a p) c (suc limit) k m q =
     run-next limit cap m e f (i .0) (c .0) ∙ ap (λ (x : Class). run limit cap (counted x m) f) (sym j)
     ∙ steps-run τ cap (i .1) p (c .1) limit k (counted (stepClass a) m) (omega (arith, q))
     ∙ ap (λ (y : Counts). run k cap y t) (then-together m a p)
-
-steps-typed : (τ : Ty) {n : ℕ} {e t : Term ml} → Typed [] e τ → Steps n e t → Typed [] t τ
-steps-typed τ h stay = h
-steps-typed τ h (then a p) = steps-typed τ (next-typed τ h a .1) p
 
 from-start : (τ : Ty) (cap : ℕ) {limit n : ℕ} {e t : Term ml} → Typed [] e τ → (p : Steps n e t) → InCapacity cap p → (k : ℕ) → limit ≡ n + k
     → run limit cap uncounted e ≡ run k cap (counts p) t

@@ -24,6 +24,7 @@ pub mod Agreement
 pub mod Classes
 pub mod Derivations
 pub mod Soundness
+pub mod Keeping
 pub mod Ranges
 pub mod Splices
 -- runs and files

@@ -178,14 +178,14 @@ pub fn run_save_run(
         (returned (r .whole) (now (first_2 .exit)) (now (second_2 .exit)))
         ⌝ }
 {
-    let earlier = run(file, limit, first, second);
-    let n = left(earlier);
+    let paused = run(file, limit, first, second);
+    let n = left(paused);
     let saved = save(types, &first[..n], out);
     let m = written(saved);
     let later = run(&out[..m], again, first, second);
     let whole = run(file, limit_2, first_2, second_2);
     SavedAnswers {
-        earlier: earlier,
+        earlier: paused,
         saved: saved,
         later: later,
         whole: whole,
