@@ -1,17 +1,18 @@
-/* The recipe engine, for the controller's engineer: check a recipe file, run it, price the can that it fills, and save a run
- * that has not come to its end, to go on with it later.
+/* The recipe engine, for the controller's engineer: check a recipe file, run it, price the can that it fills, save a run
+ * that has not come to its end, to go on with it later, and ask for the nodes of a formula, to draw its outline.
  *
- * The four functions take any bytes, any words, any prices, any limit and any buffers, down to length 0, and always come
- * back. They keep nothing between calls, allocate nothing and call nothing of yours, so they may be used from several
- * threads at once.
+ * The five functions take any bytes, any words, any prices, any limit, any place and any buffers, down to length 0, and
+ * always come back. They keep nothing between calls, allocate nothing and call nothing of yours, so they may be used from
+ * several threads at once.
  *
  * Pointers. A pointer must not be null, also where its length is 0: hand over the address of any object then. The file, the
- * prices and the words to be saved are only read. The two buffers of a run and the one of a save are written; they must
- * overlap neither each other nor what is read. What is only read may overlap.
+ * prices, the words to be saved and those asked about are only read. The two buffers of a run and the one of a save are
+ * written; they must overlap neither each other nor what is read. What is only read may overlap.
  *
- * Stack. See RECIPE_STACK_BYTES.
+ * Stack. See RECIPE_STACK_BYTES, and recipe_node for its own.
  *
- * Places are counted in words of 4 bytes from 0, the file's first word being at place 0.
+ * Places are counted in words of 4 bytes from 0, the file's first word being at place 0; recipe_node counts from the first
+ * of the words that it is handed.
  *
  * Later archives may append fields to a struct: compile with the header that comes with the archive.
  */
@@ -25,7 +26,7 @@
 extern "C" {
 #endif
 
-/* Stack that one call takes at most, for files and buffers of up to 16,384 words.
+/* Stack that one call takes at most, of all but recipe_node, for files and buffers of up to 16,384 words.
  * Measured on x86-64 with the deepest terms: 1,280 KiB serve, 1,152 do not. `compare stack` in harness/ tries a figure. */
 #define RECIPE_STACK_BYTES (2u * 1024u * 1024u)
 
@@ -168,6 +169,23 @@ typedef struct {
  * Any other words may be handed over too: a file that is written is one that recipe_check accepts. */
 RecipeSaved recipe_save(const uint32_t *type, size_t type_len, const uint32_t *term, size_t term_len,
                         uint8_t *out, size_t out_len);
+
+/* How many words the whole node at a place has, its own word and all its parts'; 0 where none starts there. Places past the
+ * end hold none, however large they are.
+ *
+ * The words need not be a recipe's that was accepted, nor a whole file's: any words serve, those of a run's buffer too. Those
+ * of types, of ML terms and of Scheme terms are read alike, the first word saying which it is; from there on every word must
+ * have a kind and an operand that are due. Scope, typing and nesting do not matter, nor how the place is reached. A file's
+ * words are its bytes, 4 each, the lowest first; its four words of header are no nodes but numbers, so ask from place 4 on.
+ *
+ * To draw an outline, ask at the first word of the declared type and at that of the term. A node of n words at place p has
+ * its first part at p + 1, each next part where the one before ends, and the last ends at p + n; with n = 1 it has no parts.
+ * panel/outline.c draws one so.
+ *
+ * No memory is written. The stack is up to 160 bytes for each word of the node that is asked about, whole or not: 16,384
+ * words, nested as deep as they can be, need 2.6 MB. A word without parts (N, L, a variable or a number of either language,
+ * the Scheme nil, a Scheme wrong) needs next to none, whatever stands behind it, and takes a few nanoseconds. */
+size_t recipe_node(const uint32_t *words, size_t words_len, size_t at);
 
 #ifdef __cplusplus
 }
