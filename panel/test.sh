@@ -1,7 +1,7 @@
 #!/bin/sh
 # Builds the panel's program and compares what it prints with outputs written by hand from documents 01 and 02.
-# With the argument `run` the examples that run a recipe, price a can and save a run are tried too. The archive must have been
-# built before.
+# With the argument `run` the panel's outline and the examples that run a recipe, price a can and save a run are tried too. The
+# archive must have been built before.
 set -eu
 cd "$(dirname "$0")/.."
 archive=target/staticlib/libexports.a
@@ -75,6 +75,17 @@ same() {
     # What wrapped is after three steps: ms N (app (fn v0) 7).
     words 1 4 6 5 1 30 1 35 34 32 1825 >lunch-due
     rm -f lunch larger again unsaved
+    # Every kind: a function from lists to lumps, and a term of 43 words.
+    words 4 4 43 8 4 3 1 2 18 1 23 28 27 24 2 26 25 16 1809 19 20 784 21 22 4294967057 76829 1 30 3 1 \
+        34 38 43 299 555 811 39 35 36 4294967072 1825 37 40 41 32 42 33 16777004 45 2 17 >kinds
+    words 2 4 1 6 1 2 17 >type-remains
+    words 1 4 4 5 1 20 17 20 273 >two-terms
+    words 1 4 5 5 1 21 17 21 17 99 >damaged
+    words 1 4 5 5 1 21 30 1 17 17 >other-sort
+    words 1 4 1 5 17 1 >exchanged
+    words 20 >fixes
+    for i in 1 2 3 4 5 6 7 8 9 10 11 12; do cat fixes fixes >twice && mv twice fixes; done
+    { words 1 4 4091 5 1; head -c $((4 * 4090)) fixes; words 17; } >deepest
 )
 cd "$out"
 
@@ -193,6 +204,136 @@ nothing is saved" ./save hd-nil 9 unsaved
 spent, code 0, 0 steps, 3 words left, 0 wanted
 0 calls, 0 conversions, 0 others" ./save add 0 none/out
     same save-usage 2 "usage: save FILE STEPS OUT" ./save add 3
+
+    (cd ../.. && ${CC:-cc} $flags -o "$out/outline" panel/outline.c "$archive")
+    none="no whole node starts here"
+    same outline-add 0 "    4  N
+    5  ML add
+    6    ML number 2
+    7    ML number 3" ./outline add
+    same outline-wrapped 0 "    4  N
+    5  ML application
+    6    ML ms
+    7      function
+    8        N
+    9        N
+   10      Scheme lambda
+   11        Scheme variable 0
+   12    ML number 7" ./outline wrapped
+    same outline-kinds 0 "    4  function
+    5    list
+    6      N
+    7    L
+    8  ML lambda
+    9    N
+   10    ML if0
+   11      ML null?
+   12        ML tl
+   13          ML nil
+   14            L
+   15      ML hd
+   16        ML cons
+   17          ML variable 0
+   18          ML number 7
+   19      ML application
+   20        ML fix
+   21          ML variable 3
+   22        ML add
+   23          ML subtract
+   24            ML number 16777215
+   25            ML wrong 300
+   26              N
+   27          ML ms
+   28            list
+   29              N
+   30            Scheme lambda
+   31              Scheme if0
+   32                Scheme fun?
+   33                  Scheme list?
+   34                    Scheme null?
+   35                      Scheme num?
+   36                        Scheme nil
+   37                Scheme application
+   38                  Scheme add
+   39                    Scheme variable 16777215
+   40                    Scheme number 7
+   41                  Scheme subtract
+   42                    Scheme cons
+   43                      Scheme hd
+   44                        Scheme variable 0
+   45                      Scheme tl
+   46                        Scheme number 0
+   47                    Scheme wrong 65535
+   48                Scheme sm
+   49                  L
+   50                  ML number 0" ./outline kinds
+    # Refusals 4 to 7 are drawn as any other. Of the deep file, the fix at level n, from 0, is word 5 + n.
+    same outline-scope 0 "    4  function
+    5    N
+    6    N
+    7  ML lambda
+    8    N
+    9    ML ms
+   10      N
+   11      Scheme variable 0" ./outline scope
+    same outline-no-type 0 "    4  N
+    5  ML application
+    6    ML number 0
+    7    ML number 0" ./outline no-type
+    same outline-other-type 0 "    4  L
+    5  ML number 0" ./outline other-type
+    same outline-deep 0 "    4  N
+$(level=0; while [ "$level" -lt 256 ]; do printf '%5d  %*sML fix\n' $((5 + level)) $((2 * level)) ''; level=$((level + 1)); done)
+  261  $(printf '%512s' '')ML number 0" ./outline deep
+    same outline-deepest 0 " 4095  $(printf '%8180s' '')ML number 0" sh -c './outline deepest | tail -n 1'
+    same outline-deepest-lines 0 "4092" sh -c './outline deepest | wc -l'
+    # Where no whole node starts, and where words remain, the next word is asked about.
+    same outline-kind 1 "    4  N
+    5  $none" ./outline kind
+    same outline-type-out 1 "    4  $none
+    5  ML number 0" ./outline type-out
+    same outline-term-out 1 "    4  N
+    5  $none
+    6  ML number 0" ./outline term-out
+    same outline-remains 1 "    4  N
+    5  ML number 0
+    6  ML number 0" ./outline remains
+    same outline-type-remains 1 "    4  N
+    5  L
+    6  ML number 0" ./outline type-remains
+    same outline-two-terms 1 "    4  N
+    5  ML fix
+    6    ML number 0
+    7  ML fix
+    8    ML number 1" ./outline two-terms
+    same outline-damaged 1 "    4  N
+    5  $none
+    6  ML number 0
+    7  $none
+    8  ML number 0
+    9  $none" ./outline damaged
+    same outline-other-sort 1 "    4  N
+    5  $none
+    6  $none
+    7  N
+    8  ML number 0
+    9  ML number 0" ./outline other-sort
+    # A type and a term in each other's place are whole nodes; panel refuses the file.
+    same outline-exchanged 0 "    4  ML number 0
+    5  N" ./outline exchanged
+    wrong_size="its size is wrong: a recipe has 24 to 16,384 bytes, a multiple of 4. Look whether the file was sent whole."
+    wrong_header="its header is wrong: it does not tell where the type and the term are. Have the file made or sent anew."
+    for name in empty odd long; do
+        same "outline-$name" 1 "outline: $name has no outline, because $wrong_size" ./outline "$name"
+    done
+    same outline-header 1 "outline: header has no outline, because $wrong_header" ./outline header
+    same outline-unread 2 "outline: cannot read none: No such file or directory" ./outline none
+    same outline-folder 2 "outline: cannot read .: Is a directory" ./outline .
+    usage="usage: outline FILE
+Draws the nodes of a recipe file, one to a line: the place of its word, counted from 0, and its kind.
+Whether the file is accepted is not told: panel checks it."
+    same outline-usage 2 "$usage" ./outline
+    same outline-two 2 "$usage" ./outline add add
 fi
 
 [ "$failed" -eq 0 ] && echo "panel: all as written"

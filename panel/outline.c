@@ -1,0 +1,147 @@
+/* The panel's outline: draws the nodes of a recipe file, first the declared type's, then the term's, by asking the engine for
+ * node after node.
+ *
+ * How deep a node lies comes from the answers alone: it is as deep as there are nodes before it that end behind it. The kinds
+ * are known here only by their names.
+ *
+ * Status 0: drawn; 1: no whole node starts where one is due, words remain behind a node, or the size or the header is wrong;
+ * 2: the file cannot be read, or none is named. */
+#include "recipe.h"
+
+#include <errno.h>
+#include <inttypes.h>
+#include <stdio.h>
+#include <string.h>
+
+enum { DRAWN = 0, FAULTY = 1, UNREAD = 2 };
+
+/* Words before the declared type's. */
+enum { HEADER = 4 };
+
+static uint8_t file[RECIPE_FILE_BYTES + 1];
+static uint32_t words[RECIPE_FILE_BYTES / 4];
+
+/* Where the nodes around a place end, the outermost first. */
+static size_t ends[RECIPE_FILE_BYTES / 4];
+
+/* The kinds by their numbers; the four tests share kind 43. */
+static const char *const names[] = {
+    [1] = "N", "L", "list", "function",
+    [16] = "ML variable", "ML number", "ML lambda", "ML application", "ML fix", "ML add", "ML subtract", "ML if0", "ML nil",
+    "ML cons", "ML hd", "ML tl", "ML null?", "ML wrong", "ML ms",
+    [32] = "Scheme variable", "Scheme number", "Scheme lambda", "Scheme application", "Scheme add", "Scheme subtract",
+    "Scheme if0", "Scheme nil", "Scheme cons", "Scheme hd", "Scheme tl",
+    [44] = "Scheme wrong", "Scheme sm",
+};
+static const char *const tests[] = {"Scheme fun?", "Scheme list?", "Scheme null?", "Scheme num?"};
+
+/* Reads a file, as much as tells whether it is too long. 0: it cannot be read. */
+static int read_file(const char *name, size_t *length)
+{
+    FILE *stream = fopen(name, "rb");
+    if (stream == NULL)
+        return 0;
+    errno = 0;
+    *length = fread(file, 1, sizeof file, stream);
+    int read = !ferror(stream);
+    int fault = errno;
+    fclose(stream);
+    errno = fault;
+    return read;
+}
+
+/* Puts the file's bytes together to words, the lowest byte first. */
+static void read_words(size_t count)
+{
+    for (size_t i = 0; i < count; i++) {
+        const uint8_t *at = file + 4 * i;
+        words[i] = at[0] | (uint32_t)at[1] << 8 | (uint32_t)at[2] << 16 | (uint32_t)at[3] << 24;
+    }
+}
+
+/* The name of a node, by its word. */
+static const char *name_of(uint32_t word)
+{
+    uint32_t kind = word % 256, operand = word / 256;
+    if (kind == 43 && operand < sizeof tests / sizeof *tests)
+        return tests[operand];
+    if (kind < sizeof names / sizeof *names && names[kind] != NULL)
+        return names[kind];
+    return "a kind that this program does not know";
+}
+
+/* Whether a kind has an operand that is shown: variables, numbers and wrongs. */
+static int has_operand(uint32_t kind)
+{
+    return kind == 16 || kind == 17 || kind == 29 || kind == 32 || kind == 33 || kind == 44;
+}
+
+/* One line: the place, and so deep the node's name and operand. */
+static void draw_node(size_t place, size_t depth, size_t size)
+{
+    printf("%5zu  ", place);
+    for (size_t i = 0; i < depth; i++)
+        fputs("  ", stdout);
+    if (size == 0) {
+        puts("no whole node starts here");
+        return;
+    }
+    fputs(name_of(words[place]), stdout);
+    if (has_operand(words[place] % 256))
+        printf(" %" PRIu32, words[place] / 256);
+    putchar('\n');
+}
+
+/* Draws all nodes from one place up to another, which holds none of their words. FAULTY: they are not those of one node. */
+static int draw(size_t from, size_t to)
+{
+    size_t depth = 0;
+    int status = DRAWN;
+    for (size_t place = from; place < to; place++) {
+        while (depth > 0 && ends[depth - 1] <= place)
+            depth--;
+        size_t size = recipe_node(words, to, place);
+        draw_node(place, depth, size);
+        if (size == 0 || (depth == 0 && place > from))
+            status = FAULTY;
+        if (size > 0)
+            ends[depth++] = place + size;
+    }
+    return status;
+}
+
+/* Draws a file, unless its words cannot be found. */
+static int draw_file(const char *name, size_t length)
+{
+    uint64_t number = recipe_check(file, length) % 256;
+    if (number == RECIPE_SIZE) {
+        fprintf(stderr, "outline: %s has no outline, because its size is wrong: a recipe has 24 to 16,384 bytes, a multiple "
+                        "of 4. Look whether the file was sent whole.\n", name);
+        return FAULTY;
+    }
+    if (number == RECIPE_HEADER) {
+        fprintf(stderr, "outline: %s has no outline, because its header is wrong: it does not tell where the type and the "
+                        "term are. Have the file made or sent anew.\n", name);
+        return FAULTY;
+    }
+    read_words(length / 4);
+    size_t term = HEADER + words[0];
+    int type_status = draw(HEADER, term), term_status = draw(term, length / 4);
+    return type_status > term_status ? type_status : term_status;
+}
+
+int main(int count, char **arguments)
+{
+    if (count != 2) {
+        fprintf(stderr, "usage: outline FILE\n"
+                        "Draws the nodes of a recipe file, one to a line: the place of its word, counted from 0, and its kind.\n"
+                        "Whether the file is accepted is not told: panel checks it.\n");
+        return UNREAD;
+    }
+    size_t length = 0;
+    if (!read_file(arguments[1], &length)) {
+        fprintf(stderr, "outline: cannot read %s: %s\n", arguments[1], strerror(errno));
+        return UNREAD;
+    }
+    return draw_file(arguments[1], length);
+}
