@@ -2,7 +2,7 @@
 //!
 //! `check` answers a file with a recipe or a refusal; `run` reduces it to one of the four ends; `price` prices the value;
 //! `save` makes what is left into a file again. Trees nest as deep as they have words: call all four within
-//! `on_large_stack`.
+//! `on_large_stack`. `nodes` finds the whole node at a place of any words, without trees.
 
 #![forbid(unsafe_code)]
 
@@ -14,6 +14,7 @@ pub mod file;
 pub mod kinds;
 pub mod laws;
 pub mod node;
+pub mod nodes;
 pub mod price;
 pub mod read;
 pub mod rules;

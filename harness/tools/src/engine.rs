@@ -1,5 +1,5 @@
-//! The engine's C functions, as include/recipe.h declares them. With old_engine.rs the only unsafe code
-//! of the harness.
+//! The engine's C functions, as include/recipe.h declares them, and one that is only for measuring. With old_engine.rs the
+//! only unsafe code of the harness.
 //!
 //! Without the features `check` and `run` there is no engine, and the archive is not linked.
 
@@ -56,6 +56,9 @@ pub type Price = fn(&RecipePrices, &[u8], u32, &mut [u32], &mut [u32]) -> Recipe
 /// The save of a declared type's words and a term's in a lent buffer.
 pub type Save = fn(&[u32], &[u32], &mut [u8]) -> RecipeSaved;
 
+/// The reader of nodes: how many words the whole node at a place of some words has; 0 where none starts there.
+pub type Node = fn(&[u32], usize) -> usize;
+
 #[cfg(feature = "check")]
 mod linked {
     #![allow(unsafe_code)]
@@ -93,6 +96,11 @@ mod linked {
                 out: *mut u8,
                 out_len: usize,
             ) -> super::super::RecipeSaved;
+            #[cfg(feature = "run")]
+            pub fn recipe_node(words: *const u32, words_len: usize, at: usize) -> usize;
+            // Not in the header: for the benchmarks and the comparison alone.
+            #[cfg(feature = "run")]
+            pub fn recipe_node_walked(words: *const u32, words_len: usize, at: usize) -> usize;
         }
     }
 
@@ -130,6 +138,18 @@ mod linked {
         // Safe: pointers and lengths are those of slices, the one that is written being apart from both that are read.
         unsafe { c::recipe_save(declared, declared_len, term.as_ptr(), term.len(), out, out_len) }
     }
+
+    #[cfg(feature = "run")]
+    pub fn node(words: &[u32], at: usize) -> usize {
+        // Safe: the pointer and the length are a slice's; the place may be any.
+        unsafe { c::recipe_node(words.as_ptr(), words.len(), at) }
+    }
+
+    #[cfg(feature = "run")]
+    pub fn node_walked(words: &[u32], at: usize) -> usize {
+        // Safe: the pointer and the length are a slice's; the place may be any.
+        unsafe { c::recipe_node_walked(words.as_ptr(), words.len(), at) }
+    }
 }
 
 /// The engine's check, if it is linked.
@@ -160,6 +180,22 @@ pub fn linked_price() -> Option<Price> {
 pub fn linked_save() -> Option<Save> {
     #[cfg(feature = "run")]
     return Some(linked::save);
+    #[cfg(not(feature = "run"))]
+    None
+}
+
+/// The engine's reader of nodes, if it is linked.
+pub fn linked_node() -> Option<Node> {
+    #[cfg(feature = "run")]
+    return Some(linked::node);
+    #[cfg(not(feature = "run"))]
+    None
+}
+
+/// The same reader without the short way for words without parts, if it is linked.
+pub fn linked_node_walked() -> Option<Node> {
+    #[cfg(feature = "run")]
+    return Some(linked::node_walked);
     #[cfg(not(feature = "run"))]
     None
 }

@@ -1,4 +1,5 @@
-//! The model in the engine's place: its check, its run, its pricing and its save with the engine's own signatures.
+//! The model in the engine's place: its check, its run, its pricing, its save and its reader of nodes with the engine's own
+//! signatures.
 
 use crate::engine::{RecipePriced, RecipePrices, RecipeRun, RecipeSaved};
 use model::check::answer;
@@ -64,4 +65,9 @@ pub fn told_saved(result: &Result<usize, Refusal>) -> RecipeSaved {
         Ok(length) => RecipeSaved { refusal: 0, place: 0, bytes: length as u32 },
         Err(Refusal { number, place }) => RecipeSaved { refusal: number, place, bytes: 0 },
     }
+}
+
+/// The model's reader of nodes.
+pub fn node(words: &[u32], at: usize) -> usize {
+    model::nodes::size_at(words, at)
 }
