@@ -10,6 +10,6 @@ mod parse;
 mod print;
 mod tokens;
 
-pub use names::describe;
+pub use names::{describe, kind_name};
 pub use parse::{parse_recipe, Fault, Parsed};
 pub use print::{flat, pretty};

@@ -50,15 +50,25 @@ pub fn headed(sort: Sort, name: &str) -> Option<(&'static Kind, Option<u32>)> {
     (sort != Sort::Type && row.number != TEST).then_some((row, None))
 }
 
+/// A kind with its language: "ML number".
+pub fn kind_name(row: &Kind) -> String {
+    format!("{} {}", language(row), row.name)
+}
+
+/// What a kind's name is written behind.
+fn language(row: &Kind) -> &'static str {
+    match row.sort {
+        Sort::Type => "type",
+        Sort::Ml => "ML",
+        Sort::Scheme => "Scheme",
+    }
+}
+
 /// What a word says, for a list of words: "ML number 7", or that it has no kind or operand.
 pub fn describe(word: u32) -> String {
     let operand = word / 256;
     let Some(row) = kind(word % 256) else { return format!("no kind has the number {}", word % 256) };
-    let language = match row.sort {
-        Sort::Type => "type",
-        Sort::Ml => "ML",
-        Sort::Scheme => "Scheme",
-    };
+    let language = language(row);
     if operand < row.least || operand > row.most {
         return format!("{language} {} with operand {operand}, outside {} to {}", row.name, row.least, row.most);
     }

@@ -1,5 +1,5 @@
-//! Compares the engine with the model: `compare check`, `compare run`, `compare price`, `compare save`, `compare list`,
-//! `compare stack`.
+//! Compares the engine with the model: `compare check`, `compare run`, `compare price`, `compare save`, `compare node`,
+//! `compare list`, `compare stack`.
 #![forbid(unsafe_code)]
 
 use model::on_large_stack;
@@ -7,19 +7,20 @@ use std::path::Path;
 use std::process::ExitCode;
 use tools::args::Args;
 use tools::compare::{
-    compare_check, compare_list, compare_price, compare_priced_stack, compare_run, compare_save, compare_saved_stack,
-    compare_stack, missing, table, Counts, Plan, SavingEngine,
+    compare_check, compare_list, compare_node, compare_price, compare_priced_stack, compare_run, compare_save,
+    compare_saved_stack, compare_stack, missing, table, Counts, NodeReaders, Plan, SavingEngine,
 };
-use tools::engine::{linked_check, linked_price, linked_run, linked_save};
+use tools::engine::{linked_check, linked_node, linked_node_walked, linked_price, linked_run, linked_save};
 use tools::output::say;
 
 const HELP: &str = "\
-Compares the engine with a checker, a reducer, a pricing and a save built apart from it.
+Compares the engine with a checker, a reducer, a pricing, a save and a reader of nodes built apart from it.
 
 usage: compare check [--files N] [--seed S] [--start I] [--all-reached]
        compare run   [--files N] [--seed S] [--start I] [--all-reached]
        compare price [--files N] [--seed S] [--start I] [--all-reached]
        compare save  [--files N] [--seed S] [--start I] [--all-reached]
+       compare node  [--files N] [--seed S] [--start I] [--all-reached]
        compare list  [--files N] [--seed S] [--start I] [--all-reached]
        compare stack [--kib K]
 
@@ -34,6 +35,9 @@ save         words at the edges, every choice of faults, every term of up to 3 w
              recipes that outgrow a file, and N times of a random recipe: as one run, result and every word of both buffers;
              files of N/4 random recipes that a release before U4 has saved: accepted, result and every word of both
              buffers
+node         every kind with telling operands and parts, every 3 words of an alphabet, the deepest words that a run has, and N
+             times (40000) random words: how many words the whole node at each place has, and at places past the end; by
+             recipe_node, and by the same without the short way for words without parts
 list         files at the edges, two long recipes, and those of N random files (3000) that end soon: every byte that the
              listing program, target/bin/listing, prints of each
 stack        the deepest runs of 16,384 words, and the deepest files, run, priced and saved on a stack of K KiB (2048)
@@ -42,7 +46,8 @@ stack        the deepest runs of 16,384 words, and the deepest files, run, price
 --all-reached  fail if a rule, an end, a class of steps before an end (call, conversion, other) or a refusal was never
              reached; of runs, also a kind of value that Scheme's if0 tests; of pricings, also an order of two refusals, a
              number of items, a pump or a band; of saves, also an order, a place, a length of the buffer, two ends of a run
-             and the one that goes on, 20,000 of these, or an end that a file saved before U4 no longer comes to
+             and the one that goes on, 20,000 of these, or an end that a file saved before U4 no longer comes to; of
+             nodes, a kind, a kind that is none, an operand past its range, a fault in a part, a place past the end or a size
 
 Status 0: no difference; 1: a difference, shrunk and shown; 2: not understood, or built without the engine.
 ";
@@ -61,9 +66,10 @@ fn main() -> ExitCode {
         Some("run") => run(args),
         Some("price") => price(args),
         Some("save") => save(args),
+        Some("node") => node(args),
         Some("list") => list(args),
         Some("stack") => stack(args),
-        _ => Err(Fault::Usage("check, run, price, save, list or stack is due; see --help".into())),
+        _ => Err(Fault::Usage("check, run, price, save, node, list or stack is due; see --help".into())),
     };
     match outcome {
         Ok(()) => ExitCode::SUCCESS,
@@ -118,6 +124,14 @@ fn save(args: Args) -> Result<(), Fault> {
     let (files, laws) = (earlier.files, earlier.runs.laws);
     say(format!("{saves} saves, {pairs} runs saved and gone on with, {files} files saved before U4, no difference"));
     say(format!("of files saved before U4, demand 3 tried on {laws} terms"));
+    finish(counts.rows(), all_reached)
+}
+
+fn node(args: Args) -> Result<(), Fault> {
+    let (plan, all_reached) = plan(args, 40_000)?;
+    let (node, walked) = linked_node().zip(linked_node_walked()).ok_or(without("run"))?;
+    let counts = on_large_stack(|| compare_node(NodeReaders { node, walked }, plan)).map_err(difference)?;
+    say(format!("{} times asked, no difference", counts.asks));
     finish(counts.rows(), all_reached)
 }
 

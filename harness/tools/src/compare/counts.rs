@@ -109,6 +109,11 @@ pub fn order_rows<const N: usize>(order: &[u32], before: &[[u64; N]; N]) -> Vec<
     (1..order.len()).map(|at| row(order[at - 1], &order[at..])).chain([row(4, &[3])]).collect()
 }
 
+/// Adds one to each count whose kind it is.
+pub fn add<const N: usize>(counts: &mut [u64; N], kinds: [bool; N]) {
+    counts.iter_mut().zip(kinds).for_each(|(count, is)| *count += u64::from(is));
+}
+
 pub fn table(rows: &[(String, u64)]) -> String {
     let mut text = String::new();
     for (name, count) in rows {

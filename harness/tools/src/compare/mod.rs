@@ -1,5 +1,5 @@
-//! The comparison of the engine with the model: the check, the run, the pricing, the save, the listing, and what is printed of
-//! them.
+//! The comparison of the engine with the model: the check, the run, the pricing, the save, the reader of nodes, the listing, and
+//! what is printed of them.
 
 mod case;
 mod check;
@@ -8,6 +8,7 @@ mod deepest;
 mod faults;
 pub mod lent;
 mod list;
+pub mod node;
 mod plan;
 pub mod price;
 mod report;
@@ -23,6 +24,7 @@ pub use case::Case;
 pub use check::compare_check;
 pub use counts::{missing, table, Counts};
 pub use list::{compare_list, listed};
+pub use node::{compare_node, NodeCounts, NodeReaders};
 pub use price::{compare_price, PriceCounts};
 pub use report::show_file;
 pub use run::compare_run;

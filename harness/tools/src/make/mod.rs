@@ -1,5 +1,5 @@
 //! What to compare on: random well-typed recipes, cans, damaged files, edges, every small term, every test of if0, price
-//! tables, and words to save.
+//! tables, words to save, and words to ask for nodes in.
 
 pub mod cans;
 mod damage;
@@ -7,6 +7,7 @@ pub mod edges;
 mod every;
 mod forms;
 mod ml;
+pub mod nodes;
 mod plan;
 pub mod prices;
 pub mod saves;

@@ -4,7 +4,7 @@
 use super::faults::ORDER;
 use super::going::{GoingOn, WentOn};
 use super::{EarlierCounts, SaveCase};
-use crate::compare::counts::order_rows;
+use crate::compare::counts::{add, order_rows};
 use crate::engine::RecipeRun;
 use model::file::MOST_BYTES;
 use model::{End, Refusal, Saved};
@@ -185,9 +185,4 @@ impl SaveCounts {
         let enough = (format!("{PAIRS} pairs in the same capacity, so many times"), self.pairs / PAIRS);
         spent.into_iter().chain([full]).chain(wider).chain([enough]).chain(unsaved).collect()
     }
-}
-
-/// Adds one to each count whose kind it is.
-fn add<const N: usize>(counts: &mut [u64; N], kinds: [bool; N]) {
-    counts.iter_mut().zip(kinds).for_each(|(count, is)| *count += u64::from(is));
 }
