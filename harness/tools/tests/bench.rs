@@ -1,5 +1,6 @@
 //! The tables of the benchmarks: their figures and their width. Nothing here is timed.
 
+use tools::bench::nodes::{self, Asked};
 use tools::bench::prices::{self, Priced};
 use tools::bench::saves::{self, Saved};
 use tools::bench::table::{head, Measured};
@@ -76,4 +77,28 @@ fn a_file_has_the_time_of_its_check_and_of_its_save_and_their_ratio() {
     assert_eq!(figures(&unknown.row()), ["96", "-", "-", "-"]);
     let long = Saved { name: "x".repeat(34), words: 4_096, check: Some(9.0), save: Some(9.0) };
     assert!(long.row().len() <= 120 && saves::head().len() <= 120);
+}
+
+#[test]
+fn a_term_has_the_times_of_both_ways_and_their_ratio() {
+    let asked = Asked { name: "term".into(), at: "here", places: 100, before: Some(2e-6), after: Some(5e-7) };
+    assert_eq!(figures(&asked.row()), ["here", "100", "2.00", "0.50", "20.0", "5.00", "4.00"]);
+    assert!(nodes::head().iter().all(|line| line.len() == asked.row().len()));
+    let unknown = Asked { before: None, after: None, ..asked };
+    assert_eq!(figures(&unknown.row()), ["here", "100", "-", "-", "-", "-", "-"]);
+    let name = "x".repeat(24);
+    let long = Asked { name, at: "one-word nodes", places: 16_384, before: Some(9.0), after: Some(1e-6) };
+    assert!(long.row().len() <= 120);
+}
+
+#[test]
+fn the_terms_asked_about_have_their_places() {
+    // Without the engine: {{N}} and ms take 4 words, 60 rows of 66 words and a nil the rest. A row is a cons, 32 conses with
+    // their numbers, and a nil; so 33 of its words have no parts.
+    if tools::engine::linked_node().is_none() {
+        let lines = nodes::tables();
+        assert_eq!(lines.len(), 2 + 2 * 4);
+        assert!(lines[2].starts_with("4,000-word curve         one-word nodes   1982 "), "{}", lines[2]);
+        assert!(lines[3].starts_with("4,000-word curve         every place      3965 "), "{}", lines[3]);
+    }
 }

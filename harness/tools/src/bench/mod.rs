@@ -2,6 +2,7 @@
 
 mod checks;
 mod growth;
+pub mod nodes;
 pub mod prices;
 mod recipes;
 mod runs;
@@ -18,12 +19,13 @@ pub struct Part {
 }
 
 /// The parts, in the order in which they are printed.
-pub const PARTS: [Part; 5] = [
+pub const PARTS: [Part; 6] = [
     Part { name: "check", about: CHECKS, tables: checks::tables },
     Part { name: "run", about: STEPS, tables: runs::tables },
     Part { name: "growth", about: STEPS, tables: growth::tables },
     Part { name: "price", about: PRICES, tables: prices::tables },
     Part { name: "save", about: SAVES, tables: saves::tables },
+    Part { name: "node", about: NODES, tables: nodes::tables },
 ];
 
 /// What holds of all figures, printed before them.
@@ -66,4 +68,11 @@ check and clearing, in two buffers of just the words needed (lent). price/run ov
 const SAVES: &str = "\
 save: the words of accepted files saved. check: recipe_check of the file. save: recipe_save of its words, which writes
 the same file, in a buffer of 16,384 bytes. Both are whole calls. save/check over 1 says that the save takes longer.
+";
+
+/// What the figures of nodes asked for are.
+const NODES: &str = "\
+node: a term's words, asked for the whole node at one place after another: at those whose whole node is one word, and at
+every place. before: recipe_node_walked, which starts a walk at each. after: recipe_node, which gives a word without
+parts back straight from the constant table. before/after over 1 says that it takes less time than it took.
 ";

@@ -9,18 +9,19 @@ use tools::old_engine::linked_run;
 use tools::output::say;
 
 const HELP: &str = "\
-usage: bench [check | run | growth | price | save]
+usage: bench [check | run | growth | price | save | node]
 
 check    the check of growing files: engine and checker on trees
 run      recipes run: a step of the engine and of the reducer on trees, a plain copy of the same words
 growth   how a step's time grows with the words of the term
 price    cans priced: a whole pricing of the engine against a whole run
 save     files saved: a whole save of the engine against the check of the file that it writes
-All five where none is named. Build with --release and --features run; without the engine its columns are dashes.
+node     nodes asked for at every place of a term, and at those of one word: before the short way and with it
+All six where none is named. Build with --release and --features run; without the engine its columns are dashes.
 
 RECIPE_OLD_ARCHIVE=PATH, set when this is built, links an archive of the landing before beside the engine's (PATH is
-absolute, or from the top of the repository). Every table but those of prices and saves then has its times and the ratio
-new/old too.
+absolute, or from the top of the repository). Every table but those of prices, saves and nodes then has its times and the
+ratio new/old too.
 ";
 
 fn main() -> ExitCode {
@@ -32,7 +33,7 @@ fn main() -> ExitCode {
     let name = args.word();
     let known = name.as_deref().is_none_or(|name| PARTS.iter().any(|part| part.name == name));
     if let (false, _) | (_, Err(_)) = (known, args.finish()) {
-        eprintln!("bench: check, run, growth, price or save is due; see --help");
+        eprintln!("bench: check, run, growth, price, save or node is due; see --help");
         return ExitCode::from(2);
     }
     let asked = |part: &&Part| name.as_deref().is_none_or(|name| part.name == name);
