@@ -59,7 +59,7 @@ fn show_explains_damage() {
 
 #[test]
 fn help_and_faults() {
-    for command in ["make", "show", "check", "run", "step", "price"] {
+    for command in ["make", "show", "check", "run", "step", "price", "outline"] {
         let (status, printed, _) = seen(&[command, "--help"], b"");
         assert!(status == 0 && printed.starts_with(&format!("usage: recipe {command}")), "{printed}");
     }
@@ -103,7 +103,7 @@ fn a_step_by_step_that_nobody_reads_on_ends() {
 #[cfg(not(feature = "check"))]
 #[test]
 fn without_the_engine() {
-    for command in ["check", "run", "step", "price"] {
+    for command in ["check", "run", "step", "price", "outline"] {
         let (status, _, said) = seen(&[command], b"N 1");
         assert!(status == 2 && said.contains("built without the engine"), "{said}");
     }
@@ -170,4 +170,20 @@ fn save_and_go_on() {
     let rest = "value after 1 step, 1 word\n0 calls, 1 conversion, 0 others\n7\n";
     assert_eq!(seen(&["run", &name], b""), (0, rest.into(), "".into()));
     std::fs::remove_file(&out).expect("the file is removed");
+}
+
+#[cfg(feature = "run")]
+#[test]
+fn outline() {
+    let lines = ["    4  N", "    5  ML add", "    6    ML number 2", "    7    ML number 3"];
+    assert_eq!(seen(&["outline"], b"N (add 2 3)"), (0, lines.join("\n") + "\n", "".into()));
+    assert_eq!(seen(&["outline"], &words(&[1, 4, 3, 5, 1, 21, 529, 785])).1, lines.join("\n") + "\n");
+    let (status, drawn, said) = seen(&["outline"], &words(&[1, 4, 2, 5, 1, 21, 17]));
+    assert_eq!((status, drawn.as_str()), (1, "    4  N\n    5  no whole node starts here\n    6  ML number 0\n"));
+    assert!(said.starts_with("refused 3: "), "{said}");
+    // As deep as a file allows.
+    let deep = [vec![1, 4, 4_091, 5, 1], vec![20; 4_090], vec![17]].concat();
+    let (status, drawn, _) = seen(&["outline"], &words(&deep));
+    assert_eq!((status, drawn.lines().count()), (0, 4_092));
+    assert_eq!(drawn.lines().last(), Some(format!(" 4095  {}ML number 0", "  ".repeat(4_090)).as_str()));
 }

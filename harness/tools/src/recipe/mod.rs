@@ -1,9 +1,10 @@
-//! The program `recipe`: recipes as text, made, shown, checked, run, saved, stepped through and priced.
+//! The program `recipe`: recipes as text, made, shown, checked, run, saved, stepped through, priced and outlined.
 
 mod check;
 mod explain;
 mod input;
 mod make;
+mod outline;
 mod places;
 mod price;
 mod prices;
@@ -14,7 +15,7 @@ mod show;
 mod step;
 
 use crate::args::Args;
-use crate::engine::{linked_check, linked_price, linked_run, linked_save, Check, Price, Run, Save};
+use crate::engine::{linked_check, linked_node, linked_price, linked_run, linked_save, Check, Node, Price, Run, Save};
 use std::io::{Error, ErrorKind, Read, Write};
 
 pub use program::program;
@@ -26,12 +27,14 @@ pub struct Engine {
     pub run: Option<Run>,
     pub price: Option<Price>,
     pub save: Option<Save>,
+    pub node: Option<Node>,
 }
 
 impl Engine {
     /// The functions that this program was built with.
     pub fn linked() -> Engine {
-        Engine { check: linked_check(), run: linked_run(), price: linked_price(), save: linked_save() }
+        let (check, run, price, save) = (linked_check(), linked_run(), linked_price(), linked_save());
+        Engine { check, run, price, save, node: linked_node() }
     }
 }
 
@@ -84,8 +87,8 @@ pub struct Command {
 }
 
 /// All commands.
-pub const COMMANDS: [Command; 6] =
-    [make::COMMAND, show::COMMAND, check::COMMAND, run::COMMAND, step::COMMAND, price::COMMAND];
+pub const COMMANDS: [Command; 7] =
+    [make::COMMAND, show::COMMAND, check::COMMAND, run::COMMAND, step::COMMAND, price::COMMAND, outline::COMMAND];
 
 /// The failure of a command that needs the engine in a program built without it.
 fn without(feature: &str) -> Failure {

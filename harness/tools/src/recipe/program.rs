@@ -6,14 +6,15 @@ use model::on_large_stack;
 use std::io::Write;
 
 const HELP: &str = "\
-usage: recipe make | show | check | run | step | price   [FILE] [options]
+usage: recipe make | show | check | run | step | price | outline   [FILE] [options]
 
-make    a text to a recipe file
-show    a recipe file as text
-check   whether the engine accepts a recipe, a refusal explained
-run     the end of a run, where its steps went, and the term left; with --save it is kept, to go on later
-step    the term at each step of a run
-price   the end of a run, and what each pump and the can are charged
+make     a text to a recipe file
+show     a recipe file as text
+check    whether the engine accepts a recipe, a refusal explained
+run      the end of a run, where its steps went, and the term left; with --save it is kept, to go on later
+step     the term at each step of a run
+price    the end of a run, and what each pump and the can are charged
+outline  the nodes of a recipe, one to a line, each with its place
 
 `recipe COMMAND --help` says more. Status 0: done; 1: the file is refused, or a price, or a save; 2: a file cannot be
 read or written, or the command is not understood. What is printed of a status that is not 0 goes to standard error.
@@ -29,7 +30,9 @@ pub fn program(words: Vec<String>, desk: &mut Desk<'_>, errors: &mut dyn Write) 
         (Some(command), true) => print(desk, command.help),
         (None, true) => print(desk, HELP),
         (Some(command), false) => work(command, args, desk),
-        (None, false) => Err(Failure::Other("make, show, check, run, step or price is due; see --help".into())),
+        (None, false) => {
+            Err(Failure::Other("make, show, check, run, step, price or outline is due; see --help".into()))
+        }
     };
     let (status, message) = match outcome {
         Ok(()) | Err(Failure::Unread) => return 0,

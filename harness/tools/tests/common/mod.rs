@@ -5,7 +5,7 @@ pub mod pricing;
 pub mod saving;
 
 use std::io::Write;
-use tools::engine::{Check, Price, Run, Save};
+use tools::engine::{Check, Node, Price, Run, Save};
 use tools::recipe::{program, Desk, Engine};
 use tools::stand_in;
 
@@ -37,7 +37,7 @@ pub fn typed_with(
 ) -> u8 {
     let (check, run, price) =
         (Some(stand_in::check as Check), Some(stand_in::run as Run), Some(stand_in::price as Price));
-    let engine = Engine { check, run, price, save: Some(save) };
+    let engine = Engine { check, run, price, save: Some(save), node: Some(stand_in::node as Node) };
     let mut desk = Desk { engine, input: &mut input, output };
     program(words.iter().map(|word| word.to_string()).collect(), &mut desk, errors)
 }
