@@ -1,5 +1,5 @@
-//! The recipes of document 01, the can and the file saved by an earlier release in recipes/: each text makes its file, and the
-//! model lists it as written by hand.
+//! The recipes of document 01, the can, the file saved by an earlier release and the damaged one in recipes/: each text makes
+//! its file, and the model lists it as written by hand.
 
 use model::earlier::before_u4;
 use model::file::file;
@@ -50,4 +50,14 @@ fn the_file_saved_before_is_what_that_release_left() {
     let recipe = file_of_text("N (add 12 (ms N (app (fn (if0 v0 0 (add (hd v0) 1))) (cons 5 nil))))");
     let left = on_large_stack(|| run_by(before_u4, &recipe, 1, (16, 16)).first);
     assert_eq!(save(&[1], &left[..15], 80).buffer, read(&folder().join("saved-before"), "bin"));
+}
+
+/// A recipe of docs/RECIPES.md with one bit changed: word 13, the Scheme add, is no kind any more.
+#[test]
+fn the_damaged_file_is_a_recipe_with_one_bit_changed() {
+    let mut recipe = file_of_text("N (add 12 (app (ms (N to N) (fn (add v0 v0))) 5))");
+    recipe[4 * 13] ^= 16;
+    let damaged = folder().join("damaged");
+    assert_eq!(recipe, read(&damaged, "bin"));
+    assert_eq!(listed(&recipe).as_bytes(), read(&damaged, "expected"));
 }
