@@ -134,7 +134,8 @@ int main(int count, char **arguments)
 {
     if (count != 2) {
         fprintf(stderr, "usage: outline FILE\n"
-                        "Draws the nodes of a recipe file, one to a line: the place of its word, counted from 0, and its kind.\n"
+                        "Draws the nodes of a recipe file, one to a line: the place of its word, counted from 0, and its "
+                        "kind.\n"
                         "Whether the file is accepted is not told: panel checks it.\n");
         return UNREAD;
     }

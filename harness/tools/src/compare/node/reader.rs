@@ -62,7 +62,7 @@ impl NodeReaders {
 
     /// Fewer words in which one still differs, shown with the place.
     fn difference(self, words: &[u32], at: usize) -> String {
-        let behind = words.get(at..).filter(|behind| self.differing(&behind.to_vec()).is_some());
+        let behind = words.get(at..).filter(|behind| self.differing(behind).is_some());
         let start = behind.unwrap_or(words).to_vec();
         if self.differing(&start).is_none() {
             return self.shown(words, at) + "only with the words that stand behind these in memory\n";
