@@ -156,6 +156,13 @@ fn the_model_shows_no_difference_and_all_is_reached() {
 }
 
 #[test]
+fn a_place_in_the_middle_of_many_words_is_shown() {
+    let text = shown(|words, at| never(words, at, |_, at| at == 1_000), stand_in::node);
+    assert!(text.ends_with(&due("", 1_000, [1, 0, 1])["words:".len()..]), "{text}");
+    assert!(text.starts_with("words:              1(x1"), "{text}");
+}
+
+#[test]
 fn a_difference_in_random_words_says_which_they_are() {
     let late: Node = |words, at| never(words, at, |words, at| words[at..].starts_with(&[25, 24, 1, 24]));
     let readers = NodeReaders { node: late, walked: stand_in::node };

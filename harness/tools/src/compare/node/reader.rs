@@ -53,22 +53,22 @@ impl NodeReaders {
         (self.node)(words, at) != size || (self.walked)(words, at) != size
     }
 
-    /// A place where one differs, if there is one among those tried.
-    fn differing(self, words: &[u32]) -> Option<usize> {
+    /// A place where one differs, if there is one among those tried, of which `at` is one.
+    fn differing(self, words: &[u32], at: usize) -> Option<usize> {
         let tried =
             if words.len() <= FEW { (0..words.len() + BEHIND).chain(FAR).collect() } else { some_places(words) };
-        tried.into_iter().find(|&at| self.differs(words, at))
+        tried.into_iter().chain([at]).find(|&at| self.differs(words, at))
     }
 
     /// Fewer words in which one still differs, shown with the place.
     fn difference(self, words: &[u32], at: usize) -> String {
-        let behind = words.get(at..).filter(|behind| self.differing(behind).is_some());
+        let behind = words.get(at..).filter(|behind| self.differing(behind, 0).is_some());
         let start = behind.unwrap_or(words).to_vec();
-        if self.differing(&start).is_none() {
+        if self.differing(&start, at).is_none() {
             return self.shown(words, at) + "only with the words that stand behind these in memory\n";
         }
-        let small = shrink_words(start, &mut |words| self.differing(words).is_some());
-        let place = self.differing(&small).unwrap_or(0);
+        let small = shrink_words(start, &mut |words| self.differing(words, at).is_some());
+        let place = self.differing(&small, at).unwrap_or(at);
         self.shown(&small, place)
     }
 
