@@ -16,7 +16,8 @@ use Rattle.calculus.specs.Reading.{Act, opens, refuses, later, acted, wa
 use Rattle.calculus.proofs.Verdicts.{not-both, passed-injective}
 use Rattle.calculus.proofs.Walks.{later-zero, later-later, later-passed, walk-done}
 use Rattle.calculus.proofs.Sizes.{tree-length}
-use Rattle.calculus.proofs.Rows.{TreeInRange, TreesInRange, nestingTree, deepest, word-due, due-word, due-made, law-at}
+use Rattle.calculus.specs.Nodes.{TreeInRange}
+use Rattle.calculus.proofs.Rows.{TreesInRange, nestingTree, deepest, word-due, due-word, due-made, law-at}
 use Rattle.calculus.proofs.Views.{View, view, Holds, OfParts, induction, sized}
 
 -- The first part of what nests within a number of levels, and the others.

@@ -1,18 +1,23 @@
 -- The reader of nodes: its walk knows no nesting, and is the walk with as many levels as there are words. It gives the words of the tree
 -- that stands at a place, and nothing where none stands. Assumes nothing.
-use Prim.Native.Nat.{ℕ, suc, _+_, _-_, _≤_}
+use Prim.Native.Nat.{ℕ, zero, suc, _+_, _-_, _≤_, _<_}
+use mathlib.Core.Bool.{true, false}
+use mathlib.Core.Logic.{_↔_}
 use mathlib.Core.List.{List, [], _∷_, _++_}
 use mathlib.Core.Option.{Option, none, some}
 use mathlib.Core.Path.{_≡_, refl, sym, ap, _∙_}
-use lib.ListN.{length, getD, take, drop}
-use borrow.Author.Tests.{ne-eqb}
+use lib.ListN.{length, getD, take, drop, length-take}
+use lib.Dec.{eqb}
+use borrow.Author.Tests.{ne-eqb, eq-eqb, eqb-true}
 use native.Mathlib.Omega.{arith}
 use Rattle.calculus.specs.Verdicts.{found, Verdict, refused, passed}
 use Rattle.calculus.specs.Kinds.{Sort, Tree, putTree, Row, rowFor, sortOf, sizeTree}
-use Rattle.calculus.specs.Reading.{opens, refuses, later, acted, walk, kindDue, levelled, nestedDue, taken, nodeSize, nodeAt}
-use Rattle.calculus.proofs.Walks.{walk-done}
-use Rattle.calculus.proofs.Sizes.{take-tree}
-use Rattle.calculus.proofs.Rows.{TreeInRange, nestingTree}
+use Rattle.calculus.specs.Reading.{Act, opens, refuses, later, acted, walk, kindDue, levelled, nestedDue, taken, nodeSize, nodeAt}
+use Rattle.calculus.specs.Nodes.{TreeInRange, Whole, GivenBack, OneWord, oneWord, alone}
+use Rattle.calculus.proofs.Verdicts.{not-both, passed-injective}
+use Rattle.calculus.proofs.Walks.{reach, walk-done, walk-reach, later-passed}
+use Rattle.calculus.proofs.Sizes.{tree-length, take-tree}
+use Rattle.calculus.proofs.Rows.{nestingTree}
 use Rattle.calculus.proofs.Views.{view, sort-of}
 use Rattle.calculus.proofs.Nesting.{nestedBy, tree-taken, walk-stands}
 
@@ -74,20 +79,94 @@ node-given ws at s t k h q =
     ap (λ (l : List ℕ). take (nodeSize l) l) q ∙ ap (λ (n : ℕ). take n (putTree s t k)) (node-size s t h k) ∙ take-tree s t k
 
 -- And where it gives back any words, they are those of a tree in range.
-pub record Given (ws : List ℕ) : Type 0 where
-  pub sort : Sort
-  pub tree : Tree sort
-  pub rest : List ℕ
-  pub spelt : ws ≡ putTree sort tree rest
-  pub ranged : TreeInRange sort tree
-
-pub node-sound : (ws : List ℕ) → (nodeSize ws ≡ 0 → ⊥) → Given ws
+node-sound : (ws : List ℕ) (at : ℕ) → (nodeSize (drop at ws) ≡ 0 → ⊥) → Whole ws at
 unfolding nodeSize
-node-sound ws h = by-walk (walk kindDue ws (sortOf (getD ws 0 0) ∷ [])) refl h
+node-sound ws at h = by-walk (walk kindDue (drop at ws) (sortOf (getD (drop at ws) 0 0) ∷ [])) refl h
   where
-    by-walk : (v : Verdict ℕ) → walk kindDue ws (sortOf (getD ws 0 0) ∷ []) ≡ v → (taken v ≡ 0 → ⊥) → Given ws
+    by-walk : (v : Verdict ℕ) → walk kindDue (drop at ws) (sortOf (getD (drop at ws) 0 0) ∷ []) ≡ v → (taken v ≡ 0 → ⊥) → Whole ws at
     by-walk (refused r p) q g = absurd (g refl)
     by-walk (passed n) q g =
-        let s = sortOf (getD ws 0 0) in
-        let t = walk-stands ws ((s, length ws) ∷ []) n (no-nesting ws ((s, length ws) ∷ []) (omega arith, tt) ∙ q) in
-        record { sort = s; tree = t .trees .0; rest = t .rest; spelt = t .spelt; ranged = t .fit .0 }
+        let part = drop at ws in
+        let s = sortOf (getD part 0 0) in
+        let t = walk-stands part ((s, length part) ∷ []) n (no-nesting part ((s, length part) ∷ []) (omega arith, tt) ∙ q) in
+        record { sort = s; tree = t .trees .0; ranged = t .fit .0; rest = t .rest; spelt = t .spelt }
+
+-- A node's words are there.
+taken-reach : (v : Verdict ℕ) → taken v ≤ reach v
+taken-reach (refused r p) = omega arith
+taken-reach (passed n) = omega arith
+
+pub size-fits : (ws : List ℕ) → nodeSize ws ≤ length ws
+unfolding nodeSize
+size-fits ws =
+    let ds = sortOf (getD ws 0 0) ∷ [] in
+    omega (arith, taken-reach (walk kindDue ws ds), walk-reach kindDue ws ds)
+
+pub node-length : (ws : List ℕ) (at : ℕ) → length (nodeAt ws at) ≡ nodeSize (drop at ws)
+node-length ws at = omega (arith, length-take (nodeSize (drop at ws)) (drop at ws), size-fits (drop at ws))
+
+-- The reader of nodes, said of trees.
+pub given-back : (ws : List ℕ) (at : ℕ) → GivenBack ws at (nodeAt ws at)
+given-back ws at =
+    record {
+      whole = λ n. node-given ws at (n .sort) (n .tree) (n .rest) (n .ranged) (n .spelt);
+      empty = λ h. by (nodeSize (drop at ws)) refl h;
+    }
+  where
+    by : (n : ℕ) → nodeSize (drop at ws) ≡ n → ¬ Whole ws at → nodeAt ws at ≡ []
+    by zero e h = rw e
+    by (suc n) e h = absurd (h (node-sound ws at (λ z. omega (arith, e, z))))
+
+-- "the places whose whole node is one word", as a test and by trees.
+pub one-word : (ws : List ℕ) (at : ℕ) → (oneWord ws at ≡ true) ↔ OneWord ws at
+one-word ws at = (there, back)
+  where
+    words : (n : Whole ws at) → length (nodeAt ws at) ≡ sizeTree (n .sort) (n .tree)
+    words n =
+        let g = given-back ws at .whole n in
+        omega (arith, ap length g, tree-length (n .sort) (n .tree) [])
+
+    there : oneWord ws at ≡ true → OneWord ws at
+    there t =
+        let one = eqb-true (length (nodeAt ws at)) 1 t in
+        let n = node-sound ws at (λ z. omega (arith, one, ap (λ (m : ℕ). length (take m (drop at ws))) z)) in
+        (n, sym (words n) ∙ one)
+
+    back : OneWord ws at → oneWord ws at ≡ true
+    back p = eq-eqb (length (nodeAt ws at)) 1 (words (p .0) ∙ p .1)
+
+-- Behind a part that is due stands at least one word.
+some-taken : {D : Type 0} (f : D → ℕ → Act D) (ws : List ℕ) (d : D) (ds : List D) (n : ℕ) → walk f ws (d ∷ ds) ≡ passed n → 1 ≤ n
+unfolding walk
+some-taken f [] d ds n q = absurd (not-both 3 0 n q)
+some-taken f (w ∷ ws) d ds n q = by (f d w) q
+  where
+    by : (a : Act _) → acted a (λ ps. walk f ws (ps ++ ds)) ≡ passed n → 1 ≤ n
+    by (opens ps) p = let i = later-passed 1 (walk f ws (ps ++ ds)) n p in omega (arith, passed-injective _ _ (sym (ap (later 1) (i .1)) ∙ p))
+    by (refuses r) p = absurd (not-both r 0 n p)
+
+-- "it answers at exactly the places whose whole node is one word": a word's row tells, whatever stands behind it.
+alone-is : (w : ℕ) (ws : List ℕ) → alone w ≡ eqb (nodeSize (w ∷ ws)) 1
+unfolding alone nodeSize walk
+alone-is w ws = by (rowFor (sortOf w) w)
+  where
+    more : (v : Verdict ℕ) → ((n : ℕ) → v ≡ passed n → 1 ≤ n) → false ≡ eqb (taken (later 1 v)) 1
+    more (refused r p) h = refl
+    more (passed n) h = sym (ne-eqb (1 + n) 1 (λ z. let i = h n refl in omega arith))
+
+    by-parts : (ps : List Sort) → eqb (length ps) 0 ≡ eqb (taken (later 1 (walk kindDue ws (ps ++ [])))) 1
+    by-parts [] = rw (walk-done kindDue ws)
+    by-parts (p ∷ ps) =
+        ne-eqb (length (p ∷ ps)) 0 (λ z. omega (arith, z))
+        ∙ more (walk kindDue ws (p ∷ ps ++ [])) (λ n q. some-taken kindDue ws p (ps ++ []) n q)
+
+    by : (o : Option (Row (sortOf w)))
+        → found o false (λ r. eqb (length (r .parts)) 0)
+        ≡ eqb (taken (acted (found o (refuses 3) (λ r. opens (r .parts))) (λ ps. walk kindDue ws (ps ++ [])))) 1
+    by none = refl
+    by (some r) = by-parts (r .parts)
+
+pub alone-at : (ws : List ℕ) (at : ℕ) → at < length ws → alone (getD ws at 0) ≡ oneWord ws at
+alone-at [] at h = absurd (omega (arith, h))
+alone-at (w ∷ ws) zero h = alone-is w ws ∙ ap (λ (n : ℕ). eqb n 1) (sym (node-length (w ∷ ws) 0))
+alone-at (w ∷ ws) (suc at) h = alone-at ws at (omega (arith, h))

@@ -7,7 +7,8 @@ use Rattle.calculus.specs.Verdicts.{found}
 use Rattle.calculus.specs.Words.{word}
 use Rattle.calculus.specs.Kinds.{Sort, Tree, Trees, putTree, putTrees, Row, rowFor}
 use Rattle.calculus.specs.Reading.{front, back, read, readTree}
-use Rattle.calculus.proofs.Rows.{TreeInRange, TreesInRange, word-due}
+use Rattle.calculus.specs.Nodes.{TreeInRange}
+use Rattle.calculus.proofs.Rows.{TreesInRange, word-due}
 use Rattle.calculus.proofs.Views.{View, view, Holds, OfParts, induction, operand-of}
 
 -- Trees in a row and others behind them.

@@ -12,14 +12,11 @@ use native.Mathlib.Nat.{zero-max}
 use Rattle.calculus.specs.Trees.{ml, sc}
 use Rattle.calculus.specs.Words.{word, testNumber, put, putTy}
 use Rattle.calculus.specs.Limits.{InRange, nestingTy, nesting}
+use Rattle.calculus.specs.Nodes.{TreeInRange}
 use Rattle.calculus.proofs.Verdicts.{found-some}
 use Rattle.calculus.specs.Kinds.{Sort, type, term, Tree, Trees, putTree, putTrees, Row, plain, testOf, table, rowIn, rowFor}
 
--- Ranges and nesting, of a tree of any sort and of trees in a row.
-abbrev pub TreeInRange : (s : Sort) → Tree s → Type 0
-TreeInRange type t = Unit {0}
-TreeInRange (term l) e = InRange e
-
+-- Ranges of trees in a row; nesting, of a tree of any sort and of trees in a row.
 abbrev pub TreesInRange : (ss : List Sort) → Trees ss → Type 0
 TreesInRange [] ts = Unit {0}
 TreesInRange (s ∷ ss) ts = TreeInRange s (ts .0) × TreesInRange ss (ts .1)

@@ -16,7 +16,8 @@ use Rattle.calculus.specs.Limits.{InRange}
 use Rattle.calculus.specs.Scope.{lambdaAt, Scoped}
 use Rattle.calculus.specs.Kinds.{Sort, type, term, Tree, Trees, putTree, putTrees, Row, table, rowIn, sortOfKind, sortOf, sizeTree, sizeTrees}
 use Rattle.calculus.proofs.Sizes.{tree-length, trees-length}
-use Rattle.calculus.proofs.Rows.{TreeInRange, TreesInRange, law-at}
+use Rattle.calculus.specs.Nodes.{TreeInRange}
+use Rattle.calculus.proofs.Rows.{TreesInRange, law-at}
 
 -- Scope, of a tree of any sort and of trees in a row.
 abbrev pub TreeScoped : List Lang → (s : Sort) → Tree s → Type 0

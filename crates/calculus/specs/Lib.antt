@@ -6,6 +6,7 @@ pub mod Words
 pub mod Limits
 pub mod Kinds
 pub mod Reading
+pub mod Nodes
 pub mod Scope
 pub mod Typing
 pub mod Inference

@@ -1,6 +1,7 @@
 // The functions that a C program calls; include/recipe.h declares them.
 
 pub mod prices;
+pub mod readers;
 pub mod runs;
 pub mod saves;
 

@@ -3,6 +3,7 @@ pub mod Dues
 pub mod Ways
 pub mod Nested
 pub mod Readers
+pub mod Lone
 pub mod Lambdas
 pub mod Scoping
 pub mod Shapes

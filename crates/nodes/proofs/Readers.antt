@@ -1,11 +1,12 @@
 -- What the functions over the walk answer: words in order, and the node at the start of words. Assumes nothing.
 use Prim.Native.Nat.{ℕ, _+_, _-_, _%_, _≤_, _<_}
+use mathlib.Core.Bool.{true}
 use mathlib.Core.List.{List, [], _∷_}
 use mathlib.Core.Option.{Option, none, some}
 use mathlib.Core.Path.{_≡_, refl, sym, ap, _∙_}
-use lib.ListN.{length, getD, take, drop, drop-of-length-le}
+use lib.ListN.{length, getD, take, drop, length-drop, drop-of-length-le}
 use lib.Seq.{take-nil}
-use borrow.Author.Tests.{eq-eqb, ne-eqb}
+use borrow.Author.Tests.{eq-eqb, ne-eqb, eqb-true}
 use borrow.Rule.Slice.PartAt.{part-to-end}
 use native.Mathlib.Nat.{add-sub-cancel-left}
 use native.Mathlib.Omega.{arith}
@@ -13,10 +14,11 @@ use Rattle.calculus.specs.Verdicts.{found, Verdict, refused, passed, andThen}
 use Rattle.calculus.specs.Trees.{ml, sc}
 use Rattle.calculus.specs.Kinds.{Sort, type, term, Row, table, rowIn, rowFor, sortOf, sortOfKind}
 use Rattle.calculus.specs.Reading.{later, walk, kindDue, levelled, nestedDue, noneLeft, inOrder, taken, nodeSize, nodeAt}
+use Rattle.calculus.specs.Nodes.{oneWord}
 use Rattle.calculus.proofs.Verdicts.{not-both, passed-injective}
-use Rattle.calculus.proofs.Walks.{reach, reach-later, walk-reach, walk-done, walk-step, later-zero, later-passed}
+use Rattle.calculus.proofs.Walks.{reach, reach-later, walk-done, walk-step, later-zero, later-passed}
 use Rattle.calculus.proofs.Nesting.{passes-all}
-use Rattle.calculus.proofs.Nodes.{no-nesting}
+use Rattle.calculus.proofs.Nodes.{no-nesting, size-fits, node-length}
 use Rattle.nodes.specs.declared.kinds.Row as code
 use Rattle.nodes.specs.declared.refusals.Refusal.{Refusal}
 use Rattle.nodes.specs.declared.walks.Walked.{Walked}
@@ -132,17 +134,9 @@ module _ (ws : List ℕ) (row : code.Row) (x : Walked) (is : row ≡ rowOf (getD
           ∙ ap (λ (ss : List Sort). walk nestedDue ws (levelled (length ws) ss)) (sort-alone (sortOf (getD ws 0 0)))
           ∙ no-nesting ws ((sortOf (getD ws 0 0), length ws) ∷ []) (omega arith, tt))
 
-taken-reach : (v : Verdict ℕ) → taken v ≤ reach v
-taken-reach (refused r p) = omega arith
-taken-reach (passed n) = omega arith
-
 -- A node's words are there.
 pub node-fits : (ws : List ℕ) (at n : ℕ) → n ≡ nodeSize (take (length ws - at) (drop at ws)) → n ≤ length ws - at
-unfolding nodeSize
-node-fits ws at n e =
-    let part = take (length ws - at) (drop at ws) in
-    let v = walk kindDue part (sortOf (getD part 0 0) ∷ []) in
-    omega (arith, taken-reach v, walk-reach kindDue part (sortOf (getD part 0 0) ∷ []), part-length ws at)
+node-fits ws at n e = omega (arith, size-fits (take (length ws - at) (drop at ws)), part-length ws at)
 
 -- The reader's answers.
 pub past-end : (ws : List ℕ) (at : ℕ) → length ws ≤ at → [] ≡ nodeAt ws at
@@ -150,6 +144,17 @@ past-end ws at h = rw (drop-of-length-le ws h) (sym (take-nil (nodeSize [])))
 
 pub node-part : (ws : List ℕ) (at n : ℕ) → n ≡ nodeSize (take (length ws - at) (drop at ws)) → take (at + n - at) (drop at ws) ≡ nodeAt ws at
 node-part ws at n e = rw (add-sub-cancel-left at n, e, part-to-end ws at)
+
+-- Where the node is one word: the place is within the words, and the part is that word.
+module _ (ws : List ℕ) (at : ℕ) (one : oneWord ws at ≡ true) where
+  one-size : nodeSize (drop at ws) ≡ 1
+  one-size = sym (node-length ws at) ∙ eqb-true (length (nodeAt ws at)) 1 one
+
+  pub inside : at < length ws
+  inside = omega (arith, one-size, size-fits (drop at ws), length-drop at ws)
+
+  pub one-part : take (at + 1 - at) (drop at ws) ≡ nodeAt ws at
+  one-part = rw (add-sub-cancel-left at 1) (ap (λ (n : ℕ). take n (drop at ws)) (sym one-size))
 
 -- A row's sort is one digit.
 pub sort-small : (k : ℕ) → rowOf k .sort < 4

@@ -1,6 +1,8 @@
 -- The table of kinds as code has it, computed from the table of the calculus.
 use Prim.Native.Nat.{ℕ, zero, suc, _+_, _*_}
+use mathlib.Core.Bool.{cond}
 use mathlib.Core.List.{List, [], _∷_}
+use lib.Dec.{eqb}
 use lib.ListN.{length}
 use Rattle.calculus.specs.Verdicts.{found}
 use Rattle.calculus.specs.Trees.{N, L, list, _to_, ml, sc, var, num, lam, op1, op2, if0, nil, wrong, ms, sm}
@@ -68,6 +70,10 @@ rows = 64
 -- A row in one number, and the whole table.
 abbrev pub packed : code.Row → ℕ
 packed r = r .sort + 8 * r .parts + 1024 * r .shape + 65536 * r .count + 262144 * r .low + 524288 * r .high
+
+-- The row of a kind without parts, in one number; 0 for a kind that has parts, and for one that is none.
+abbrev pub loneRow : ℕ → ℕ
+loneRow k = cond (eqb (rowOf k .count) 0) (packed (rowOf k)) 0
 
 abbrev pub listed {ℓ} : {A : Type ℓ} → (ℕ → A) → ℕ → ℕ → List A
 listed f k zero = []

@@ -63,7 +63,7 @@ const TWO: u64 = 2 * ONE;
 
 const THREE: u64 = 3 * ONE;
 
-const FROM_ONE: u64 = 4 * ONE;
+pub const FROM_ONE: u64 = 4 * ONE;
 
 const UP_TO: u64 = 2 * FROM_ONE;
 

@@ -1,5 +1,6 @@
 // The walk over the words of nodes in prefix order: refusals 3 and 4, and the reader of nodes.
 
+use crate::alone::alone;
 use crate::kinds::Kinds;
 use crate::kinds::Row;
 use crate::kinds::row_at;
@@ -101,8 +102,8 @@ fn node_size(words: &[u32]) -> usize
     }
 }
 
-// The reader of nodes: the node at a place of the words, from its first word to its last, or the empty part where no whole node starts there.
-pub fn node(words: &[u32], at: usize) -> &[u32]
+// The node at a place of the words by the walk alone, without the short way. For the benchmark, which holds the reader of nodes against it.
+pub fn node_walked(words: &[u32], at: usize) -> &[u32]
     ensures { λ r. ⌜ now r ≡ nodeAt (now (words .entry)) at ⌝ }
 {
     if words.len() <= at {
@@ -110,4 +111,14 @@ pub fn node(words: &[u32], at: usize) -> &[u32]
     }
     let n = node_size(&words[at..]);
     &words[at..at + n]
+}
+
+// The reader of nodes: the node at a place of the words, from its first word to its last, or the empty part where no whole node starts there.
+pub fn node(words: &[u32], at: usize) -> &[u32]
+    ensures { λ r. ⌜ now r ≡ nodeAt (now (words .entry)) at ⌝ }
+{
+    if alone(words, at) {
+        return &words[at..at + 1];
+    }
+    node_walked(words, at)
 }

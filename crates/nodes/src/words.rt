@@ -57,7 +57,7 @@ pub const SCHEME_HD: u32 = 41;
 
 pub const SCHEME_TEST: u32 = 43;
 
-const SCHEME_WRONG: u32 = 44;
+pub const SCHEME_WRONG: u32 = 44;
 
 pub const SM: u32 = 45;
 

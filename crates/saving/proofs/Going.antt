@@ -15,12 +15,12 @@ use Rattle.calculus.specs.Kinds.{Sort, type, term, Tree, putTree}
 use Rattle.calculus.specs.Limits.{nestingTy, nesting}
 use Rattle.calculus.specs.Verdicts.{refused, passed}
 use Rattle.calculus.specs.Reading.{readTree}
+use Rattle.calculus.specs.Nodes.{TreeInRange}
 use Rattle.calculus.specs.Run.{End, valued, spent, error, full, Open, uncounted, Result, run, capacity}
 use Rattle.calculus.specs.Counting.{later}
 use Rattle.calculus.specs.File.{Recipe, judged, operate}
 use Rattle.calculus.specs.Accepted.{Accepted}
 use Rattle.calculus.proofs.Verdicts.{not-both, refused-injective}
-use Rattle.calculus.proofs.Rows.{TreeInRange}
 use Rattle.calculus.proofs.Reading.{whole-tree}
 use Rattle.calculus.proofs.Typing.{typed-scoped}
 use Rattle.calculus.proofs.Nesting.{Ordered, ordered-passes, deeper-refused}
