@@ -6,11 +6,16 @@ use checker::Checked;
 use checker::check;
 use engine::runs::Answer;
 use engine::runs::run;
+use nodes::alone::alone;
+use nodes::walks::node;
 use pricing::Priced;
 use pricing::price;
 use saving::Saved;
 use saving::save;
+ghost use mathlib.Core.Bool.{true};
+ghost use mathlib.Core.Logic.{_↔_};
 ghost use mathlib.Core.Path.{_≡_};
+ghost use Rattle.calculus.specs.Nodes.{GivenBack, OneWord};
 ghost use Rattle.engine.specs.Lent.{lent, returned};
 ghost use Rattle.pricing.specs.Answered as pricing;
 ghost use Rattle.demands.specs.Demanded.{Checks, Once, Twice};
@@ -190,4 +195,18 @@ pub fn run_save_run(
         later: later,
         whole: whole,
     }
+}
+
+// The reader of nodes, by trees: of these words and this place.
+pub fn node_once(words: &[u32], at: usize) -> &[u32]
+    ensures { λ r. ⌜ GivenBack (now (words .entry)) at (now r) ⌝ }
+{
+    node(words, at)
+}
+
+// Its short way: "it answers at exactly the places whose whole node is one word".
+pub fn alone_once(words: &[u32], at: usize) -> bool
+    ensures { λ r. ⌜ (r ≡ true) ↔ OneWord (now (words .entry)) at ⌝ }
+{
+    alone(words, at)
 }

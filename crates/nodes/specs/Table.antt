@@ -63,6 +63,14 @@ noEntry = record { sort = 0; parts = 0; shape = 0; count = 0; low = 0; high = 0 
 unfoldable pub rowOf : ℕ → code.Row
 rowOf k = found (rowIn (table (sortOfKind k)) k) noEntry (λ r. entry r)
 
+-- The operand's range of a kind without parts, in one number: twice its end, and 1 more if it begins at 1. For a kind that has parts, and for one that
+-- is none, the range from 1 to 0, in which no operand is.
+abbrev pub noRange : ℕ
+noRange = 1
+
+abbrev pub loneRange : code.Row → ℕ
+loneRange r = cond (eqb (r .sort) 0) noRange (cond (eqb (r .count) 0) (r .low + 2 * r .high) noRange)
+
 -- How many kinds the table in code has a row for.
 abbrev pub rows : ℕ
 rows = 64
@@ -70,10 +78,6 @@ rows = 64
 -- A row in one number, and the whole table.
 abbrev pub packed : code.Row → ℕ
 packed r = r .sort + 8 * r .parts + 1024 * r .shape + 65536 * r .count + 262144 * r .low + 524288 * r .high
-
--- The row of a kind without parts, in one number; 0 for a kind that has parts, and for one that is none.
-abbrev pub loneRow : ℕ → ℕ
-loneRow k = cond (eqb (rowOf k .count) 0) (packed (rowOf k)) 0
 
 abbrev pub listed {ℓ} : {A : Type ℓ} → (ℕ → A) → ℕ → ℕ → List A
 listed f k zero = []

@@ -13,54 +13,51 @@ use crate::words::SCHEME_WRONG;
 ghost use mathlib.Core.Path.{_≡_};
 ghost use Prim.Native.Nat.{_%_};
 ghost use Rattle.calculus.specs.Nodes.{oneWord, alone};
-ghost use Rattle.nodes.specs.Table.{loneRow};
+ghost use Rattle.nodes.specs.Table.{rowOf, loneRange};
 
-// The rows of the kinds without parts, read from the table when the engine is compiled. Indexed by a number, the table would be written to the stack
-// whole.
-const N_ROW: u64 = KINDS[N as usize];
+// The operand's ranges of the kinds without parts, read from the table when the engine is compiled: twice the end, and 1 more if it begins at 1.
+// Indexed by a number, the table would be written to the stack whole.
+const N_RANGE: u64 = KINDS[N as usize] / FROM_ONE;
 
-const L_ROW: u64 = KINDS[L as usize];
+const L_RANGE: u64 = KINDS[L as usize] / FROM_ONE;
 
-const ML_VARIABLE_ROW: u64 = KINDS[ML_VARIABLE as usize];
+const ML_VARIABLE_RANGE: u64 = KINDS[ML_VARIABLE as usize] / FROM_ONE;
 
-const ML_NUMBER_ROW: u64 = KINDS[ML_NUMBER as usize];
+const ML_NUMBER_RANGE: u64 = KINDS[ML_NUMBER as usize] / FROM_ONE;
 
-const SCHEME_VARIABLE_ROW: u64 = KINDS[SCHEME_VARIABLE as usize];
+const SCHEME_VARIABLE_RANGE: u64 = KINDS[SCHEME_VARIABLE as usize] / FROM_ONE;
 
-const SCHEME_NUMBER_ROW: u64 = KINDS[SCHEME_NUMBER as usize];
+const SCHEME_NUMBER_RANGE: u64 = KINDS[SCHEME_NUMBER as usize] / FROM_ONE;
 
-const SCHEME_NIL_ROW: u64 = KINDS[SCHEME_NIL as usize];
+const SCHEME_NIL_RANGE: u64 = KINDS[SCHEME_NIL as usize] / FROM_ONE;
 
-const SCHEME_WRONG_ROW: u64 = KINDS[SCHEME_WRONG as usize];
+const SCHEME_WRONG_RANGE: u64 = KINDS[SCHEME_WRONG as usize] / FROM_ONE;
 
-const NO_ROW: u64 = KINDS[0];
+// The range from 1 to 0. The empty row of a kind that is none would be a range too, and 0 would be in it.
+const NO_RANGE: u64 = 1;
 
-// The row of a word's kind, if that has no parts; the empty row for any other kind.
-fn lone_row(w: u32) -> u64
-    ensures { λ r. ⌜ r ≡ loneRow (w % 256) ⌝ }
+// The operand's range of a word's kind, if that has no parts. No operand is in that of any other kind.
+fn lone_range(w: u32) -> u64
+    ensures { λ r. ⌜ r ≡ loneRange (rowOf (w % 256)) ⌝ }
 {
     match w % 256 {
-        N => N_ROW,
-        L => L_ROW,
-        ML_VARIABLE => ML_VARIABLE_ROW,
-        ML_NUMBER => ML_NUMBER_ROW,
-        SCHEME_VARIABLE => SCHEME_VARIABLE_ROW,
-        SCHEME_NUMBER => SCHEME_NUMBER_ROW,
-        SCHEME_NIL => SCHEME_NIL_ROW,
-        SCHEME_WRONG => SCHEME_WRONG_ROW,
-        _ => NO_ROW,
+        N => N_RANGE,
+        L => L_RANGE,
+        ML_VARIABLE => ML_VARIABLE_RANGE,
+        ML_NUMBER => ML_NUMBER_RANGE,
+        SCHEME_VARIABLE => SCHEME_VARIABLE_RANGE,
+        SCHEME_NUMBER => SCHEME_NUMBER_RANGE,
+        SCHEME_NIL => SCHEME_NIL_RANGE,
+        SCHEME_WRONG => SCHEME_WRONG_RANGE,
+        _ => NO_RANGE,
     }
 }
 
-// A word stands alone: its kind has a row and no parts, and its operand is in the row's range.
+// A word stands alone: its kind has no parts, and its operand is in the kind's range.
 fn stands_alone(w: u32) -> bool
     ensures { λ r. ⌜ r ≡ alone w ⌝ }
 {
-    let row = lone_row(w);
-    if row == 0 {
-        return false;
-    }
-    let range = row / FROM_ONE;
+    let range = lone_range(w);
     let operand = (w / 256) as u64;
     if operand < range % 2 {
         return false;
