@@ -16,8 +16,8 @@ abbrev pub TreeInRange : (s : Sort) → Tree s → Type 0
 TreeInRange type t = Unit {0}
 TreeInRange (term l) e = InRange e
 
--- "A whole node starts with a word of any tree kind and has due kinds and operands throughout; scope, type and nesting don't matter to it, and a place
--- past the end holds none": at the place stand the words of a tree of some sort, and then any words.
+-- "A whole node starts with a word of any tree kind and has due kinds and operands throughout; scope, type and nesting don't matter to it, and a
+-- place past the end holds none": at the place stand the words of a tree of some sort, and then any words.
 pub record Whole (ws : List ℕ) (at : ℕ) : Type 0 where
   pub sort : Sort
   pub tree : Tree sort
@@ -38,7 +38,7 @@ OneWord ws at = (n : Whole ws at) × (sizeTree (n .sort) (n .tree) ≡ 1)
 abbrev pub oneWord : List ℕ → ℕ → Bool
 oneWord ws at = eqb (length (nodeAt ws at)) 1
 
--- "Many words there have no parts. The reader of nodes is to give such a word back straight from the constant table": the word's row there, and nothing
--- else, tells that it stands alone.
+-- "Many words there have no parts. The reader of nodes is to give such a word back straight from the constant table": the word's row there, and
+-- nothing else, tells that it stands alone.
 unfoldable pub alone : ℕ → Bool
 alone w = found (rowFor (sortOf w) w) false (λ r. eqb (length (r .parts)) 0)

@@ -6,7 +6,7 @@ use mathlib.Core.Path.{_≡_, refl, sym, ap, _∙_}
 use lib.Dec.{eqb, leb}
 use lib.ListN.{length}
 use native.Mathlib.Omega.{arith}
-use borrow.Author.Tests.{le-leb, lt-leb}
+use borrow.Author.Tests.{ne-eqb, le-leb, lt-leb}
 use Rattle.calculus.specs.Verdicts.{found}
 use Rattle.calculus.specs.Trees.{ml, sc}
 use Rattle.calculus.specs.Kinds.{Sort, type, term, Row, table, rowIn, rowFor, sortOf}
@@ -15,15 +15,32 @@ use Rattle.nodes.specs.declared.kinds.Row as code
 use Rattle.nodes.specs.Table.{sortNumber, entry, noEntry, rowOf, noRange, loneRange, rows}
 use Rattle.nodes.proofs.Table.{past, every-kind, by-rows}
 
--- The kinds without parts; no other kind has a range here.
-abbrev pub isLone : ℕ → Bool
+-- The kinds without parts. A kind that is none of them, told by a fact for each as a `match` tells it, has no range.
+abbrev isLone : ℕ → Bool
 isLone k = eqb k 1 || (eqb k 2 || (eqb k 16 || (eqb k 17 || (eqb k 32 || (eqb k 33 || (eqb k 39 || eqb k 44))))))
 
-pub no-other : (k : ℕ) → isLone k ≡ false → noRange ≡ loneRange (rowOf k)
+abbrev NoneOf : ℕ → Type 0
+NoneOf k =
+    (((((((Unit {0} × ¬ (k ≡ 1)) × ¬ (k ≡ 2)) × ¬ (k ≡ 16)) × ¬ (k ≡ 17)) × ¬ (k ≡ 32)) × ¬ (k ≡ 33)) × ¬ (k ≡ 39)) × ¬ (k ≡ 44)
+
+not-lone : (k : ℕ) → NoneOf k → isLone k ≡ false
+not-lone k n =
+    rw (
+      ne-eqb k 1 (n .0 .0 .0 .0 .0 .0 .0 .1),
+      ne-eqb k 2 (n .0 .0 .0 .0 .0 .0 .1),
+      ne-eqb k 16 (n .0 .0 .0 .0 .0 .1),
+      ne-eqb k 17 (n .0 .0 .0 .0 .1),
+      ne-eqb k 32 (n .0 .0 .0 .1),
+      ne-eqb k 33 (n .0 .0 .1),
+      ne-eqb k 39 (n .0 .1),
+      ne-eqb k 44 (n .1),
+    )
+
+pub no-other : (k : ℕ) → NoneOf k → noRange ≡ loneRange (rowOf k)
 unfolding rowOf
-no-other k e =
+no-other k n =
     sym (every-kind (λ j. cond (isLone j) noRange (loneRange (rowOf j))) (λ j. noRange) refl far k)
-    ∙ ap (λ (t : Bool). cond t noRange (loneRange (rowOf k))) e
+    ∙ ap (λ (t : Bool). cond t noRange (loneRange (rowOf k))) (not-lone k n)
   where
     same : (t : Bool) (n : ℕ) → cond t n n ≡ n
     same true n = refl

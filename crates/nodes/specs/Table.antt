@@ -63,8 +63,8 @@ noEntry = record { sort = 0; parts = 0; shape = 0; count = 0; low = 0; high = 0 
 unfoldable pub rowOf : ℕ → code.Row
 rowOf k = found (rowIn (table (sortOfKind k)) k) noEntry (λ r. entry r)
 
--- The operand's range of a kind without parts, in one number: twice its end, and 1 more if it begins at 1. For a kind that has parts, and for one that
--- is none, the range from 1 to 0, in which no operand is.
+-- The operand's range of a kind without parts, in one number: twice its end, and 1 more if it begins at 1. For a kind that has parts, and for one
+-- that is none, the range from 1 to 0, in which no operand is.
 abbrev pub noRange : ℕ
 noRange = 1
 

@@ -27,4 +27,4 @@ pub node-spec : {M : Type 1} → statement M
 node-spec =
     tie.close
     (tie.spec (λ c κs. search needs) (λ c. omega (arith, within c)) (λ c. omega (arith, within c)) (λ c. search needs) (λ c. search needs)
-    (λ c. omega (arith, within c)) returns (λ c κs. search needs) (λ c. search needs))
+    (λ c. omega (arith, within c)) returns (λ c κs. search needs) (λ c. c .node-walked .ensures))
