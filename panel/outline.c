@@ -6,11 +6,9 @@
  *
  * Status 0: drawn; 1: no whole node starts where one is due, words remain behind a node, or the size or the header is wrong;
  * 2: the file cannot be read, or none is named. */
-#include "recipe.h"
+#include "file.h"
 
-#include <errno.h>
 #include <inttypes.h>
-#include <stdio.h>
 #include <string.h>
 
 enum { DRAWN = 0, FAULTY = 1, UNREAD = 2 };
@@ -18,7 +16,6 @@ enum { DRAWN = 0, FAULTY = 1, UNREAD = 2 };
 /* Words before the declared type's. */
 enum { HEADER = 4 };
 
-static uint8_t file[RECIPE_FILE_BYTES + 1];
 static uint32_t words[RECIPE_FILE_BYTES / 4];
 
 /* Where the nodes around a place end, the outermost first. */
@@ -35,34 +32,10 @@ static const char *const names[] = {
 };
 static const char *const tests[] = {"Scheme fun?", "Scheme list?", "Scheme null?", "Scheme num?"};
 
-/* Reads a file, as much as tells whether it is too long. 0: it cannot be read. */
-static int read_file(const char *name, size_t *length)
-{
-    FILE *stream = fopen(name, "rb");
-    if (stream == NULL)
-        return 0;
-    errno = 0;
-    *length = fread(file, 1, sizeof file, stream);
-    int read = !ferror(stream);
-    int fault = errno;
-    fclose(stream);
-    errno = fault;
-    return read;
-}
-
-/* Puts the file's bytes together to words, the lowest byte first. */
-static void read_words(size_t count)
-{
-    for (size_t i = 0; i < count; i++) {
-        const uint8_t *at = file + 4 * i;
-        words[i] = at[0] | (uint32_t)at[1] << 8 | (uint32_t)at[2] << 16 | (uint32_t)at[3] << 24;
-    }
-}
-
 /* The name of a node, by its word. */
-static const char *name_of(uint32_t word)
+static const char *name_of(uint32_t node)
 {
-    uint32_t kind = word % 256, operand = word / 256;
+    uint32_t kind = node % 256, operand = node / 256;
     if (kind == 43 && operand < sizeof tests / sizeof *tests)
         return tests[operand];
     if (kind < sizeof names / sizeof *names && names[kind] != NULL)
@@ -124,7 +97,8 @@ static int draw_file(const char *name, size_t length)
                         "term are. Have the file made or sent anew.\n", name);
         return FAULTY;
     }
-    read_words(length / 4);
+    for (size_t i = 0; i < length / 4; i++)
+        words[i] = word(i);
     size_t term = HEADER + words[0];
     int type_status = draw(HEADER, term), term_status = draw(term, length / 4);
     return type_status > term_status ? type_status : term_status;

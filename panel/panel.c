@@ -1,32 +1,12 @@
 /* The panel's program: checks the recipe files named on the command line and explains each refusal.
  *
  * Status 0: all are accepted; 1: one is refused; 2: a file cannot be read, or none is named. */
-#include "recipe.h"
+#include "file.h"
 
-#include <errno.h>
 #include <inttypes.h>
-#include <stdio.h>
 #include <string.h>
 
 enum { ACCEPTED = 0, REFUSED = 1, UNREAD = 2 };
-
-/* A longer file is refused by its size, which one byte more than the most shows. */
-static uint8_t file[RECIPE_FILE_BYTES + 1];
-
-/* Reads a file, as much as tells whether it is too long. 0: it cannot be read. */
-static int read_file(const char *name, size_t *length)
-{
-    FILE *stream = fopen(name, "rb");
-    if (stream == NULL)
-        return 0;
-    errno = 0;
-    *length = fread(file, 1, sizeof file, stream);
-    int read = !ferror(stream);
-    int fault = errno;
-    fclose(stream);
-    errno = fault;
-    return read;
-}
 
 static const char *sentence(uint64_t number)
 {

@@ -1,22 +1,14 @@
 /* An example for the controller's engineer: runs one recipe file for some steps and, where that does not end it, saves what is
  * left as a recipe file, which goes on where this one stopped. */
-#include "recipe.h"
+#include "file.h"
 
 #include <inttypes.h>
-#include <stdio.h>
 #include <stdlib.h>
 
 enum { WORDS = 4096 };
 
-static uint8_t file[RECIPE_FILE_BYTES + 1], saved[RECIPE_FILE_BYTES];
+static uint8_t saved[RECIPE_FILE_BYTES];
 static uint32_t first[WORDS], second[WORDS], type[RECIPE_FILE_BYTES / 4];
-
-/* A word of the file, its lowest byte first. */
-static uint32_t word(size_t place)
-{
-    const uint8_t *at = file + 4 * place;
-    return at[0] | (uint32_t)at[1] << 8 | (uint32_t)at[2] << 16 | (uint32_t)at[3] << 24;
-}
 
 /* Writes the saved file. 0: it cannot be written. */
 static int write_file(const char *name, size_t length)

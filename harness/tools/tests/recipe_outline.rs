@@ -1,9 +1,8 @@
 //! `recipe outline`, each outline written by hand from document 01's table of kinds.
 
 mod common;
-use common::{printed, typed_into};
+use common::{printed, typed_into, Unread};
 use model::file::bytes_of;
-use std::io::{Error, ErrorKind, Write};
 
 /// The lines, each ended.
 fn lines(lines: &[&str]) -> String {
@@ -190,19 +189,6 @@ fn faults_have_status_2() {
     assert!((status, drawn.as_str()) == (2, "") && said.starts_with("recipe: cannot read no such file: "), "{said}");
     assert_eq!(printed(&["outline", "-", "more"], b"N 1").2, "recipe: more is not understood\n");
     assert_eq!(printed(&["outline"], b"N (add 1").0, 2);
-}
-
-/// A writer that nobody reads.
-struct Unread;
-
-impl Write for Unread {
-    fn write(&mut self, _: &[u8]) -> std::io::Result<usize> {
-        Err(Error::from(ErrorKind::BrokenPipe))
-    }
-
-    fn flush(&mut self) -> std::io::Result<()> {
-        Ok(())
-    }
 }
 
 #[test]

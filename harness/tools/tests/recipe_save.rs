@@ -1,9 +1,8 @@
 //! `recipe run --save`: files, what is said of them, and refusals, worked out by hand from documents 01 and 02.
 
 mod common;
-use common::{printed, typed_into, typed_with};
+use common::{printed, typed_into, typed_with, Unread};
 use model::file::bytes_of;
-use std::io::{Error, ErrorKind, Write};
 use std::path::PathBuf;
 use std::sync::atomic::{AtomicU32, Ordering};
 use tools::engine::{RecipeSaved, Save};
@@ -201,19 +200,6 @@ fn a_file_that_is_refused_saves_nothing() {
     let (status, told, said) = out.run(b"L 3", &["--limit", "0"]);
     assert!(status == 1 && told.is_empty() && said.starts_with("refused 7: "), "{said}");
     assert_eq!(out.bytes(), None);
-}
-
-/// A writer that nobody reads.
-struct Unread;
-
-impl Write for Unread {
-    fn write(&mut self, _: &[u8]) -> std::io::Result<usize> {
-        Err(Error::from(ErrorKind::BrokenPipe))
-    }
-
-    fn flush(&mut self) -> std::io::Result<()> {
-        Ok(())
-    }
 }
 
 #[test]

@@ -4,7 +4,7 @@
 pub mod pricing;
 pub mod saving;
 
-use std::io::Write;
+use std::io::{Error, ErrorKind, Write};
 use tools::engine::{Check, Node, Price, Run, Save};
 use tools::recipe::{program, Desk, Engine};
 use tools::stand_in;
@@ -40,4 +40,17 @@ pub fn typed_with(
     let engine = Engine { check, run, price, save: Some(save), node: Some(stand_in::node as Node) };
     let mut desk = Desk { engine, input: &mut input, output };
     program(words.iter().map(|word| word.to_string()).collect(), &mut desk, errors)
+}
+
+/// A writer that nobody reads.
+pub struct Unread;
+
+impl Write for Unread {
+    fn write(&mut self, _: &[u8]) -> std::io::Result<usize> {
+        Err(Error::from(ErrorKind::BrokenPipe))
+    }
+
+    fn flush(&mut self) -> std::io::Result<()> {
+        Ok(())
+    }
 }
