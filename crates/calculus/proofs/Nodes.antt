@@ -1,7 +1,7 @@
 -- The reader of nodes: its walk knows no nesting, and is the walk with as many levels as there are words. It gives the words of the tree
 -- that stands at a place, and nothing where none stands. Assumes nothing.
 use Prim.Native.Nat.{ℕ, zero, suc, _+_, _-_, _≤_, _<_}
-use mathlib.Core.Bool.{true, false}
+use mathlib.Core.Bool.{Bool, true, false}
 use mathlib.Core.Logic.{_↔_}
 use mathlib.Core.List.{List, [], _∷_, _++_}
 use mathlib.Core.Option.{Option, none, some}
@@ -13,7 +13,7 @@ use native.Mathlib.Omega.{arith}
 use Rattle.calculus.specs.Verdicts.{found, Verdict, refused, passed}
 use Rattle.calculus.specs.Kinds.{Sort, Tree, putTree, Row, rowFor, sortOf, sizeTree}
 use Rattle.calculus.specs.Reading.{Act, opens, refuses, later, acted, walk, kindDue, levelled, nestedDue, taken, nodeSize, nodeAt}
-use Rattle.calculus.specs.Nodes.{TreeInRange, Whole, GivenBack, OneWord, oneWord, alone}
+use Rattle.calculus.specs.Nodes.{TreeInRange, Whole, GivenBack, OneWord, oneWord, alone, ShortWay}
 use Rattle.calculus.proofs.Verdicts.{not-both, passed-injective}
 use Rattle.calculus.proofs.Walks.{reach, walk-done, walk-reach, later-passed}
 use Rattle.calculus.proofs.Sizes.{tree-length, take-tree}
@@ -117,9 +117,9 @@ given-back ws at =
     by zero e h = rw e
     by (suc n) e h = absurd (h (node-sound ws at (λ z. omega (arith, e, z))))
 
--- "the places whose whole node is one word", as a test and by trees.
-pub one-word : (ws : List ℕ) (at : ℕ) → (oneWord ws at ≡ true) ↔ OneWord ws at
-one-word ws at = (there, back)
+-- "the places whose whole node is one word", as an answer t and by trees.
+pub one-word : (ws : List ℕ) (at : ℕ) (t : Bool) → t ≡ oneWord ws at → (t ≡ true) ↔ OneWord ws at
+one-word ws at t e = ((λ y. there (sym e ∙ y)), (λ n. e ∙ back n))
   where
     words : (n : Whole ws at) → length (nodeAt ws at) ≡ sizeTree (n .sort) (n .tree)
     words n =
@@ -127,8 +127,8 @@ one-word ws at = (there, back)
         omega (arith, ap length g, tree-length (n .sort) (n .tree) [])
 
     there : oneWord ws at ≡ true → OneWord ws at
-    there t =
-        let one = eqb-true (length (nodeAt ws at)) 1 t in
+    there y =
+        let one = eqb-true (length (nodeAt ws at)) 1 y in
         let n = node-sound ws at (λ z. omega (arith, one, ap (λ (m : ℕ). length (take m (drop at ws))) z)) in
         (n, sym (words n) ∙ one)
 
@@ -170,3 +170,6 @@ pub alone-at : (ws : List ℕ) (at : ℕ) → at < length ws → alone (getD ws 
 alone-at [] at h = absurd (omega (arith, h))
 alone-at (w ∷ ws) zero h = alone-is w ws ∙ ap (λ (n : ℕ). eqb n 1) (sym (node-length (w ∷ ws) 0))
 alone-at (w ∷ ws) (suc at) h = alone-at ws at (omega (arith, h))
+
+pub short-way : ShortWay
+short-way ws at h = one-word ws at (alone (getD ws at 0)) (alone-at ws at h)

@@ -1,11 +1,12 @@
 -- Document 01, the reader of nodes, said of trees; and of document 02 its short way. proofs/Nodes.antt proves it of `nodeAt` and `alone`; of the code
 -- it is the contracts of `node_once` and `alone_once` in crates/demands/src/lib.rt.
-use Prim.Native.Nat.{ℕ}
-use mathlib.Core.Bool.{Bool, false}
+use Prim.Native.Nat.{ℕ, _<_}
+use mathlib.Core.Bool.{Bool, true, false}
 use mathlib.Core.List.{List, []}
+use mathlib.Core.Logic.{_↔_}
 use mathlib.Core.Path.{_≡_}
 use lib.Dec.{eqb}
-use lib.ListN.{length, drop}
+use lib.ListN.{length, getD, drop}
 use Rattle.calculus.specs.Limits.{InRange}
 use Rattle.calculus.specs.Kinds.{Sort, type, term, Tree, putTree, sizeTree, rowFor, sortOf}
 use Rattle.calculus.specs.Verdicts.{found}
@@ -42,3 +43,7 @@ oneWord ws at = eqb (length (nodeAt ws at)) 1
 -- nothing else, tells that it stands alone.
 unfoldable pub alone : ℕ → Bool
 alone w = found (rowFor (sortOf w) w) false (λ r. eqb (length (r .parts)) 0)
+
+-- "This short way is proved by itself: it answers at exactly the places whose whole node is one word."
+abbrev pub ShortWay : Type 0
+ShortWay = (ws : List ℕ) (at : ℕ) → at < length ws → (alone (getD ws at 0) ≡ true) ↔ OneWord ws at
