@@ -32,7 +32,8 @@ fn is_due(row: Row, sort: u64, w: u32) -> bool
     operand <= row.high
 }
 
-// Walks over the nodes of the sorts due, one after the other, with so many levels of nesting left for each. `at` words are gone by.
+// Walks over the nodes of the sorts due, one after the other, with so many levels of nesting left for each. `at` words are gone by. Nothing is
+// called for parts that a word does not have, nor for others if none is due.
 pub fn walk(table: &Kinds, words: &[u32], at: usize, due: u64, room: usize) -> Walked
     requires { ⌜ WalkFrom (now table) (now words) at due ⌝ }
     ensures { λ r. ⌜ walked r ≡ later at (walk nestedDue (now (words .entry)) (levelled room (sortsOf due))) ⌝ }
@@ -52,10 +53,16 @@ pub fn walk(table: &Kinds, words: &[u32], at: usize, due: u64, room: usize) -> W
     if room == 0 {
         return Walked::Refused(Refusal::Nesting(at));
     }
+    if row.parts == 0 {
+        return walk(table, &words[1..], at + 1, due / crate::kinds::BASE, room);
+    }
     let inner = walk(table, &words[1..], at + 1, row.parts, room - 1);
     let Walked::Took(end) = inner else {
         return inner;
     };
+    if due < crate::kinds::BASE {
+        return Walked::Took(end);
+    }
     let n = end - at;
     walk(table, &words[n..], end, due / crate::kinds::BASE, room)
 }
