@@ -182,8 +182,8 @@ RecipeSaved recipe_save(const uint32_t *type, size_t type_len, const uint32_t *t
  * its first part at p + 1, each next part where the one before ends, and the last ends at p + n; with n = 1 it has no parts.
  * panel/outline.c draws one so.
  *
- * No memory is written. The stack is up to 160 bytes for each word of the node that is asked about, whole or not: 16,384
- * words, nested as deep as they can be, need 2.6 MB. A word without parts (N, L, a variable or a number of either language,
+ * No memory is written. The stack is up to 176 bytes for each word of the node that is asked about, whole or not: 16,384
+ * words, nested as deep as they can be, need 2.9 MB. A word without parts (N, L, a variable or a number of either language,
  * the Scheme nil, a Scheme wrong) needs next to none, whatever stands behind it, and takes a few nanoseconds. */
 size_t recipe_node(const uint32_t *words, size_t words_len, size_t at);
 
