@@ -8,8 +8,9 @@ pub fn n() -> Rc<Type> {
     Rc::new(Type::Number)
 }
 
-pub fn l() -> Rc<Type> {
-    Rc::new(Type::Lump)
+/// The lump of an owner.
+pub fn l(owner: u32) -> Rc<Type> {
+    Rc::new(Type::Lump(owner))
 }
 
 pub fn list(t: Rc<Type>) -> Rc<Type> {

@@ -1,6 +1,6 @@
-//! Document 01's table of kinds: each kind's language, name, operand range and parts.
+//! Document 01's table of kinds: each kind's language, name, operand range and parts; the range of L is document 02's (U6).
 
-use crate::tree::{MOST, MOST_CODE};
+use crate::tree::{MOST, MOST_CODE, MOST_OWNER};
 
 /// What a node is, and what its parts are due to be.
 #[derive(Clone, Copy, Debug, PartialEq, Eq)]
@@ -30,10 +30,14 @@ const fn row(number: u32, sort: Sort, name: &'static str, (least, most): (u32, u
 const NONE: (u32, u32) = (0, 0);
 const NUMBERS: (u32, u32) = (0, MOST);
 const CODES: (u32, u32) = (1, MOST_CODE);
+const OWNERS: (u32, u32) = (0, MOST_OWNER);
+
+/// The kind of a lump.
+pub const LUMP: u32 = 2;
 
 pub const KINDS: [Kind; 33] = [
     row(1, T, "N", NONE, &[]),
-    row(2, T, "L", NONE, &[]),
+    row(LUMP, T, "L", OWNERS, &[]),
     row(3, T, "list", NONE, &[T]),
     row(4, T, "function", NONE, &[T, T]),
     row(16, M, "variable", NUMBERS, &[]),

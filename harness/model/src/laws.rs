@@ -1,4 +1,4 @@
-//! Demand 3, the law of the counts and the law of going on as tests of terms and runs: what the proofs say of the
+//! Demand 3, the law of owners, that of the counts and that of going on as tests of terms and runs: what the proofs say of the
 //! definitions, tried on the definitions here.
 
 use crate::check::{check, Recipe, Refusal};
@@ -8,7 +8,7 @@ use crate::run::{run, End, Ended, Run};
 use crate::save::save;
 use crate::scope::unbound;
 use crate::step::{step, turn, Step};
-use crate::tree::{Ml, Type};
+use crate::tree::{Ml, Scheme, Type};
 use crate::typing::type_of;
 use crate::values::is_ml_value;
 use std::rc::Rc;
@@ -36,12 +36,27 @@ pub fn try_term(term: &Rc<Ml>, declared: &Type) -> Result<(), String> {
         Some(found) if *found == *declared => {}
         _ => return Err("the term has lost the declared type".into()),
     }
+    try_lumps(Node::Ml(term))?;
     let found = step(term);
     let (raised, reduces) = (matches!(found, Step::Raised(_)), matches!(found, Step::Next(..)));
     match [is_ml_value(term), raised, reduces].iter().filter(|&&yes| yes).count() {
         1 => Ok(()),
         n => Err(format!("{n} of value, raised error and reducible hold")),
     }
+}
+
+/// "sm at an owner's L takes an ms at that same owner's L": wherever the part of an sm at an owner's L is a value, it is such an
+/// ms, at every node of a term that has a type, under its lambdas too.
+pub fn try_lumps(node: Node<'_>) -> Result<(), String> {
+    if let Node::Scheme(e) = node {
+        if let Scheme::Sm(t, value) = &**e {
+            let sealed = matches!(&**value, Ml::Ms(owner, _) if owner == t);
+            if matches!(**t, Type::Lump(_)) && is_ml_value(value) && !sealed {
+                return Err("sm at an owner's L has met another value than an ms at that same owner's L".into());
+            }
+        }
+    }
+    node.parts().into_iter().flatten().try_for_each(try_lumps)
 }
 
 /// If the first run ended as a value or an error, the second, lent at least as much, ended the same.

@@ -15,6 +15,7 @@ pub mod kinds;
 pub mod laws;
 pub mod node;
 pub mod nodes;
+pub mod owners;
 pub mod price;
 pub mod read;
 pub mod rules;

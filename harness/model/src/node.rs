@@ -53,7 +53,7 @@ impl<'a> Node<'a> {
     /// The node's own word: kind + 256 x operand.
     pub fn word(self) -> u32 {
         let (kind, operand) = match self {
-            Node::Type(t) => (type_kind(t), 0),
+            Node::Type(t) => type_kind(t),
             Node::Ml(e) => ml_kind(e),
             Node::Scheme(e) => scheme_kind(e),
         };
@@ -92,12 +92,12 @@ pub fn ml_words(term: &Rc<Ml>) -> Vec<u32> {
     Node::Ml(term).words()
 }
 
-fn type_kind(t: &Type) -> u32 {
+fn type_kind(t: &Type) -> (u32, u32) {
     match t {
-        Type::Number => 1,
-        Type::Lump => 2,
-        Type::List(_) => 3,
-        Type::Function(..) => 4,
+        Type::Number => (1, 0),
+        Type::Lump(owner) => (2, *owner),
+        Type::List(_) => (3, 0),
+        Type::Function(..) => (4, 0),
     }
 }
 
@@ -151,7 +151,7 @@ pub fn test_operand(test: Test) -> u32 {
 
 fn type_parts(t: &Type) -> Parts<'_> {
     match t {
-        Type::Number | Type::Lump => [None, None, None],
+        Type::Number | Type::Lump(_) => [None, None, None],
         Type::List(t) => [Some(Node::Type(t)), None, None],
         Type::Function(t, u) => [Some(Node::Type(t)), Some(Node::Type(u)), None],
     }

@@ -2,7 +2,7 @@
 //! not matter to it, and no stack is needed, however deep a node nests.
 
 use crate::kinds::{kind, Kind, Sort};
-use crate::tree::MOST_CODE;
+use crate::tree::{MOST_CODE, MOST_OWNER};
 
 /// A whole node: how many words it has, and how deep it nests, its own word being at 1.
 #[derive(Clone, Copy, Debug, PartialEq, Eq)]
@@ -66,12 +66,13 @@ fn row_at(words: &[u32], place: usize, due: Option<Sort>) -> Result<&'static Kin
     }
 }
 
-/// Whether a word is a whole node by itself, said apart from the table: N, L, a variable or a number of either language, the
-/// Scheme nil, or a Scheme wrong with a code. The ML nil and the ML wrong have a type for a part.
+/// Whether a word is a whole node by itself, said apart from the table: N, an L with an owner, a variable or a number of either
+/// language, the Scheme nil, or a Scheme wrong with a code. The ML nil and the ML wrong have a type for a part.
 pub fn is_one_word(word: u32) -> bool {
     let operand = word / 256;
     match word % 256 {
-        1 | 2 | 39 => operand == 0,
+        1 | 39 => operand == 0,
+        2 => operand <= MOST_OWNER,
         16 | 17 | 32 | 33 => true,
         44 => (1..=MOST_CODE).contains(&operand),
         _ => false,

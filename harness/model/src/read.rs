@@ -65,11 +65,11 @@ impl Reader<'_> {
     }
 
     fn read_type(&mut self, depth: usize) -> Result<Rc<Type>, Refusal> {
-        let (kind, _) = self.head(Sort::Type, depth)?;
+        let (kind, operand) = self.head(Sort::Type, depth)?;
         let d = depth + 1;
         Ok(Rc::new(match kind {
             1 => Type::Number,
-            2 => Type::Lump,
+            2 => Type::Lump(operand),
             3 => Type::List(self.read_type(d)?),
             _ => Type::Function(self.read_type(d)?, self.read_type(d)?),
         }))

@@ -115,7 +115,7 @@ fn is_value_node(node: Node<'_>) -> bool {
     match node {
         Node::Type(_) => true,
         Node::Ml(e) => match &**e {
-            Ml::Ms(t, _) => **t == Type::Lump,
+            Ml::Ms(t, _) => matches!(**t, Type::Lump(_)),
             other => matches!(other, Ml::Lambda(..) | Ml::Number(_) | Ml::Nil(_) | Ml::Cons(..)),
         },
         Node::Scheme(e) => matches!(**e, Scheme::Lambda(_) | Scheme::Number(_) | Scheme::Nil | Scheme::Cons(..)),

@@ -5,7 +5,8 @@ use std::rc::Rc;
 #[derive(Debug, PartialEq, Eq)]
 pub enum Type {
     Number,
-    Lump,
+    /// A sealed Scheme value, by its owner.
+    Lump(u32),
     List(Rc<Type>),
     Function(Rc<Type>, Rc<Type>),
 }
@@ -61,3 +62,6 @@ pub const MOST: u32 = 16_777_215;
 
 /// The largest code of a wrong.
 pub const MOST_CODE: u32 = 65_535;
+
+/// The last owner of a lump: "The operand of L becomes an owner, 0 to 255."
+pub const MOST_OWNER: u32 = 255;

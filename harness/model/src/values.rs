@@ -1,4 +1,4 @@
-//! Document 01's values of both languages.
+//! Document 01's values of both languages; ms at any owner's L of a Scheme value is one (document 02, U6).
 
 use crate::tree::{Ml, Scheme, Type};
 
@@ -6,7 +6,7 @@ pub fn is_ml_value(term: &Ml) -> bool {
     match term {
         Ml::Lambda(..) | Ml::Number(_) | Ml::Nil(_) => true,
         Ml::Cons(a, b) => is_ml_value(a) && is_ml_value(b),
-        Ml::Ms(t, e) => **t == Type::Lump && is_scheme_value(e),
+        Ml::Ms(t, e) => matches!(**t, Type::Lump(_)) && is_scheme_value(e),
         _ => false,
     }
 }

@@ -23,6 +23,14 @@ fn a_node_ends_with_its_last_part() {
 }
 
 #[test]
+fn an_owner_is_no_part() {
+    // ms (L7 to {L255}) (sm L 0).
+    assert_eq!(sizes(&[30, 4, w(2, 7), 3, w(2, 255), 45, 2, 17]), [8, 4, 1, 2, 1, 3, 1, 1, 0, 0]);
+    // One owner is too large: the list, the function and the ms are not whole, the owner before it and the sm behind it are.
+    assert_eq!(sizes(&[30, 4, w(2, 7), 3, w(2, 256), 45, 2, 17]), [0, 0, 1, 0, 0, 3, 1, 1, 0, 0]);
+}
+
+#[test]
 fn what_stands_behind_a_node_does_not_matter() {
     assert_eq!(sizes(&[1, 99, 21, 17, 17, 0]), [1, 0, 3, 1, 1, 0, 0, 0]);
     // A whole file: its first words, which are its header, are read as nodes too; the function would need 5 for a part.
@@ -50,7 +58,7 @@ fn a_place_past_the_end_holds_none() {
 }
 
 /// Words that are no whole node, and which word says so.
-const NOT_WHOLE: [(&[u32], Why, usize); 12] = [
+const NOT_WHOLE: [(&[u32], Why, usize); 14] = [
     (&[0], Why::NoKind, 0),
     (&[5, 1, 1], Why::NoKind, 0),
     (&[31], Why::NoKind, 0),
@@ -60,6 +68,9 @@ const NOT_WHOLE: [(&[u32], Why, usize); 12] = [
     (&[21, 17, 99], Why::NoKind, 2),
     (&[w(21, 1), 17, 17], Why::Operand, 0),
     (&[20, w(29, 65_536), 1], Why::Operand, 1),
+    // An owner over 255, alone and as a part.
+    (&[w(2, 256)], Why::Operand, 0),
+    (&[24, 4, w(2, 255), w(2, 256)], Why::Operand, 3),
     // An ML term in a type's place, a type in an ML term's, and the other language in either's.
     (&[18, 17, 17], Why::OtherSort, 1),
     (&[20, 1], Why::OtherSort, 1),
@@ -89,8 +100,8 @@ fn one_word_is_a_node_of_size_1() {
         }
         found += u32::from(is_one_word(word));
     }
-    // N, L and the Scheme nil with operand 0; variables and numbers with each; codes from 1 to 65,535.
-    assert_eq!(found, 3 + 4 * 11 + 7);
+    // N and the Scheme nil with operand 0; L with owners up to 255; variables and numbers with each; codes from 1 to 65,535.
+    assert_eq!(found, 2 + 6 + 4 * 11 + 7);
 }
 
 #[test]

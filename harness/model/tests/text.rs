@@ -13,10 +13,12 @@ fn term(words: &[u32]) -> Rc<model::Ml> {
 
 #[test]
 fn terms_read_as_in_the_document() {
-    let cases: [(&[u32], &str); 10] = [
+    let cases: [(&[u32], &str); 12] = [
         (&[21, 529, 785], "(add 2 3)"),
         (&[19, 30, 4, 1, 1, 34, 32, w(17, 7)], "(app (ms (N to N) (fn v0)) 7)"),
         (&[30, 1, 45, 2, 30, 2, w(33, 4)], "(ms N (sm L (ms L 4)))"),
+        (&[30, w(2, 9), 45, w(2, 7), 30, w(2, 7), w(33, 4)], "(ms L9 (sm L7 (ms L7 4)))"),
+        (&[18, 4, 3, w(2, 1), w(2, 255), 24, w(2, 10)], "(fn ({L1} to L255) (nil L10))"),
         (&[20, 18, 1, 16], "(fix (fn N v0))"),
         (&[30, 3, 1, 40, w(33, 1), w(33, 2)], "(ms {N} (cons 1 2))"),
         (&[26, 24, 1], "(hd (nil N))"),
@@ -47,7 +49,13 @@ fn faults_have_positions() {
     let cases = [
         ("", (1, 1), "the text ends where a type is due"),
         ("N", (1, 2), "the text ends where an ML term is due"),
-        ("M 1", (1, 1), "M is no type: N, L, {t} or (t to u)"),
+        ("M 1", (1, 1), "M is no type: N, L, L1 to L255, {t} or (t to u)"),
+        ("Lx 1", (1, 1), "Lx is no type: N, L, L1 to L255, {t} or (t to u)"),
+        ("L-1 1", (1, 1), "L-1 is no type: N, L, L1 to L255, {t} or (t to u)"),
+        ("l7 1", (1, 1), "l7 is no type: N, L, L1 to L255, {t} or (t to u)"),
+        ("{L 7} 1", (1, 4), "} is due here, not 7"),
+        ("N\n(nil L256)", (2, 6), "L256 names no owner: an owner is 0 to 255"),
+        ("(L255 to L99999999999) 1", (1, 10), "L99999999999 names no owner: an owner is 0 to 255"),
         ("N (add 1)", (1, 9), ") is no ML term"),
         ("N (add 1 2 3)", (1, 12), ") is due here, not 3"),
         ("N\n(sum 1 2)", (2, 2), "no ML term is called sum"),
@@ -61,6 +69,18 @@ fn faults_have_positions() {
     for (text, place, message) in cases {
         let fault = parse_recipe(text).expect_err(text);
         assert_eq!(((fault.line, fault.column), fault.message.as_str()), (place, message), "{text}");
+    }
+}
+
+/// As zeros may stand before a variable's number; what is shown has none.
+#[test]
+fn zeros_before_an_owner_say_nothing() {
+    for (text, owner, shown) in
+        [("L", 0, "L"), ("L0", 0, "L"), ("L00", 0, "L"), ("L007", 7, "L7"), ("L0255", 255, "L255")]
+    {
+        let parsed = parse_recipe(&format!("{text} v007")).expect(text);
+        assert_eq!((&parsed.declared[..], &parsed.term[..]), (&[w(2, owner)][..], &[w(16, 7)][..]));
+        assert_eq!(flat(Node::Type(&read_type(&parsed.declared, 0, 1).expect("a type"))), shown);
     }
 }
 
@@ -87,5 +107,7 @@ fn words_are_described() {
     assert_eq!(describe(w(17, 7)), "ML number 7");
     assert_eq!(describe(w(43, 1)), "Scheme list?");
     assert_eq!(describe(1), "type N");
+    assert_eq!([0, 7, 255].map(|owner| describe(w(2, owner))), ["type L", "type L7", "type L255"]);
+    assert_eq!(describe(w(2, 256)), "type L with owner 256, outside 0 to 255");
     assert_eq!(describe(w(21, 1)), "ML add with operand 1, outside 0 to 0");
 }

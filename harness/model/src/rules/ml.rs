@@ -94,7 +94,7 @@ fn ms(t: &Rc<Type>, e: &Rc<Scheme>) -> Outcome {
         (Type::List(_), _) => (Rule::MsListOther, wrong(3, t)),
         (Type::Function(from, to), Scheme::Lambda(_)) => (Rule::MsFunction, ms_function(from, to, e)),
         (Type::Function(..), _) => (Rule::MsFunctionOther, wrong(2, t)),
-        (Type::Lump, _) => return None,
+        (Type::Lump(_), _) => return None,
     })
 }
 

@@ -64,7 +64,7 @@ outcomes! {
     SmListNil "sm {t} of nil",
     SmListCons "sm {t} of cons",
     SmFunction "sm (t to u) of a lambda",
-    SmLump "sm L of ms L",
+    SmLump "sm L of ms L, of the same owner",
 }
 
 /// How often each outcome was met.

@@ -84,13 +84,14 @@ fn tested(test: Test, e: &Scheme) -> (Rule, Rc<Scheme>) {
     }
 }
 
+/// "sm at an owner's L takes an ms at that same owner's L": of another owner's, no rule fits.
 fn sm(t: &Rc<Type>, e: &Rc<Ml>) -> Outcome {
     Some(match (&**t, &**e) {
         (Type::Number, Ml::Number(n)) => (Rule::SmNumber, number(*n)),
         (Type::List(_), Ml::Nil(_)) => (Rule::SmListNil, Rc::new(Scheme::Nil)),
         (Type::List(element), Ml::Cons(v, w)) => (Rule::SmListCons, sm_cons(element, t, v, w)),
         (Type::Function(from, to), Ml::Lambda(..)) => (Rule::SmFunction, sm_function(from, to, e)),
-        (Type::Lump, Ml::Ms(lump, v)) if **lump == Type::Lump => (Rule::SmLump, v.clone()),
+        (Type::Lump(_), Ml::Ms(sealed, v)) if sealed == t => (Rule::SmLump, v.clone()),
         _ => return None,
     })
 }

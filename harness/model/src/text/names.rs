@@ -1,6 +1,6 @@
 //! The names of kinds in text.
 
-use crate::kinds::{kind, Kind, Sort, KINDS};
+use crate::kinds::{kind, Kind, Sort, KINDS, LUMP};
 
 const TESTS: [&str; 4] = ["fun?", "list?", "null?", "num?"];
 const TEST: u32 = 43;
@@ -9,6 +9,7 @@ const TEST: u32 = 43;
 pub enum Atom {
     Variable,
     Number,
+    Lump,
     Name,
 }
 
@@ -16,8 +17,17 @@ pub fn atom(row: &Kind) -> Option<Atom> {
     match row.number {
         16 | 32 => Some(Atom::Variable),
         17 | 33 => Some(Atom::Number),
-        1 | 2 | 39 => Some(Atom::Name),
+        LUMP => Some(Atom::Lump),
+        1 | 39 => Some(Atom::Name),
         _ => None,
+    }
+}
+
+/// A lump's type: `L` of owner 0, `L7` of owner 7.
+pub fn lump_name(owner: u32) -> String {
+    match owner {
+        0 => "L".into(),
+        _ => format!("L{owner}"),
     }
 }
 
@@ -70,10 +80,12 @@ pub fn describe(word: u32) -> String {
     let Some(row) = kind(word % 256) else { return format!("no kind has the number {}", word % 256) };
     let language = language(row);
     if operand < row.least || operand > row.most {
-        return format!("{language} {} with operand {operand}, outside {} to {}", row.name, row.least, row.most);
+        let what = if row.number == LUMP { "owner" } else { "operand" };
+        return format!("{language} {} with {what} {operand}, outside {} to {}", row.name, row.least, row.most);
     }
     match (row.number, row.most) {
         (TEST, _) => format!("{language} {}", head(row, operand)),
+        (LUMP, _) => format!("{language} {}", lump_name(operand)),
         (_, 0) => format!("{language} {}", row.name),
         _ => format!("{language} {} {operand}", row.name),
     }

@@ -2,7 +2,8 @@
 
 use super::names::{headed, shows_operand};
 use super::tokens::{tokens, Position, Token};
-use crate::kinds::{kind, Kind, Sort};
+use crate::kinds::{kind, Kind, Sort, LUMP};
+use crate::tree::MOST_OWNER;
 use std::fmt;
 
 /// What is wrong with a text, and where.
@@ -91,7 +92,6 @@ impl<'a> Parser<'a> {
         let token = self.next("a type")?;
         match token.text {
             "N" => self.put(1, token.position),
-            "L" => self.put(2, token.position),
             "{" => {
                 self.put(3, token.position);
                 self.read_type()?;
@@ -104,7 +104,7 @@ impl<'a> Parser<'a> {
                 self.read_type()?;
                 self.expect(")")?;
             }
-            other => return Err(fault(token.position, format!("{other} is no type: N, L, {{t}} or (t to u)"))),
+            other => self.put(LUMP + 256 * owner(other, token.position)?, token.position),
         }
         Ok(())
     }
@@ -164,6 +164,16 @@ fn language(sort: Sort) -> &'static str {
         Sort::Type => "type",
         Sort::Ml => "ML term",
         Sort::Scheme => "Scheme term",
+    }
+}
+
+/// The owner of a lump's type: L is owner 0's, and behind it may stand digits.
+fn owner(text: &str, position: Position) -> Result<u32, Fault> {
+    let digits = text.strip_prefix('L').filter(|digits| digits.bytes().all(|b| b.is_ascii_digit()));
+    match digits.map(|digits| if digits.is_empty() { Ok(0) } else { digits.parse() }) {
+        Some(Ok(owner)) if owner <= MOST_OWNER => Ok(owner),
+        Some(_) => Err(fault(position, format!("{text} names no owner: an owner is 0 to {MOST_OWNER}"))),
+        None => Err(fault(position, format!("{text} is no type: N, L, L1 to L{MOST_OWNER}, {{t}} or (t to u)"))),
     }
 }
 

@@ -1,6 +1,6 @@
 //! Trees to text, on one line or laid out, with one node marked where asked.
 
-use super::names::{atom, head, shows_operand, Atom};
+use super::names::{atom, head, lump_name, shows_operand, Atom};
 use crate::kinds::row_of;
 use crate::node::Node;
 
@@ -52,6 +52,7 @@ fn shell(word: u32) -> (String, &'static str, String) {
     match (row.number, atom(row)) {
         (_, Some(Atom::Variable)) => (format!("v{operand}"), "", String::new()),
         (_, Some(Atom::Number)) => (operand.to_string(), "", String::new()),
+        (_, Some(Atom::Lump)) => (lump_name(operand), "", String::new()),
         (_, Some(Atom::Name)) => (row.name.to_string(), "", String::new()),
         (3, _) => ("{".into(), "", "}".into()),
         (4, _) => ("(".into(), " to ", ")".into()),
