@@ -1,8 +1,9 @@
 //! A file, or words, made smaller as long as a property holds, so that what is shown of a difference is small.
 
 use model::file::{bytes_of, file, regions, words_of};
-use model::kinds::{row_of, Sort};
+use model::kinds::{row_of, Sort, LUMP};
 use model::node::Node;
+use model::owners::owners;
 use model::read::{read_ml, DEEPEST};
 use model::typing::type_of;
 use std::time::{Duration, Instant};
@@ -108,8 +109,18 @@ fn in_words(words: &[u32], enough: &mut dyn FnMut(Vec<u8>) -> bool) -> bool {
 
 /// The words of the type and of the term, the header kept in order.
 fn in_regions(declared: &[u32], term: &[u32], enough: &mut dyn FnMut(Vec<u8>) -> bool) -> bool {
-    changed(term, &mut |term| enough(file(declared, &term)) || retyped(&term).is_some_and(&mut *enough))
+    owners(declared).chain(owners(term)).any(|owner| renamed(declared, term, owner, enough))
+        || changed(term, &mut |term| enough(file(declared, &term)) || retyped(&term).is_some_and(&mut *enough))
         || changed(declared, &mut |declared| enough(file(&declared, term)))
+}
+
+/// A smaller owner for all lumps of one owner, so that types that are equal stay so.
+fn renamed(declared: &[u32], term: &[u32], owner: u32, enough: &mut dyn FnMut(Vec<u8>) -> bool) -> bool {
+    let word = LUMP + 256 * owner;
+    smaller_words(word).into_iter().any(|smaller| {
+        let with = |words: &[u32]| words.iter().map(|&w| if w == word { smaller } else { w }).collect::<Vec<_>>();
+        enough(file(&with(declared), &with(term)))
+    })
 }
 
 /// The file of a term declared with the type that it has, if it has one.

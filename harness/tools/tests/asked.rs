@@ -35,7 +35,7 @@ fn changed(words: &[u32], at: usize, change: fn(u32) -> u32) -> usize {
 type Planted = (&'static str, Node, (&'static str, usize, usize, usize));
 
 /// Words that are taken for whole nodes, or are not taken for them.
-const WORDS: [Planted; 14] = [
+const WORDS: [Planted; 17] = [
     ("ML nil is one word", |words, at| also(words, at, |word| word == 24), ("24", 0, 0, 1)),
     ("ML wrong is one word", |words, at| also(words, at, |word| word == 29 + 256), ("285", 0, 0, 1)),
     ("kind 0 is one word", |words, at| also(words, at, |word| word == 0), ("0", 0, 0, 1)),
@@ -43,7 +43,22 @@ const WORDS: [Planted; 14] = [
     ("kind 46 is one word", |words, at| also(words, at, |word| word == 46), ("46", 0, 0, 1)),
     ("kind 255 is one word", |words, at| also(words, at, |word| word == 255), ("255", 0, 0, 1)),
     ("N may have operand 1", |words, at| also(words, at, |word| word == 1 + 256), ("257", 0, 0, 1)),
-    ("L may have operand 1", |words, at| also(words, at, |word| word == 2 + 256), ("258", 0, 0, 1)),
+    ("L may have owner 256", |words, at| also(words, at, |word| word == 2 + 256 * 256), ("65538", 0, 0, 1)),
+    (
+        "an owner is taken modulo 256",
+        |words, at| changed(words, at, |word| if word % 256 == 2 { word % 65_536 } else { word }),
+        ("65538", 0, 0, 1),
+    ),
+    (
+        "L with owner 255 is none",
+        |words, at| never(words, at, |words, at| words[at] == 2 + 256 * 255),
+        ("65282", 0, 1, 0),
+    ),
+    (
+        "L with an owner over 0 is none",
+        |words, at| never(words, at, |words, at| words[at] % 256 == 2 && words[at] > 2),
+        ("258", 0, 1, 0),
+    ),
     ("a Scheme wrong may have code 0", |words, at| also(words, at, |word| word == 44), ("44", 0, 0, 1)),
     (
         "a Scheme wrong may have code 65,536",
@@ -66,7 +81,7 @@ const WORDS: [Planted; 14] = [
 ];
 
 /// Places and nodes of several words.
-const NODES: [Planted; 9] = [
+const NODES: [Planted; 11] = [
     ("the last place holds none", |words, at| never(words, at, |words, at| at + 1 == words.len()), ("1", 0, 1, 0)),
     ("the first place holds none", |words, at| never(words, at, |_, at| at == 0), ("1", 0, 1, 0)),
     (
@@ -92,6 +107,12 @@ const NODES: [Planted; 9] = [
     ),
     ("a part may be of any sort", counted_alone, ("3 17", 0, 0, 2)),
     ("a part may have any operand", operands_unseen, ("3 257", 0, 0, 2)),
+    ("a part may have any owner", |words, at| parts_owned(words, at, |owner| owner.min(255)), ("3 65538", 0, 0, 2)),
+    (
+        "a part has no owner over 0",
+        |words, at| parts_owned(words, at, |o| if o > 0 { 256 } else { 0 }),
+        ("24 258", 0, 2, 0),
+    ),
 ];
 
 /// A reader that counts parts and does not look at their sorts.
@@ -111,6 +132,14 @@ fn operands_unseen(words: &[u32], at: usize) -> usize {
     let due = |word: &u32| word % 256 + 256 * u32::from(matches!(word % 256, 29 | 44));
     let seen = words.iter().take(at.saturating_add(1)).copied();
     let words: Vec<u32> = seen.chain(words.iter().skip(at.saturating_add(1)).map(due)).collect();
+    stand_in::node(&words, at)
+}
+
+/// A reader that takes the owners behind the first word for others.
+fn parts_owned(words: &[u32], at: usize, owner: fn(u32) -> u32) -> usize {
+    let first = at.saturating_add(1).min(words.len());
+    let changed = |word: &u32| if word % 256 == 2 { 2 + 256 * owner(word / 256) } else { *word };
+    let words: Vec<u32> = words[..first].iter().copied().chain(words[first..].iter().map(changed)).collect();
     stand_in::node(&words, at)
 }
 

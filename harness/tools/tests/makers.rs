@@ -104,9 +104,11 @@ fn runs_outgrow_a_file_and_some_come_back() {
 #[test]
 fn the_type_that_is_compared_again_and_again_is_accepted() {
     on_large_stack(|| {
-        let file = edges::compared_again();
-        assert_eq!(file.len(), 4 * 4_093);
-        assert!(check(&file).is_ok(), "its types are not compared at all");
+        for leaf in [1, 2, 2 + 256 * 255] {
+            let file = edges::compared_again(leaf);
+            assert_eq!(file.len(), 4 * 4_093);
+            assert!(check(&file).is_ok(), "its types are not compared at all");
+        }
     });
 }
 
@@ -234,7 +236,7 @@ fn small_terms_are_all_there() {
     every_small_term(&mut |_| terms += 1);
     every_small_type(&mut |_| types += 1);
     every_small_recipe(&mut |_| recipes += 1);
-    // 10 types of up to 3 words; 16 leaves, 76 terms of 2 words and 1,416 of 3.
-    assert_eq!(recipes, 10 * (16 + 76 + 1_416));
+    // N, and L with 3 owners: 28 types of up to 3 words; 16 leaves, 88 terms of 2 words and 1,552 of 3.
+    assert_eq!(recipes, 28 * (16 + 88 + 1_552));
     assert!(terms > 100_000 && types > 1_000, "{terms} {types}");
 }

@@ -21,8 +21,11 @@ fn no_difference_from_itself() {
     let checks = on_large_stack(|| compare_check(right_check, PLAN)).expect("no difference");
     assert_eq!(missing(&checks.of_checks()), [""; 0]);
     let runs = on_large_stack(|| compare_run(right_run, PLAN)).expect("no difference");
-    assert_eq!(runs.of_runs().len(), 49 + 6 + 4 + 4 * 3 + 8);
-    assert!(!missing(&runs.of_runs()).iter().any(|name| name.starts_with("end: ")), "an end or a class before it");
+    // Of owners 26 rows for the answers to files, 4 for declared types and 9 for runs.
+    assert_eq!(runs.of_runs().len(), 49 + 6 + 4 + 4 * 3 + 8 + 26 + 4 + 9);
+    let rows = runs.of_runs();
+    let missing = missing(&rows).join("; ");
+    assert!(!missing.contains("end: ") && !missing.contains("owner"), "{missing}");
 }
 
 #[test]

@@ -5,16 +5,19 @@ use super::recipes::plain;
 use super::table::figure;
 use super::timing::{side_by_side, Work};
 use crate::engine::Check;
-use crate::make::edges;
+use crate::make::edges::{compared_again, edges_of_owner_0};
 use crate::{engine, old_engine};
 use model::check;
+use model::kinds::LUMP;
 use std::hint::black_box;
 
-/// Rows for plain files of growing size, and one for all files at the edges together.
+/// Rows for plain files of growing size, one for types of lumps, and one for all files at the edges together. Each lump has owner
+/// 0, which older archives know too.
 pub fn tables() -> Vec<String> {
     let plain_files = [512, 1_024, 2_048, 4_080].map(plain).map(|recipe| (recipe.name, vec![recipe.file]));
-    let edge_files = ("the files at the edges, all together".to_string(), edges());
-    let rows = plain_files.into_iter().chain([edge_files]).map(|(name, files)| row(&name, &files));
+    let lumps = ("lumps in functions, compared 228 times".to_string(), vec![compared_again(LUMP)]);
+    let edge_files = ("the files at the edges, all together".to_string(), edges_of_owner_0());
+    let rows = plain_files.into_iter().chain([lumps, edge_files]).map(|(name, files)| row(&name, &files));
     head(old_engine::linked_check().is_some()).into_iter().chain(rows).collect()
 }
 

@@ -50,6 +50,7 @@ fn compare(engine: Check, file: &[u8], counts: &mut Counts) -> Result<(), String
         Ok(_) => counts.accepted += 1,
         Err(refusal) => counts.refused(refusal),
     }
+    counts.owners.file(file, checked.as_ref().err());
     match engine(file) == answer(&checked) {
         true => Ok(()),
         false => Err(difference(engine, file)),

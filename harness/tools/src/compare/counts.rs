@@ -1,5 +1,6 @@
-//! What a comparison has reached: the outcomes of the rules, the ends and where the steps to them went, the refusals.
+//! What a comparison has reached: the outcomes of the rules, the ends and where the steps to them went, the refusals, owners.
 
+use super::owners::OwnerCounts;
 use super::tested::TESTS;
 use model::rules::{Rule, RuleCounts};
 use model::{Class, End, Ended, Refusal};
@@ -18,6 +19,7 @@ pub struct Counts {
     rules: RuleCounts,
     /// By `TESTS`, of random recipes.
     tests: [u64; TESTS.len()],
+    pub owners: OwnerCounts,
 }
 
 impl Counts {
@@ -41,32 +43,35 @@ impl Counts {
         self.tests.iter_mut().zip(kinds).for_each(|(count, is)| *count += u64::from(is));
     }
 
-    /// The table of a comparison of checks.
+    /// The table of a comparison of checks: the answers, and those that owners decide.
     pub fn of_checks(&self) -> Vec<(String, u64)> {
         let mut rows = vec![("accepted".to_string(), self.accepted)];
         rows.extend(self.refusal_rows(7));
+        rows.extend(self.owners.rows());
+        rows.extend(self.owners.declared_rows());
         rows
     }
 
-    /// The table of a comparison of listings: 4 ends, 3 classes of steps to each, and the refusals that a listing can
-    /// show.
+    /// The table of a comparison of listings: 4 ends, 3 classes of steps to each, the refusals that a listing can show, and
+    /// owners.
     pub fn of_listings(&self) -> Vec<(String, u64)> {
-        self.end_rows().chain(self.class_rows()).chain(self.refusal_rows(7)).collect()
+        self.end_rows().chain(self.class_rows()).chain(self.refusal_rows(7)).chain(self.owners.few_rows()).collect()
     }
 
     /// The table of a comparison of runs: 49 outcomes of rules, 6 kinds of tests that are no numbers, 4 ends, 3 classes of
-    /// steps to each, 8 refusals.
+    /// steps to each, 8 refusals, and owners.
     pub fn of_runs(&self) -> Vec<(String, u64)> {
         let rules = Rule::ALL.iter().map(|rule| (rule.name().to_string(), self.rules.of(*rule)));
         let tests =
             TESTS.iter().zip(self.tests).map(|(test, count)| (format!("random recipe that tests {test}"), count));
         let rows = rules.chain(tests).chain(self.end_rows());
-        rows.chain(self.class_rows()).chain(self.refusal_rows(8)).collect()
+        let rows = rows.chain(self.class_rows()).chain(self.refusal_rows(8));
+        rows.chain(self.owners.rows()).chain(self.owners.declared_rows()).chain(self.owners.step_rows()).collect()
     }
 
-    /// The rows that a comparison of pricings has of its runs: 4 ends, 3 classes of steps to each, 11 refusals.
+    /// The rows that a comparison of pricings has of its runs: 4 ends, 3 classes of steps to each, 11 refusals, and owners.
     pub fn of_pricings(&self) -> Vec<(String, u64)> {
-        self.end_rows().chain(self.class_rows()).chain(self.refusal_rows(11)).collect()
+        self.end_rows().chain(self.class_rows()).chain(self.refusal_rows(11)).chain(self.owners.rows()).collect()
     }
 
     fn end_rows(&self) -> impl Iterator<Item = (String, u64)> + '_ {

@@ -9,6 +9,7 @@ mod faults;
 pub mod lent;
 mod list;
 pub mod node;
+pub mod owners;
 mod plan;
 pub mod price;
 mod report;

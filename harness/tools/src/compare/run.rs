@@ -15,7 +15,8 @@ use model::laws::{ends_alike, try_counts, try_reduction};
 use model::{check, End};
 use std::collections::BTreeSet;
 
-/// Compares on every small recipe, every test of if0, on the edges and on random files. A difference comes back shrunk and shown.
+/// Compares on every small recipe, every test of if0, every place of an owner, on the edges and on random files. A difference comes
+/// back shrunk and shown.
 pub fn compare_run(engine: Run, plan: Plan) -> Result<Counts, String> {
     let mut counts = Counts::default();
     if plan.start == 0 {
@@ -39,6 +40,7 @@ fn random_file(engine: Run, seed: u64, index: u64, counts: &mut Counts) -> Resul
     let (case, larger) = plans(&mut random, file);
     let ran = compare_twice(engine, &case, &larger, counts)?;
     counts.tested(tested(&case.file, &ran));
+    counts.owners.ran(&case.file, &ran);
     if index.is_multiple_of(LAWS_EVERY) {
         laws(&case.file, &ran, counts)?;
     }
@@ -78,7 +80,7 @@ fn fixed(engine: Run, counts: &mut Counts) -> Result<(), String> {
         }
     });
     outcome?;
-    for file in every_test() {
+    for file in every_test().into_iter().chain(every_sealed()).chain(every_owner()).chain(every_two_owners()) {
         small(engine, file, counts)?;
     }
     for file in edges() {
@@ -122,6 +124,7 @@ fn compare(engine: Run, case: &Case, counts: &mut Counts) -> Result<model::Run, 
         Ok(ended) => counts.ended(ended),
         Err(refusal) => counts.refused(refusal),
     }
+    counts.owners.file(&case.file, model.result.as_ref().err());
     counts.rules(&model.rules);
     match seen_of(&model) == by_engine(engine, case) {
         true => Ok(model),

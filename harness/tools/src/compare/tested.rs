@@ -55,6 +55,6 @@ fn kinds(if0: &Tree, from_ml: Option<&Type>) -> Option<[bool; TESTS.len()]> {
         matches!(**test, Scheme::Cons(..)),
         matches!(from_ml, Some(Type::Function(..))),
         matches!(from_ml, Some(Type::List(_))),
-        matches!(from_ml, Some(Type::Lump)),
+        matches!(from_ml, Some(Type::Lump(_))),
     ])
 }

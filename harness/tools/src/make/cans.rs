@@ -1,6 +1,7 @@
 //! Recipes of type {N}: a can's pulses for pumps 1, 2 and so on, made in many ways.
 
 use super::forms::Maker;
+use super::owners::any_owner;
 use super::text::file_of_text;
 use crate::random::Random;
 use model::build::{list, n, recipe_file};
@@ -81,7 +82,8 @@ fn ml_item(random: &mut Random, number: u32) -> String {
         0..50 => number.to_string(),
         50..60 => sum_to(random, number),
         60..66 => difference_to(random, number),
-        66..72 => format!("(app (fn N v0) {number})"),
+        66..69 => format!("(app (fn N v0) {number})"),
+        69..72 => resealed(random, number),
         72..78 => format!("(app (ms (N to N) (fn v0)) {number})"),
         78..88 => format!("(ms N {})", scheme_item(random, number)),
         88..92 => format!("(hd (cons {number} (nil N)))"),
@@ -90,6 +92,12 @@ fn ml_item(random: &mut Random, number: u32) -> String {
         98 => "(wrong 300 N)".into(),
         _ => "(fix (fn N v0))".into(),
     }
+}
+
+/// A number that was sealed for one owner, opened, and sealed for another before it is opened for good.
+fn resealed(random: &mut Random, number: u32) -> String {
+    let [one, other] = [any_owner(random), any_owner(random)];
+    format!("(ms N (sm L{other} (app (fn L{other} v0) (ms L{other} (sm L{one} (ms L{one} {number}))))))")
 }
 
 /// The same in Scheme.

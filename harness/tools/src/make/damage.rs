@@ -1,10 +1,11 @@
 //! Damage to a file: bits, words, length, header. Some of it leaves the header in order, so that later refusals are met.
 
+use super::owners::change_owner;
 use crate::random::Random;
 use model::file::{bytes_of, file, regions, words_of, MOST_BYTES};
 use model::kinds::{Kind, KINDS};
 
-const OPERANDS: [u32; 10] = [0, 0, 0, 1, 2, 3, 4, 65_535, 65_536, 16_777_215];
+const OPERANDS: [u32; 12] = [0, 0, 0, 1, 2, 3, 4, 255, 256, 65_535, 65_536, 16_777_215];
 const EXTREMES: [u32; 16] =
     [0, 1, 2, 3, 4, 5, 6, 7, 255, 4_091, 4_096, 0x7fff_ffff, 0x8000_0000, u32::MAX - 4, u32::MAX - 3, u32::MAX];
 
@@ -15,12 +16,13 @@ pub fn telling_word(random: &mut Random) -> u32 {
 }
 
 pub fn damage(random: &mut Random, bytes: Vec<u8>) -> Vec<u8> {
-    match random.below(10) {
+    match random.below(12) {
         0 => bits(random, bytes),
         1 => length(random, bytes),
         2 => header(random, bytes),
         3 => one_word(random, bytes),
-        _ => inside(random, bytes),
+        4 | 5 => inside(random, bytes, other_owner),
+        _ => inside(random, bytes, change),
     }
 }
 
@@ -60,13 +62,20 @@ fn one_word(random: &mut Random, mut bytes: Vec<u8>) -> Vec<u8> {
 }
 
 /// Changes the words of the type or of the term and keeps the header in order.
-fn inside(random: &mut Random, bytes: Vec<u8>) -> Vec<u8> {
+fn inside(random: &mut Random, bytes: Vec<u8>, change: fn(&mut Random, &mut Vec<u32>)) -> Vec<u8> {
     let Ok(words) = words_of(&bytes) else { return bytes };
     let Ok(regions) = regions(&words) else { return bytes_of(&words) };
     let (mut declared, mut term) = (regions.declared.to_vec(), regions.term.to_vec());
     let region = if random.chance(20) { &mut declared } else { &mut term };
     change(random, region);
     file(&declared, &term)
+}
+
+/// Gives a lump another owner, or where there is none, changes any word.
+fn other_owner(random: &mut Random, words: &mut Vec<u32>) {
+    if !change_owner(random, words) {
+        change(random, words);
+    }
 }
 
 fn change(random: &mut Random, words: &mut Vec<u32>) {

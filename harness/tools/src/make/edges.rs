@@ -1,5 +1,6 @@
 //! Files at the edges of what document 01 allows: sizes, headers, nesting, large types, deep and large runs.
 
+use super::owners::{every_owner, every_two_owners, lump};
 use crate::random::Random;
 use model::file::{bytes_of, file};
 use model::kinds::{Sort, KINDS};
@@ -19,6 +20,11 @@ pub fn balanced(join: u32, leaf: u32, leaves: usize) -> Vec<u32> {
 
 /// All of the edges that are the same in every comparison.
 pub fn edges() -> Vec<Vec<u8>> {
+    [edges_of_owner_0(), every_owner(), every_two_owners(), [0, 255].map(lump).map(compared_again).to_vec()].concat()
+}
+
+/// Those in which every lump has owner 0, as in all files before U6.
+pub fn edges_of_owner_0() -> Vec<Vec<u8>> {
     [sizes(), headers(), nestings(), last_levels(), large_types(), found_types()].concat()
 }
 
@@ -142,13 +148,14 @@ fn large_types() -> Vec<Vec<u8>> {
         files.push(file(&wide(leaves), &[&[20, 18][..], &wide(leaves), &[16]].concat()));
         files.push(file(&wide(leaves), &[&[20, 18][..], &wide(leaves), &[17]].concat()));
     }
-    files.push(compared_again());
+    files.push(compared_again(1));
     files
 }
 
-/// null? (fn t (cons v0 (cons v0 ... (nil t)))) applied to a wrong, in 4,093 words: a type of 1,209 words is compared at each of 228 conses.
-pub fn compared_again() -> Vec<u8> {
-    let wide = balanced(4, 1, 605);
+/// null? (fn t (cons v0 (cons v0 ... (nil t)))) applied to a wrong, in 4,093 words: a type of 605 leaves and 1,209 words is compared
+/// at each of 228 conses.
+pub fn compared_again(leaf: u32) -> Vec<u8> {
+    let wide = balanced(4, leaf, 605);
     let body = [&chain(&[25, 16], 228, &[24])[..], &wide].concat();
     file(&[1], &[&[19, 18][..], &wide, &[28], &body, &[29 + 256], &wide].concat())
 }

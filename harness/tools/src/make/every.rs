@@ -1,10 +1,13 @@
 //! Every term and every type of up to 3 words over all kinds and telling operands.
 
 use model::file::file;
-use model::kinds::{due, Sort};
+use model::kinds::{due, Sort, LUMP};
 
 /// 0 to 4, and the ends of the ranges of codes and numbers.
 const OPERANDS: [u32; 8] = [0, 1, 2, 3, 4, 65_535, 65_536, 16_777_215];
+
+/// The first owners of a lump, the last, and over it.
+const OWNERS: [u32; 6] = [0, 1, 255, 256, 65_536, 16_777_215];
 
 const MOST_WORDS: usize = 3;
 
@@ -14,7 +17,8 @@ fn kinds() -> impl Iterator<Item = u32> {
 }
 
 fn telling_words() -> Vec<u32> {
-    kinds().flat_map(|kind| OPERANDS.map(|operand| kind + 256 * operand)).collect()
+    let operands = |kind: u32| if kind == LUMP { &OWNERS[..] } else { &OPERANDS };
+    kinds().flat_map(|kind| operands(kind).iter().map(move |operand| kind + 256 * operand)).collect()
 }
 
 /// Calls with each sequence of up to 3 words, of which all but the last are in order, and whether the whole is a node.

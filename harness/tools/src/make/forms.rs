@@ -1,5 +1,6 @@
 //! The maker of random terms: what it knows on its way down, and how it chooses the next form.
 
+use super::owners::has_lump;
 use super::types::any_type;
 use crate::random::Random;
 use model::Type;
@@ -34,6 +35,8 @@ pub enum Form {
     Boundary,
     /// There and back again, up to three times.
     Wrapped,
+    /// There at one type and back at another that differs in owners: a value opened and sealed for another owner.
+    Resealed,
     /// In Scheme: a term that does not fit what is expected.
     Misfit,
 }
@@ -57,7 +60,7 @@ const LARGE_TYPE: usize = 10;
 
 fn levels(t: &Type) -> usize {
     match t {
-        Type::Number | Type::Lump => 1,
+        Type::Number | Type::Lump(_) => 1,
         Type::List(t) => 1 + levels(t),
         Type::Function(t, u) => 1 + levels(t).max(levels(u)),
     }
@@ -116,6 +119,7 @@ impl<'a> Maker<'a> {
     fn any_form(&mut self, t: &Type) -> Form {
         let number = usize::from(*t == Type::Number);
         let is_list = usize::from(matches!(t, Type::List(_)));
+        let lump = usize::from(has_lump(t));
         // Forms with a part of a larger type.
         let growing = usize::from(levels(t) < LARGE_TYPE);
         self.random.weighted(&[
@@ -133,6 +137,7 @@ impl<'a> Maker<'a> {
             (1, Form::Wrong),
             (12, Form::Boundary),
             (4, Form::Wrapped),
+            (8 * lump, Form::Resealed),
             (4, Form::Misfit),
         ])
     }

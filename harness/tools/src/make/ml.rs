@@ -1,8 +1,9 @@
 //! Random ML terms of a given type.
 
 use super::forms::{Form, Lambda, Maker};
+use super::owners::reowned;
 use super::types::open_type;
-use model::build::{l, list, ml, n, sc, to};
+use model::build::{list, ml, n, sc, to};
 use model::{Ml, Scheme, Type};
 use std::rc::Rc;
 
@@ -41,6 +42,10 @@ impl Maker<'_> {
             Form::Wrong => ml(Ml::Wrong(self.code(), t.clone())),
             Form::Boundary => ml(Ml::Ms(t.clone(), self.scheme(t))),
             Form::Wrapped => self.ml_wrapped(t),
+            Form::Resealed => {
+                let other = reowned(self.random, t);
+                ml(Ml::Ms(t.clone(), sc(Scheme::Sm(other.clone(), self.deeper(1, |maker| maker.ml(&other))))))
+            }
         }
     }
 
@@ -54,9 +59,9 @@ impl Maker<'_> {
     fn ml_value(&mut self, t: &Rc<Type>) -> Rc<Ml> {
         match &**t {
             Type::Number => ml(Ml::Number(self.number())),
-            Type::Lump => {
+            Type::Lump(_) => {
                 let inside = open_type(self.random);
-                ml(Ml::Ms(l(), self.scheme(&inside)))
+                ml(Ml::Ms(t.clone(), self.scheme(&inside)))
             }
             Type::List(element) if self.random.chance(35) => ml(Ml::Nil(element.clone())),
             Type::List(element) => ml(Ml::Cons(self.ml(element), self.ml(t))),
@@ -105,7 +110,7 @@ impl Maker<'_> {
         match (variable, &**t) {
             (Some(operand), _) if self.random.chance(70) => ml(Ml::Variable(operand)),
             (_, Type::Number) => ml(Ml::Number(self.number())),
-            (_, Type::Lump) => ml(Ml::Ms(l(), self.least_scheme(&n()))),
+            (_, Type::Lump(_)) => ml(Ml::Ms(t.clone(), self.least_scheme(&n()))),
             (_, Type::List(element)) => ml(Ml::Nil(element.clone())),
             (_, Type::Function(from, into)) => {
                 let body = self.under(Lambda::Ml(from.clone()), |maker| maker.least_ml(into));

@@ -1,10 +1,11 @@
 //! Words to ask the reader of nodes about: nodes of every sort one after another, what runs leave, damaged words, and any words.
 
 use super::damage::{damage, telling_word};
+use super::owners::any_owner;
 use super::plan::{mistaken_file, well_typed_file};
 use crate::random::Random;
 use model::file::{regions, words_of};
-use model::kinds::KINDS;
+use model::kinds::{KINDS, LUMP};
 
 /// Any of these words.
 pub fn any_node_words(random: &mut Random) -> Vec<u32> {
@@ -21,7 +22,8 @@ pub fn any_node_words(random: &mut Random) -> Vec<u32> {
 /// A word of a tree kind with an operand that is due.
 fn due_word(random: &mut Random) -> u32 {
     let row = &KINDS[random.below(KINDS.len())];
-    row.number + 256 * random.pick(&[row.least, row.most])
+    let any = if row.number == LUMP { any_owner(random) } else { row.least };
+    row.number + 256 * random.pick(&[row.least, row.most, any])
 }
 
 /// The declared types and terms of some recipes, one after another; now and then with their headers.

@@ -1,6 +1,7 @@
 //! Random Scheme terms. They have no types; the type is what is expected of the value, so that conversions mostly work.
 
 use super::forms::{Form, Lambda, Maker};
+use super::owners::reowned;
 use super::types::open_type;
 use model::build::{list, ml, n, sc, to};
 use model::{Ml, Scheme, Test, Type};
@@ -33,6 +34,10 @@ impl Maker<'_> {
             Form::Wrong => sc(Scheme::Wrong(self.code())),
             Form::Boundary => sc(Scheme::Sm(t.clone(), self.ml(t))),
             Form::Wrapped => self.scheme_wrapped(t),
+            Form::Resealed => {
+                let other = reowned(self.random, t);
+                sc(Scheme::Sm(other.clone(), self.ml(&other)))
+            }
             Form::Misfit => self.misfit(),
         }
     }
@@ -50,7 +55,7 @@ impl Maker<'_> {
     fn scheme_value(&mut self, t: &Rc<Type>) -> Rc<Scheme> {
         match &**t {
             Type::Number => sc(Scheme::Number(self.number())),
-            Type::Lump => {
+            Type::Lump(_) => {
                 let inside = open_type(self.random);
                 self.scheme(&inside)
             }
@@ -134,7 +139,7 @@ impl Maker<'_> {
         let variable = self.variable(|lambda| matches!(lambda, Lambda::Scheme(u) if u == t));
         match (variable, &**t) {
             (Some(operand), _) if self.random.chance(70) => sc(Scheme::Variable(operand)),
-            (_, Type::Number | Type::Lump) => sc(Scheme::Number(self.number())),
+            (_, Type::Number | Type::Lump(_)) => sc(Scheme::Number(self.number())),
             (_, Type::List(_)) => sc(Scheme::Nil),
             (_, Type::Function(from, into)) => {
                 let body = self.under(Lambda::Scheme(from.clone()), |maker| maker.least_scheme(into));

@@ -1,19 +1,21 @@
-//! What a comparison of readers of nodes has reached: kinds, words that are no node, faults inside nodes, places past the end,
-//! sizes and nesting.
+//! What a comparison of readers of nodes has reached: kinds, owners, words that are no node, faults inside nodes, places past the
+//! end, sizes and nesting.
 
 use crate::compare::counts::add;
-use model::kinds::{Kind, KINDS};
+use model::kinds::{Kind, KINDS, LUMP};
 use model::nodes::{is_one_word, Not, Whole, Why};
 use model::read::DEEPEST;
 use model::run::MOST_WORDS;
 use model::text::kind_name;
+use model::tree::MOST_OWNER;
 
 /// All that is counted of asks.
 pub struct NodeCounts {
     pub asks: u64,
     /// Whole nodes by the kind of their first word.
     whole: [u64; 256],
-    /// By `SIZES`, `NONE`, `INSIDE` and `PAST`.
+    /// By `OWNERS`, `SIZES`, `NONE`, `INSIDE` and `PAST`.
+    owners: [u64; OWNERS.len()],
     sizes: [u64; SIZES.len()],
     none: [u64; NONE.len()],
     inside: [u64; INSIDE.len()],
@@ -40,7 +42,7 @@ const NONE: [&str; 11] = [
     "kind 46 to 63",
     "kind 64 to 255",
     "N with an operand",
-    "L with an operand",
+    "L with an owner over 255",
     "Scheme nil with an operand",
     "Scheme wrong with code 0",
     "Scheme wrong with a code over 65,535",
@@ -48,8 +50,16 @@ const NONE: [&str; 11] = [
 ];
 
 /// Why a node that starts is not whole.
-const INSIDE: [&str; 4] =
-    ["a part that is no kind", "a part of another sort", "a part with an operand past its range", "parts that run out"];
+const INSIDE: [&str; 5] = [
+    "a part that is no kind",
+    "a part of another sort",
+    "a part with an operand past its range",
+    "parts that run out",
+    "a part that is an L with an owner over 255",
+];
+
+/// Owners of an L that is a whole node.
+const OWNERS: [&str; 3] = ["owner 0", "an owner from 1 to 254", "owner 255"];
 
 /// Places past the end of words that are some.
 const PAST: [&str; 7] = [
@@ -65,8 +75,8 @@ const PAST: [&str; 7] = [
 impl Default for NodeCounts {
     fn default() -> NodeCounts {
         let (sizes, none) = ([0; SIZES.len()], [0; NONE.len()]);
-        let (inside, past) = ([0; INSIDE.len()], [0; PAST.len()]);
-        NodeCounts { asks: 0, whole: [0; 256], sizes, none, inside, past, nested: 0, empty: 0 }
+        let (inside, past, owners) = ([0; INSIDE.len()], [0; PAST.len()], [0; OWNERS.len()]);
+        NodeCounts { asks: 0, whole: [0; 256], owners, sizes, none, inside, past, nested: 0, empty: 0 }
     }
 }
 
@@ -78,9 +88,11 @@ impl NodeCounts {
         match (answer, words.get(at)) {
             (Ok(whole), Some(word)) => self.answered(*word, whole),
             (Err(Not { place, .. }), Some(word)) if *place == at => self.started_none(*word),
-            (Err(Not { why, .. }), Some(_)) => {
-                let kinds = [Why::NoKind, Why::OtherSort, Why::Operand, Why::PastTheEnd];
-                add(&mut self.inside, kinds.map(|kind| kind == *why));
+            (Err(Not { why, place }), Some(_)) => {
+                let lump = *why == Why::Operand && words[*place] % 256 == LUMP;
+                let [no_kind, sort, operand, past] =
+                    [Why::NoKind, Why::OtherSort, Why::Operand, Why::PastTheEnd].map(|kind| kind == *why);
+                add(&mut self.inside, [no_kind, sort, operand, past, lump]);
             }
             (_, None) => self.asked_past(words, at),
         }
@@ -91,6 +103,9 @@ impl NodeCounts {
         let words = whole.words;
         self.whole[word as usize % 256] += 1;
         self.nested += u64::from(whole.levels > DEEPEST);
+        let owner = (word % 256 == LUMP).then_some(word / 256);
+        let kinds = [0..=0, 1..=MOST_OWNER - 1, MOST_OWNER..=MOST_OWNER];
+        add(&mut self.owners, kinds.map(|kind| owner.is_some_and(|owner| kind.contains(&owner))));
         add(&mut self.sizes, [words == 1, words == 2, words == 3, words > 100, words > 1_000, words == MOST_WORDS]);
     }
 
@@ -132,7 +147,8 @@ impl NodeCounts {
         };
         let whole = KINDS.iter().map(|row| (kind_row(row), self.whole[row.number as usize]));
         let nested = (format!("node nested deeper than {DEEPEST}"), self.nested);
-        let rows = whole.chain(named("node ", &SIZES, &self.sizes)).chain([nested]);
+        let rows = whole.chain(named("type L with ", &OWNERS, &self.owners));
+        let rows = rows.chain(named("node ", &SIZES, &self.sizes)).chain([nested]);
         let rows = rows.chain(named("none: ", &NONE, &self.none)).chain(named("none: ", &INSIDE, &self.inside));
         rows.chain(named("place ", &PAST, &self.past)).chain([("the empty words".to_string(), self.empty)]).collect()
     }

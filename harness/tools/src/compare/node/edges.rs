@@ -3,6 +3,7 @@
 
 use crate::make::edges::balanced;
 use crate::make::file_of_text;
+use crate::make::owners::lump;
 use model::file::words_of;
 use model::kinds::{kind, Sort, KINDS};
 use model::run::MOST_WORDS;
@@ -13,14 +14,28 @@ const OPERANDS: [u32; 10] = [0, 1, 2, 3, 4, 255, 256, 65_535, 65_536, 16_777_215
 /// A word of no kind.
 const NO_KIND: u32 = 99;
 
+/// L of some owner, of the last, and of the one after it.
+const SOME: u32 = lump(7);
+const LAST: u32 = lump(255);
+const OVER: u32 = lump(256);
+
 const SORTS: [Sort; 3] = [Sort::Type, Sort::Ml, Sort::Scheme];
 
-/// A node of a sort, one of several words, and words of that sort with an operand past its range.
-fn node_of(sort: Sort) -> [&'static [u32]; 3] {
+/// A node of a sort, and one of several words.
+fn node_of(sort: Sort) -> [&'static [u32]; 2] {
     match sort {
-        Sort::Type => [&[1], &[4, 3, 2, 1], &[257]],
-        Sort::Ml => [&[17], &[21, 24, 1, 16], &[29, 1]],
-        Sort::Scheme => [&[33], &[40, 299, 39, 300], &[44]],
+        Sort::Type => [&[1], &[4, 3, LAST, 2]],
+        Sort::Ml => [&[17], &[21, 24, SOME, 16]],
+        Sort::Scheme => [&[33], &[40, 299, 39, 300]],
+    }
+}
+
+/// Words of a sort with an operand past its range: N with 1, L with the owner after the last, wrongs with 0.
+fn past(sort: Sort) -> &'static [&'static [u32]] {
+    match sort {
+        Sort::Type => &[&[257], &[OVER]],
+        Sort::Ml => &[&[29, 1]],
+        Sort::Scheme => &[&[44]],
     }
 }
 
@@ -53,15 +68,15 @@ fn behinds(number: u32) -> Vec<Vec<u32>> {
 fn spoilt(whole: &[&'static [u32]], sort: Sort, part: usize) -> Vec<Vec<u32>> {
     let others =
         SORTS.into_iter().filter(|other| *other != sort).flat_map(|other| [node_of(other)[0], node_of(other)[1]]);
-    let others = others.chain([node_of(sort)[2], &[NO_KIND]]);
+    let others = others.chain(past(sort).iter().copied()).chain([&[NO_KIND][..]]);
     others.map(|other| [&whole[..part], &[other], &whole[part + 1..]].concat().concat()).collect()
 }
 
 /// Words of every tree kind, with the least and the largest operand and with those past them; and words of no kind.
 fn alphabet() -> Vec<u32> {
-    let past = [(1, 1), (2, 1), (18, 1), (24, 1), (29, 0), (29, 65_536), (39, 1), (43, 4), (44, 0), (44, 65_536)];
+    let past = [(1, 1), (2, 256), (18, 1), (24, 1), (29, 0), (29, 65_536), (39, 1), (43, 4), (44, 0), (44, 65_536)];
     let no_kinds = [0, 5, 15, 31, 46, 63, 65, 81, 128, 255];
-    let due = KINDS.iter().flat_map(|row| [(row.number, row.least), (row.number, row.most)]);
+    let due = KINDS.iter().flat_map(|row| [(row.number, row.least), (row.number, row.most)]).chain([(2, 1)]);
     let mut found: Vec<u32> = due.chain(past).map(|(kind, operand)| kind + 256 * operand).chain(no_kinds).collect();
     found.dedup();
     found
@@ -84,18 +99,18 @@ pub fn flat() -> Vec<Vec<u32>> {
     let row = "(cons 1 ".repeat(32) + "nil" + &")".repeat(32);
     let rows = format!("(cons {row} ").repeat(60) + "nil" + &")".repeat(60);
     let curve = words_of(&file_of_text(&format!("{{{{N}}}} (ms {{{{N}}}} {rows})"))).expect("a file");
-    let leaves = [1, 2, 16, 17, 32, 33, 39, 44 + 256 * 300].map(|word| vec![word; 4_096]);
+    let leaves = [1, 2, SOME, LAST, 16, 17, 32, 33, 39, 44 + 256 * 300].map(|word| vec![word; 4_096]);
     leaves.into_iter().chain([balanced(21, 17, 2_048), curve]).collect()
 }
 
 /// Levels that are nested as deep as 16,384 words allow, and what is in the innermost.
 const LEVELS: [(&[u32], &[u32]); 14] = [
     (&[3], &[1]),
-    (&[4, 1], &[2]),
+    (&[4, 1], &[LAST]),
     (&[20], &[17]),
     (&[18, 1], &[16]),
     (&[30, 1, 45, 1], &[17]),
-    (&[45, 3, 1, 30, 2], &[39]),
+    (&[45, 3, 1, 30, SOME], &[39]),
     (&[34], &[32]),
     (&[28], &[29 + 256 * 9, 1]),
     (&[25, 17], &[24, 1]),
@@ -121,7 +136,8 @@ pub fn deep() -> Vec<Vec<u32>> {
 /// The words without the last one, and with another in its place.
 fn spoilt_at_the_end(words: &[u32]) -> Vec<Vec<u32>> {
     let shorter = &words[..words.len() - 1];
-    let other = SORTS.iter().flat_map(|sort| [node_of(*sort)[0], node_of(*sort)[2]]).chain([&[NO_KIND][..]]);
-    let others = other.map(|other| [shorter, other].concat());
+    let other =
+        SORTS.iter().flat_map(|sort| past(*sort).iter().chain([&node_of(*sort)[0]]).copied().collect::<Vec<_>>());
+    let others = other.chain([&[NO_KIND][..]]).map(|other| [shorter, other].concat());
     [shorter.to_vec()].into_iter().chain(others).collect()
 }

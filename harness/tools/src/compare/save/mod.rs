@@ -152,20 +152,24 @@ fn small_words(engine: SavingEngine, counts: &mut SaveCounts) -> Result<(), Stri
     outcome
 }
 
-/// Every small recipe that has a first step, saved before it, and after it where there is a second, in the least capacity.
+/// Every small recipe that has a first step, saved before it, and after it where there is a second, in the least capacity; and
+/// recipes with lumps of two owners, saved after each of their steps.
 fn small_recipes(engine: SavingEngine, counts: &mut SaveCounts) -> Result<(), String> {
     let mut outcome = Ok(());
     every_small_recipe(&mut |file| {
-        let (followed, accepted) = (follow(&file), model::check(&file).is_ok());
-        for limit in 0..if accepted { 2 } else { 0 } {
-            if outcome.is_ok() {
-                let capacity = followed.largest() - usize::from(limit == 1);
-                let lent = Case::new(file.clone(), limit, capacity, capacity + 1);
-                outcome = GoingOn::new(lent, 1 + limit).compare(engine, counts);
-            }
+        if outcome.is_ok() && model::check(&file).is_ok() {
+            outcome = (0..2).try_for_each(|limit| saved_after(engine, &file, limit, counts));
         }
     });
-    outcome
+    outcome?;
+    every_sealed().iter().try_for_each(|file| (0..8).try_for_each(|limit| saved_after(engine, file, limit, counts)))
+}
+
+/// A small recipe saved after so many steps, in the least capacity, or a word less after one.
+fn saved_after(engine: SavingEngine, file: &[u8], limit: u32, counts: &mut SaveCounts) -> Result<(), String> {
+    let capacity = follow(file).largest() - usize::from(limit == 1);
+    let lent = Case::new(file.to_vec(), limit, capacity, capacity + 1);
+    GoingOn::new(lent, 1 + limit).compare(engine, counts)
 }
 
 /// Runs that outgrow a file, saved after many numbers of steps; in large buffers and in small ones.

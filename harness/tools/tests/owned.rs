@@ -1,0 +1,402 @@
+//! Planted errors in what the engine makes of the owners of lumps: each is found, and shrunk to a few words. The makers of owners
+//! make what they promise.
+
+mod common;
+use common::pricing;
+use common::saving;
+use model::check::read_recipe;
+use model::file::{bytes_of, regions, words_of};
+use model::node::{Node, Tree};
+use model::owners::{differing, owners, Differing, Within};
+use model::read::{read_ml, DEEPEST};
+use model::rules::Rule;
+use model::step::{Step, Turn};
+use model::typing::type_of;
+use model::untyped::untyped;
+use model::{check, on_large_stack, Ml, Recipe, Type};
+use std::collections::BTreeSet;
+use std::rc::Rc;
+use tools::compare::owners::type_place;
+use tools::compare::{compare_check, compare_run, Plan};
+use tools::engine::{Check, Run};
+use tools::make::owners::{forgotten, lump, OVER};
+use tools::make::{every_owner, every_sealed, every_two_owners};
+use tools::stand_in;
+
+const PLAN: Plan = Plan { files: 3_000, seed: 1, start: 0 };
+
+/// The words with other owners for their lumps.
+fn owned(words: &[u32], owner: fn(u32) -> u32) -> Vec<u32> {
+    words.iter().map(|&word| if word % 256 == 2 { lump(owner(word / 256)) } else { word }).collect()
+}
+
+/// The file with other owners for its lumps; the header stays.
+fn changed(file: &[u8], owner: fn(u32) -> u32) -> Vec<u8> {
+    match words_of(file) {
+        Ok(words) => bytes_of(&[&words[..4], &owned(&words[4..], owner)].concat()),
+        Err(_) => file.to_vec(),
+    }
+}
+
+/// What the comparison of checks shows of a wrong check: few words, and what the answers of model and engine start with.
+fn finds(engine: Check, model: &str, planted: &str) -> String {
+    let text = on_large_stack(|| compare_check(engine, PLAN)).err().expect("a difference");
+    let words = text.lines().find_map(|line| line.strip_prefix("words:    ")).expect("its words");
+    assert!(words.split(' ').count() <= 14, "{text}");
+    let due = text.contains(&format!("\nmodel:    {model}")) && text.contains(&format!("\nengine:   {planted}"));
+    assert!(due, "{text}");
+    text
+}
+
+/// The two types that a refusal 6 or 7 is about, and the owners that differ where they alone do.
+fn unequal(file: &[u8]) -> Option<Vec<Differing>> {
+    let Recipe { declared, term } = read_recipe(file, DEEPEST).ok()?;
+    let [due, found] = match untyped(&term) {
+        Some(node) => node.unequal?,
+        None => [declared, type_of(&term)?],
+    };
+    differing(&due, &found)
+}
+
+/// The right check, which accepts what is refused for owners alone if those that differ are such.
+fn blind(file: &[u8], such: fn(&Differing) -> bool) -> u64 {
+    match stand_in::check(file) {
+        6 | 7 if unequal(file).is_some_and(|all| all.iter().all(such)) => 0,
+        answer => answer,
+    }
+}
+
+#[test]
+fn owners_that_are_not_compared() {
+    finds(|file| stand_in::check(&changed(file, |o| if o < 256 { 0 } else { o })), "refused ", "accepted");
+}
+
+#[test]
+fn owners_that_are_compared_at_the_root_alone() {
+    finds(|file| blind(file, |owner| owner.within != Within::Alone), "refused ", "accepted");
+    let list = finds(|file| blind(file, |owner| owner.within == Within::List), "refused ", "accepted");
+    assert!(list.contains('{'), "{list}");
+    let argument = finds(|file| blind(file, |owner| owner.within == Within::Argument), "refused ", "accepted");
+    let result = finds(|file| blind(file, |owner| owner.within == Within::Result), "refused ", "accepted");
+    assert!(argument.contains(" to ") && result.contains(" to "), "{argument}{result}");
+}
+
+#[test]
+fn owners_that_are_compared_in_part() {
+    // By all bits but the highest; by the lowest four; with owner 0 for any.
+    finds(|file| blind(file, |owner| owner.due % 128 == owner.found % 128), "refused ", "accepted");
+    finds(|file| blind(file, |owner| owner.due % 16 == owner.found % 16), "refused ", "accepted");
+    finds(|file| blind(file, |owner| owner.due == 0), "refused ", "accepted");
+    finds(|file| blind(file, |owner| owner.found == 0), "refused ", "accepted");
+}
+
+/// The right check, which takes types that differ in owners for equal at nodes of a kind; 0 is the declared type.
+fn blind_at(file: &[u8], kind: u32) -> u64 {
+    let at = || {
+        let Recipe { term, .. } = read_recipe(file, DEEPEST).ok()?;
+        Some(untyped(&term).map_or(0, |node| Node::Ml(&term).words()[node.before] % 256))
+    };
+    match at() == Some(kind) {
+        true => blind(file, |_| true),
+        false => stand_in::check(file),
+    }
+}
+
+#[test]
+fn owners_that_are_not_compared_at_one_rule() {
+    let at: [(Check, &str); 6] = [
+        (|file| blind_at(file, 0), "refused 7"),
+        (|file| blind_at(file, 19), "(app "),
+        (|file| blind_at(file, 20), "(fix "),
+        (|file| blind_at(file, 23), "(if0 "),
+        (|file| blind_at(file, 25), "(cons "),
+        (|file| blind_at(file, 45), "(sm "),
+    ];
+    for (engine, inside) in at {
+        let text = finds(engine, "refused ", "accepted");
+        assert!(text.contains(inside), "{text}");
+    }
+}
+
+#[test]
+fn owners_over_the_last_that_are_not_refused() {
+    // 256 alone; all, by their lowest eight bits; all, as the last; all from 65,536 on.
+    let engines: [Check; 4] = [
+        |file| stand_in::check(&changed(file, |o| if o == 256 { 0 } else { o })),
+        |file| stand_in::check(&changed(file, |o| o % 256)),
+        |file| stand_in::check(&changed(file, |o| o.min(255))),
+        |file| stand_in::check(&changed(file, |o| if o >= 65_536 { 0 } else { o })),
+    ];
+    for engine in engines {
+        let text = finds(engine, "refused 3 at place ", "");
+        assert!(text.contains("type L with owner ") && text.contains(", outside 0 to 255)"), "{text}");
+    }
+}
+
+#[test]
+fn owners_up_to_the_last_that_are_refused() {
+    // From 255 on; from 1 on, as before U6.
+    let text =
+        finds(|file| stand_in::check(&changed(file, |o| if o > 254 { 256 } else { o })), "", "refused 3 at place ");
+    assert!(text.contains(" 65282"), "{text}");
+    let text =
+        finds(|file| stand_in::check(&changed(file, |o| if o > 0 { 256 } else { o })), "", "refused 3 at place ");
+    assert!(text.contains(" 258"), "{text}");
+}
+
+/// The right check of a file in which owners over the last are 255 where the test says so.
+fn blind_over(file: &[u8], here: fn(u32, Within) -> bool) -> u64 {
+    let mut file = file.to_vec();
+    loop {
+        let answer = stand_in::check(&file);
+        let (Ok(mut words), place) = (words_of(&file), (answer / 256) as usize) else { return answer };
+        let stands = regions(&words).ok().and_then(|regions| type_place(regions.declared, regions.term, place));
+        let is_over = answer % 256 == 3 && words.get(place).is_some_and(|word| word % 256 == 2);
+        if !is_over || !stands.is_some_and(|(standing, within)| here(standing, within)) {
+            return answer;
+        }
+        words[place] = lump(255);
+        file = bytes_of(&words);
+    }
+}
+
+#[test]
+fn owners_over_the_last_that_are_not_refused_at_one_place() {
+    let places: [Check; 9] = [
+        |file| blind_over(file, |standing, _| standing == 0),
+        |file| blind_over(file, |standing, _| standing == 18),
+        |file| blind_over(file, |standing, _| standing == 24),
+        |file| blind_over(file, |standing, _| standing == 29),
+        |file| blind_over(file, |standing, _| standing == 30),
+        |file| blind_over(file, |standing, _| standing == 45),
+        |file| blind_over(file, |_, within| within == Within::List),
+        |file| blind_over(file, |_, within| within == Within::Argument),
+        |file| blind_over(file, |_, within| within == Within::Result),
+    ];
+    for engine in places {
+        let text = finds(engine, "refused 3 at place ", "");
+        assert!(text.contains("type L with owner 256, outside 0 to 255)"), "{text}");
+    }
+}
+
+#[test]
+fn an_owner_over_the_last_told_at_another_place() {
+    let engine: Check = |file| match (stand_in::check(file), stand_in::check(&changed(file, |o| o.min(255)))) {
+        (answer, other) if answer % 256 == 3 && other != answer => answer - 256,
+        (answer, _) => answer,
+    };
+    finds(engine, "refused 3 at place ", "refused 3 at place ");
+}
+
+#[test]
+fn nesting_that_goes_before_an_owner_over_the_last() {
+    let engine: Check = |file| match (stand_in::check(file), stand_in::check(&changed(file, |o| o.min(255)))) {
+        (answer, nested) if answer % 256 == 3 && nested == answer + 1 => nested,
+        (answer, _) => answer,
+    };
+    let text = on_large_stack(|| compare_check(engine, PLAN)).err().expect("a difference");
+    let place = |side: &str, number: u32| {
+        let told =
+            text.split_once(&format!("\n{side}   refused {number} at place ")).unwrap_or_else(|| panic!("{text}"));
+        told.1.lines().next().map(str::to_string)
+    };
+    assert_eq!(place("model: ", 3), place("engine:", 4));
+}
+
+/// What the comparison of runs shows of a wrong run: a small term with this in it.
+fn run_finds(engine: Run, inside: &str) -> String {
+    let text = on_large_stack(|| compare_run(engine, PLAN)).err().expect("a difference");
+    let term = text.lines().find_map(|line| line.strip_prefix("term:     ")).unwrap_or("");
+    assert!(term.len() < 45 && term.contains(inside), "{text}");
+    text
+}
+
+/// Today's step; of a step by this rule, what the node becomes has lost its owners.
+fn losing(turn: &Turn, lost: Rule) -> Step {
+    match turn.step() {
+        Step::Next(rule, next) if rule == lost => {
+            let (words, place) = (Node::Ml(&next).words(), turn.place());
+            let end = place + model::nodes::size_at(&words, place);
+            let words = [&words[..place], &forgotten(&words[place..end]), &words[end..]].concat();
+            Step::Next(rule, read_ml(&words, 0, usize::MAX).expect("a term"))
+        }
+        step => step,
+    }
+}
+
+#[test]
+fn owners_lost_where_a_function_is_wrapped() {
+    run_finds(|f, l, a, b| stand_in::run_by(|turn| losing(turn, Rule::MsFunction), f, l, a, b), "(ms (");
+    run_finds(|f, l, a, b| stand_in::run_by(|turn| losing(turn, Rule::SmFunction), f, l, a, b), "(sm (");
+}
+
+#[test]
+fn owners_lost_where_a_list_crosses() {
+    run_finds(|f, l, a, b| stand_in::run_by(|turn| losing(turn, Rule::MsListNil), f, l, a, b), "(ms {L1} nil)");
+    run_finds(|f, l, a, b| stand_in::run_by(|turn| losing(turn, Rule::MsListCons), f, l, a, b), "(ms {L");
+    run_finds(|f, l, a, b| stand_in::run_by(|turn| losing(turn, Rule::SmListCons), f, l, a, b), "(sm {L");
+}
+
+#[test]
+fn owners_lost_where_a_wrong_is_made() {
+    run_finds(|f, l, a, b| stand_in::run_by(|turn| losing(turn, Rule::MlHdNil), f, l, a, b), "(hd (nil ");
+    run_finds(|f, l, a, b| stand_in::run_by(|turn| losing(turn, Rule::MlTlNil), f, l, a, b), "(tl (nil ");
+    run_finds(|f, l, a, b| stand_in::run_by(|turn| losing(turn, Rule::MsListOther), f, l, a, b), "(ms {L");
+    run_finds(|f, l, a, b| stand_in::run_by(|turn| losing(turn, Rule::MsFunctionOther), f, l, a, b), "(ms (");
+}
+
+/// The step on a lump that is opened to be sealed for another owner: it keeps its old one.
+fn kept(turn: &Turn) -> Step {
+    let (Tree::Scheme(node), Some(frame)) = (&turn.node, turn.context.last()) else { return turn.step() };
+    let (model::Scheme::Sm(old, lump), Tree::Ml(around)) = (&**node, &frame.node) else { return turn.step() };
+    match (turn.step(), &**around, &**lump) {
+        (Step::Next(rule @ Rule::SmLump, _), Ml::Ms(new, _), Ml::Ms(_, value)) if is_lump(new) => {
+            let mut outer = Turn { context: Vec::new(), node: frame.node.clone() };
+            outer.context.extend(turn.context[..turn.context.len() - 1].iter().map(copied));
+            Step::Next(rule, outer.with(Tree::Ml(Rc::new(Ml::Ms(old.clone(), value.clone())))))
+        }
+        (step, ..) => step,
+    }
+}
+
+/// The same frame once more.
+fn copied(frame: &model::step::Frame) -> model::step::Frame {
+    model::step::Frame { node: frame.node.clone(), part: frame.part }
+}
+
+/// Whether a type is a lump's.
+fn is_lump(t: &Type) -> bool {
+    matches!(t, Type::Lump(_))
+}
+
+#[test]
+fn a_value_that_keeps_its_old_owner() {
+    let text = run_finds(|f, l, a, b| stand_in::run_by(kept, f, l, a, b), "(sm L");
+    assert!(text.contains("(ms L"), "{text}");
+}
+
+#[test]
+fn owners_that_are_shown_in_part() {
+    let engine: Run = |file, limit, first, second| {
+        let result = stand_in::run(file, limit, first, second);
+        let shown = owned(&first[..result.left as usize], |owner| owner % 128);
+        first[..shown.len()].copy_from_slice(&shown);
+        result
+    };
+    let text = run_finds(engine, "L");
+    assert!(text.contains("L128") || text.contains("L255") || text.contains("L254"), "{text}");
+}
+
+#[test]
+fn only_lumps_of_owner_0_are_values() {
+    let engine: Run = |file, limit, first, second| {
+        let mut result = stand_in::run(file, limit, first, second);
+        let lump = first.get(..2).is_some_and(|words| words[0] == 30 && words[1] % 256 == 2 && words[1] != 2);
+        result.end += u32::from(lump && (result.refusal, result.end) == (0, 0));
+        result
+    };
+    let text = run_finds(engine, "(ms L1 ");
+    assert!(text.contains("\nmodel:\n  value (end 0)") && text.contains("\nengine:\n  spent (end 1)"), "{text}");
+}
+
+#[test]
+fn runs_of_files_that_are_to_be_refused() {
+    run_finds(|f, l, a, b| stand_in::run(&changed(f, |o| if o < 256 { 0 } else { o }), l, a, b), "L");
+    let over: Run = |f, l, a, b| stand_in::run(&changed(f, |o| o.min(255)), l, a, b);
+    let text = on_large_stack(|| compare_run(over, PLAN)).err().expect("a difference");
+    assert!(text.contains("type L with owner ") && text.contains("\nmodel:\n  refused 3 at place "), "{text}");
+}
+
+#[test]
+fn pricings_of_files_that_are_to_be_refused() {
+    let over: tools::engine::Price = |prices, f, l, a, b| stand_in::price(prices, &changed(f, |o| o.min(255)), l, a, b);
+    pricing::answers(over, "refused 3 at place ", "");
+    let other: tools::engine::Price =
+        |prices, f, l, a, b| stand_in::price(prices, &changed(f, |o| if o < 256 { 0 } else { o }), l, a, b);
+    pricing::answers(other, "refused ", "");
+}
+
+#[test]
+fn saves_that_lose_an_owner_or_take_any() {
+    let lost = saving::save_shown(|declared, term, out| {
+        saving::changed(declared, term, out, |file| file.copy_from_slice(&changed(file, |o| o % 128)))
+    });
+    assert!(lost.contains("model:\n  saved, ") && lost.contains("engine:\n  saved, "), "{lost}");
+    let over = |declared: &[u32], term: &[u32], out: &mut [u8]| {
+        stand_in::save(&owned(declared, |o| o.min(255)), &owned(term, |o| o.min(255)), out)
+    };
+    saving::answers(over, "refused 3 at place ", "");
+    // Owners are written as they are, but not compared.
+    let alike = |declared: &[u32], term: &[u32], out: &mut [u8]| {
+        let right = stand_in::save(declared, term, out);
+        if !matches!(right.refusal, 6 | 7) {
+            return right;
+        }
+        let saved = stand_in::save(&forgotten(declared), &forgotten(term), out);
+        let file = model::file::file(declared, term);
+        if saved.refusal == 0 {
+            out[..file.len()].copy_from_slice(&file);
+        }
+        saved
+    };
+    saving::answers(alike, "refused 7 at place 0", "");
+}
+
+/// The number of the refusal of a file; 0 if it is accepted.
+fn answer(file: &[u8]) -> u32 {
+    check(file).err().map_or(0, |refusal| refusal.number)
+}
+
+/// The owners of a file.
+fn owners_in(file: &[u8]) -> Vec<u32> {
+    owners(&words_of(file).expect("a file")[4..]).collect()
+}
+
+#[test]
+fn every_owner_stands_at_every_place() {
+    on_large_stack(|| {
+        let mut places = BTreeSet::new();
+        for file in every_owner() {
+            let over = owners_in(&file).into_iter().find(|owner| *owner > 255);
+            let (words, refusal) = (words_of(&file).expect("a file"), check(&file).err());
+            match (over, refusal) {
+                (None, None) => {}
+                (_, Some(refusal)) if refusal.number == 4 => {}
+                (Some(owner), Some(refusal)) => {
+                    assert_eq!((refusal.number, words[refusal.place as usize]), (3, lump(owner)));
+                    let regions = regions(&words).expect("a header in order");
+                    let (standing, within) =
+                        type_place(regions.declared, regions.term, refusal.place as usize).expect("a type's place");
+                    places.insert((owner, standing, within as u32));
+                    // With the last owner in its place it is accepted.
+                    assert!(matches!(answer(&changed(&file, |owner| owner.min(255))), 0 | 4));
+                }
+                other => panic!("{other:?}"),
+            }
+        }
+        assert_eq!(places.len(), OVER.len() * 6 * 4);
+    });
+}
+
+#[test]
+fn two_owners_are_refused_exactly_if_they_differ() {
+    on_large_stack(|| {
+        let mut refused = [0; 2];
+        for file in every_two_owners() {
+            let alike = unequal(&file).expect("types that are equal but for owners").is_empty();
+            let due = if alike { [0, 0] } else { [6, 7] };
+            assert!(due.contains(&answer(&file)));
+            refused[usize::from(alike)] += 1;
+            assert_eq!(answer(&changed(&file, |_| 9)), 0);
+        }
+        // Ten types at six rules: seven pairs of owners that differ, and three that do not.
+        assert_eq!(refused, [10 * 6 * 7, 10 * 6 * 3]);
+    });
+}
+
+#[test]
+fn sealed_recipes_are_accepted() {
+    let files = every_sealed();
+    assert_eq!(files.len(), 18 * 6);
+    assert!(files.iter().all(|file| answer(file) == 0));
+}
