@@ -14,6 +14,10 @@
  * Places are counted in words of 4 bytes from 0, the file's first word being at place 0; recipe_node counts from the first
  * of the words that it is handed.
  *
+ * Owners. The operand of an L, a lump's type, is the owner of the sealed value: 0 to 255. Two types are equal only if the
+ * owners of all their lumps are, so one owner's lump fits nowhere where another's is due; a script in Scheme may open it and
+ * have it sealed for the other. In files written for earlier archives every L has owner 0: they mean what they meant.
+ *
  * Later archives may append fields to a struct: compile with the header that comes with the archive.
  */
 #ifndef RECIPE_H
@@ -38,12 +42,12 @@ extern "C" {
  *
  *   1  the size: not a multiple of 4 bytes, under 24 bytes or over 16,384
  *   2  the header: a count is 0, an offset is not the one due, or the words do not add up to the file's length
- *   3  a word has no kind or operand that is due there [that word]; the words of the declared type or of the term run
- *      out [one past them]; or some remain [the first that remains]
+ *   3  a word has no kind or operand that is due there, as an L with an owner over 255 [that word]; the words of the
+ *      declared type or of the term run out [one past them]; or some remain [the first that remains]
  *   4  nesting over 256 levels [the first word that is too deep]
  *   5  a variable without a lambda of its own language [that variable's word]
- *   6  the term has no type
- *   7  the term's type is not the declared one
+ *   6  the term has no type; also where two types in it are equal but for an owner
+ *   7  the term's type is not the declared one, if only by an owner
  *   8  the term has more words than the capacity (recipe_run and recipe_price)
  *   9  the declared type is not {N}, a list of numbers (recipe_price alone, as are the next two)
  *  10  the value has more than nine items
@@ -183,8 +187,9 @@ RecipeSaved recipe_save(const uint32_t *type, size_t type_len, const uint32_t *t
  * panel/outline.c draws one so.
  *
  * No memory is written. The stack is up to 176 bytes for each word of the node that is asked about, whole or not: 16,384
- * words, nested as deep as they can be, need 2.9 MB. A word without parts (N, L, a variable or a number of either language,
- * the Scheme nil, a Scheme wrong) needs next to none, whatever stands behind it, and takes a few nanoseconds. */
+ * words, nested as deep as they can be, need 2.9 MB. A word without parts (N, an L with an owner, a variable or a number of
+ * either language, the Scheme nil, a Scheme wrong) needs next to none, whatever stands behind it, and takes a few
+ * nanoseconds. */
 size_t recipe_node(const uint32_t *words, size_t words_len, size_t at);
 
 #ifdef __cplusplus

@@ -13,8 +13,8 @@
 
 enum { DRAWN = 0, FAULTY = 1, UNREAD = 2 };
 
-/* Words before the declared type's. */
-enum { HEADER = 4 };
+/* Words before the declared type's; the kind of a lump, whose operand is its owner. */
+enum { HEADER = 4, LUMP = 2 };
 
 static uint32_t words[RECIPE_FILE_BYTES / 4];
 
@@ -49,6 +49,18 @@ static int has_operand(uint32_t kind)
     return kind == 16 || kind == 17 || kind == 29 || kind == 32 || kind == 33 || kind == 44;
 }
 
+/* The name of a node and its operand, as in `ML number 7`; of a lump its owner, if that is not 0, as in `L7`. */
+static void draw_name(uint32_t node)
+{
+    uint32_t kind = node % 256, operand = node / 256;
+    fputs(name_of(node), stdout);
+    if (has_operand(kind))
+        printf(" %" PRIu32, operand);
+    if (kind == LUMP && operand > 0)
+        printf("%" PRIu32, operand);
+    putchar('\n');
+}
+
 /* One line: the place, and so deep the node's name and operand. */
 static void draw_node(size_t place, size_t depth, size_t size)
 {
@@ -59,10 +71,7 @@ static void draw_node(size_t place, size_t depth, size_t size)
         puts("no whole node starts here");
         return;
     }
-    fputs(name_of(words[place]), stdout);
-    if (has_operand(words[place] % 256))
-        printf(" %" PRIu32, words[place] / 256);
-    putchar('\n');
+    draw_name(words[place]);
 }
 
 /* Draws all nodes from one place up to another, which holds none of their words. FAULTY: they are not those of one node. */

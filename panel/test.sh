@@ -83,6 +83,22 @@ same() {
     words 1 4 5 5 1 21 17 21 17 99 >damaged
     words 1 4 5 5 1 21 30 1 17 17 >other-sort
     words 1 4 1 5 17 1 >exchanged
+    # Owners: the word of L with owner n is 2 + 256 n. A type with owners 0, 1, 7 and 255: {L} to (L1 to (L7 to L255)).
+    words 8 4 10 12 4 3 2 4 258 4 1794 65282 30 4 3 2 4 258 4 1794 65282 39 >owners
+    # ms L7 (fn v0), declared the same, declared L, and declared with owner 256.
+    words 1 4 4 5 1794 30 1794 34 32 >owner
+    words 1 4 4 5 2 30 1794 34 32 >other-owner
+    words 1 4 4 5 65538 30 1794 34 32 >owner-over
+    # null? (nil (L255 to {L256})) and null? (nil (L255 to {L255})).
+    words 1 4 6 5 1 28 24 4 65282 3 65538 >owner-over-inside
+    words 1 4 6 5 1 28 24 4 65282 3 65282 >owner-last
+    # app (fn L9 v0) (ms L7 4), opened: one owner's lump handed to another.
+    words 1 4 11 5 1 30 1 45 2306 19 18 2306 16 30 1794 1057 >owner-handed
+    # The same opened and sealed for the other: ms L9 (sm L7 (ms L7 4)).
+    words 1 4 15 5 1 30 1 45 2306 19 18 2306 16 30 2306 45 1794 30 1794 1057 >owner-resealed
+    # What that is after one step, with ms L9 4.
+    words 1 4 11 5 1 30 1 45 2306 19 18 2306 16 30 2306 1057 >resealed-due
+    rm -f resealed
     words 20 >fixes
     for i in 1 2 3 4 5 6 7 8 9 10 11 12; do cat fixes fixes >twice && mv twice fixes; done
     { words 1 4 4091 5 1; head -c $((4 * 4090)) fixes; words 17; } >deepest
@@ -105,6 +121,13 @@ same deep 1 "deep: refused 4 at word 261. This word lies deeper than 256 levels.
 same scope 1 "scope: refused 5 at word 11. This variable has no lambda of its own language at its operand." ./panel scope
 same no-type 1 "no-type: refused 6. The term has no type." ./panel no-type
 same other-type 1 "other-type: refused 7. The term's type is not the declared one." ./panel other-type
+same owner 0 "owner: accepted" ./panel owner
+same owner-last 0 "owner-last: accepted" ./panel owner-last
+same owner-resealed 0 "owner-resealed: accepted" ./panel owner-resealed
+same owner-over 1 "owner-over: refused 3 at word 4. $word" ./panel owner-over
+same owner-over-inside 1 "owner-over-inside: refused 3 at word 10. $word" ./panel owner-over-inside
+same owner-handed 1 "owner-handed: refused 6. The term has no type." ./panel owner-handed
+same other-owner 1 "other-owner: refused 7. The term's type is not the declared one." ./panel other-owner
 same several 1 "add: accepted
 header: refused 2. $header
 wrapped: accepted" ./panel add header wrapped
@@ -129,6 +152,15 @@ if [ "${1:-}" = run ]; then
     same run-if0-nil 0 "error, code 1, 2 steps, 0 words left, 0 wanted
 0 calls, 0 conversions, 2 others" ./run if0-nil
     same run-kind 1 "refused 3 at word 5" ./run kind
+    # ms L7 of a lambda is a value, whoever the owner is; the lump of L9 is opened, after the one of L7 was.
+    same run-owner 0 "value, code 0, 0 steps, 4 words left, 0 wanted
+0 calls, 0 conversions, 0 others
+30 1794 34 32" ./run owner
+    same run-owner-resealed 0 "value, code 0, 4 steps, 1 words left, 0 wanted
+1 calls, 3 conversions, 0 others
+1041" ./run owner-resealed
+    same run-owner-over 1 "refused 3 at word 4" ./run owner-over
+    same run-owner-handed 1 "refused 6 at word 0" ./run owner-handed
 
     (cd ../.. && ${CC:-cc} $flags -o "$out/price" panel/price.c "$archive")
     # 125,000 x 8; 12,400 x 27; none of pump 3; 850 x 41: in thousandths of a cent.
@@ -172,6 +204,11 @@ saved in lunch, 44 bytes" ./save wrapped 3 lunch
     same save-goes-on 0 "value, code 0, 2 steps, 1 words left, 0 wanted
 1 calls, 1 conversions, 0 others
 1809" ./run lunch
+    # Owners are saved with their lumps.
+    same save-owner 0 "spent, code 0, 1 steps, 11 words left, 0 wanted
+0 calls, 1 conversions, 0 others
+saved in resealed, 64 bytes" ./save owner-resealed 1 resealed
+    same save-owner-bytes 0 "" cmp resealed resealed-due
     # A file that an earlier release saved, which took the third part of an if0 whose test is a list.
     same saved-before-checked 0 "../../recipes/saved-before.bin: accepted" ./panel ../../recipes/saved-before.bin
     same saved-before-goes-on 0 "error, code 1, 2 steps, 0 words left, 0 wanted
@@ -267,6 +304,38 @@ spent, code 0, 0 steps, 3 words left, 0 wanted
    48                Scheme sm
    49                  L
    50                  ML number 0" ./outline kinds
+    # An owner stands right behind its L; owner 0 is not written.
+    same outline-owners 0 "    4  function
+    5    list
+    6      L
+    7    function
+    8      L1
+    9      function
+   10        L7
+   11        L255
+   12  ML ms
+   13    function
+   14      list
+   15        L
+   16      function
+   17        L1
+   18        function
+   19          L7
+   20          L255
+   21    Scheme nil" ./outline owners
+    # An owner over 255: neither its word nor a node around it is whole.
+    same outline-owner-over 1 "    4  $none
+    5  ML ms
+    6    L7
+    7    Scheme lambda
+    8      Scheme variable 0" ./outline owner-over
+    same outline-owner-over-inside 1 "    4  N
+    5  $none
+    6  $none
+    7  $none
+    8  L255
+    9  $none
+   10  $none" ./outline owner-over-inside
     # Refusals 4 to 7 are drawn as any other. Of the deep file, the fix at level n, from 0, is word 5 + n.
     same outline-scope 0 "    4  function
     5    N
