@@ -12,8 +12,9 @@ const HELP: &str = "\
 usage: recipe check [FILE]
 
 Says whether the engine accepts a recipe file or the file of a text. A refusal is explained on standard error in a
-sentence, and where it has a place, that is shown: in double brackets in the term, or in the list of words. Reads
-standard input where no FILE is named. Status 0: accepted; 1: refused.
+sentence, and where it has a place, that is shown: in double brackets in the term, or in the list of words. Where two
+types differ in the owners of their lumps alone, the owners are told. Reads standard input where no FILE is named.
+Status 0: accepted; 1: refused.
 ";
 
 /// The engine's answer in words.

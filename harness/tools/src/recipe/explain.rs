@@ -5,10 +5,12 @@ use super::places::{around, due_at, header};
 use model::check::read_recipe;
 use model::file::words_of;
 use model::node::Node;
+use model::owners::{differing, Within};
 use model::text::{flat, pretty};
 use model::typing::type_of;
 use model::untyped::untyped;
-use model::{Recipe, Refusal};
+use model::{Recipe, Refusal, Type};
+use std::rc::Rc;
 
 /// What a refusal says, for the one who wrote the recipe.
 pub fn explain(input: &Input, refusal: &Refusal) -> String {
@@ -20,7 +22,7 @@ pub fn explain(input: &Input, refusal: &Refusal) -> String {
         4 => position(input, place) + &around(&input.bytes, place),
         5 => position(input, place) + &marked(&input.bytes, place),
         6 => no_type(input),
-        7 => both_types(&input.bytes),
+        7 => another_type(&input.bytes),
         9 => not_numbers(&input.bytes),
         10 => "  pumps 1 to 9 take one item each; recipe run shows the value\n".into(),
         _ => String::new(),
@@ -87,18 +89,40 @@ fn marked(bytes: &[u8], place: usize) -> String {
     }
 }
 
-/// The first node without a type whose parts are in order; the refusal itself has no place.
+/// The first node without a type whose parts are in order, and the owners where they alone are at fault; the refusal itself has no
+/// place.
 fn no_type(input: &Input) -> String {
     let Ok(Recipe { declared, term }) = read_recipe(&input.bytes, usize::MAX) else { return String::new() };
-    let place = untyped(&term).map(|before| 4 + Node::Type(&declared).size() + before);
-    place.map_or(String::new(), |place| position(input, place) + &marked(&input.bytes, place))
+    let Some(node) = untyped(&term) else { return String::new() };
+    let place = 4 + Node::Type(&declared).size() + node.before;
+    let owners = node.unequal.map_or(String::new(), |[due, found]| owners(&due, &found));
+    position(input, place) + &marked(&input.bytes, place) + &owners
 }
 
-/// The declared type and the one that the term has.
-fn both_types(bytes: &[u8]) -> String {
+/// The declared type and the one that the term has, and the owners where they alone differ.
+fn another_type(bytes: &[u8]) -> String {
     let Ok(Recipe { declared, term }) = read_recipe(bytes, usize::MAX) else { return String::new() };
     let Some(found) = type_of(&term) else { return String::new() };
-    format!("  declared: {}\n  found:    {}\n", flat(Node::Type(&declared)), flat(Node::Type(&found)))
+    let both = format!("  declared: {}\n  found:    {}\n", flat(Node::Type(&declared)), flat(Node::Type(&found)));
+    both + &owners(&declared, &found)
+}
+
+/// Letters of a type that are shown in a line of advice.
+const MOST_LETTERS: usize = 40;
+
+/// Of two types that differ in owners alone, the first owners that do, and how a value gets from the one to the other.
+fn owners(due: &Rc<Type>, found: &Rc<Type>) -> String {
+    let first = differing(due, found).and_then(|all| all.into_iter().next());
+    let Some(first) = first else { return String::new() };
+    let [due, found] = [due, found].map(|t| flat(Node::Type(t)));
+    let short = due.len().max(found.len()) <= MOST_LETTERS;
+    let types = if first.within != Within::Alone && short { format!(": {found} for {due}") } else { String::new() };
+    let advice = if short { format!(": (ms {due} (sm {found} e))") } else { String::new() };
+    format!(
+        "  a lump of owner {} stands where one of owner {} is due{types}\n  \
+         a Scheme script may open it and have it sealed for the other owner{advice}\n",
+        first.found, first.due
+    )
 }
 
 /// The declared type, and the one that a can is due to have.

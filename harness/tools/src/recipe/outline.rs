@@ -16,8 +16,9 @@ const HELP: &str = "\
 usage: recipe outline [FILE]
 
 Draws the outline of a recipe file or of the file of a text: a line for each node of the declared type and then of the
-term, with the place of its word in the file, counted from 0, and its kind, two blanks further in for each level. The
-place is the one that a refusal names. Reads standard input where no FILE is named.
+term, with the place of its word in the file, counted from 0, and its kind, two blanks further in for each level: L for a
+lump of owner 0, L7 for one of owner 7. The place is the one that a refusal names. Reads standard input where no FILE is
+named.
 
 A file that is refused by 4, 5, 6 or 7 is drawn as any other; `recipe check` checks. Where no whole node starts, the line
 says so; there, and where words remain behind a node, the next word is asked about. Such a file is explained on standard

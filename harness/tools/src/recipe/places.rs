@@ -1,7 +1,7 @@
 //! What a file's words say at a place: the header, the words around it, and what is due there.
 
 use model::file::{regions, words_of, Regions};
-use model::kinds::{due, Sort};
+use model::kinds::{due, Sort, LUMP};
 use model::text::describe;
 use std::fmt::Write;
 
@@ -53,8 +53,19 @@ pub fn due_at(bytes: &[u8], place: usize) -> String {
     let before = &region[..place.saturating_sub(start).min(region.len())];
     match next_due(before, sort) {
         None => format!("  the {name} is complete before word {place}: nothing more is due\n"),
-        Some(sort) if before.len() < region.len() => format!("  {} is due at word {place}\n", called(sort)),
+        Some(sort) if before.len() < region.len() => {
+            let owner = if sort == Sort::Type { owner_over(region[before.len()]) } else { "" };
+            format!("  {} is due at word {place}{owner}\n", called(sort))
+        }
         Some(sort) => format!("  {} is still due where the {name}'s words end\n", called(sort)),
+    }
+}
+
+/// What is said of a lump whose owner is over the last.
+fn owner_over(word: u32) -> &'static str {
+    match word % 256 == LUMP {
+        true => "; the owner of an L is 0 to 255",
+        false => "",
     }
 }
 

@@ -14,8 +14,9 @@ pub const COMMAND: Command = Command { name: "show", help: HELP, work: show };
 const HELP: &str = "\
 usage: recipe show [FILE]
 
-Writes a recipe file as text, from which `recipe make` makes the same file again. Reads standard input where no FILE is
-named. Of a file whose words are not in order it says on standard error what is wrong and where; status 1.
+Writes a recipe file as text, from which `recipe make` makes the same file again. A lump's type is L for owner 0, L7 for
+owner 7. Reads standard input where no FILE is named. Of a file whose words are not in order it says on standard error
+what is wrong and where; status 1.
 ";
 
 /// The text of a file.
