@@ -1,15 +1,18 @@
 //! The makers make what they promise, and reach every rule, end and refusal.
 
 use model::earlier::before_u4;
+use model::file::{bytes_of, words_of};
 use model::laws::{try_counts, try_going_on, try_reduction, WentOn};
 use model::node::{ml_words, Node};
+use model::owners::owners;
 use model::price::items;
 use model::rules::{Rule, RuleCounts};
 use model::run::{reduce, run_by};
 use model::step::{step, Step};
-use model::{check, on_large_stack, run, save, End, Recipe};
+use model::{check, on_large_stack, run, save, End, Ml, Recipe, Scheme};
 use std::collections::BTreeSet;
 use tools::make::cans::can_file;
+use tools::make::owners::forgotten;
 use tools::make::prices::{any_prices, differing};
 use tools::make::saves::{any_room, any_words, outgrowing};
 use tools::make::*;
@@ -24,6 +27,59 @@ fn well_typed_files_are_accepted() {
         let numbers: Vec<u32> = (0..FILES).filter_map(|index| refused(&index)).map(|refusal| refusal.number).collect();
         assert!(numbers.iter().all(|&number| number == 1), "{numbers:?}");
         assert!(numbers.len() < 30, "{} are too large", numbers.len());
+    });
+}
+
+/// The owners of all lumps in a node.
+fn owners_in(node: Node<'_>) -> Vec<u32> {
+    owners(&node.words()).collect()
+}
+
+/// Whether a term opens a lump of one owner and seals it at once for another, at any type.
+fn reseals(node: Node<'_>) -> bool {
+    let here = || {
+        let Node::Ml(e) = node else { return None };
+        let Ml::Ms(sealed, inner) = &**e else { return None };
+        let Scheme::Sm(opened, _) = &**inner else { return None };
+        Some(!model::owners::differing(sealed, opened)?.is_empty())
+    };
+    here() == Some(true) || node.parts().into_iter().flatten().any(reseals)
+}
+
+#[test]
+fn well_typed_files_have_many_owners_and_seal_for_others() {
+    on_large_stack(|| {
+        let recipes = (0..FILES).filter_map(|index| check(&well_typed_file(&mut Random::new(1, index))).ok());
+        let recipes: Vec<Recipe> = recipes.collect();
+        let terms: Vec<Vec<u32>> = recipes.iter().map(|recipe| owners_in(Node::Ml(&recipe.term))).collect();
+        let all: BTreeSet<u32> = terms.iter().flatten().copied().collect();
+        assert!(all.len() > 200 && all.contains(&0) && all.contains(&255), "{}", all.len());
+        let with = |is: fn(&u32) -> bool| terms.iter().filter(|owners| owners.iter().any(is)).count();
+        for count in [with(|o| *o == 0), with(|o| *o == 1), with(|o| (2..254).contains(o)), with(|o| *o >= 254)] {
+            assert!(count > FILES as usize / 8, "{count}");
+        }
+        let several = terms.iter().filter(|owners| owners.iter().collect::<BTreeSet<_>>().len() > 2).count();
+        let sealed = recipes.iter().filter(|recipe| reseals(Node::Ml(&recipe.term))).count();
+        assert!(several > FILES as usize / 5 && sealed > FILES as usize / 10, "{several} {sealed}");
+    });
+}
+
+#[test]
+fn damaged_files_have_owners_over_the_last_and_owners_that_differ() {
+    on_large_stack(|| {
+        let (mut over, mut differ) = (0, [0; 2]);
+        for index in 0..10 * FILES {
+            let file = damaged_file(&mut Random::new(1, index));
+            let Some(refusal) = check(&file).err() else { continue };
+            let words = words_of(&file).unwrap_or_default();
+            let word = words.get(refusal.place as usize).copied().unwrap_or(0);
+            over += u32::from(refusal.number == 3 && word % 256 == 2 && word / 256 > 255);
+            if matches!(refusal.number, 6 | 7) {
+                let equal = bytes_of(&[&words[..4], &forgotten(&words[4..])].concat());
+                differ[refusal.number as usize - 6] += u32::from(check(&equal).is_ok());
+            }
+        }
+        assert!(over > 300 && differ.iter().all(|&count| count > 100), "{over} {differ:?}");
     });
 }
 

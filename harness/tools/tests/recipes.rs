@@ -52,6 +52,15 @@ fn the_file_saved_before_is_what_that_release_left() {
     assert_eq!(save(&[1], &left[..15], 80).buffer, read(&folder().join("saved-before"), "bin"));
 }
 
+/// null? (nil L) with the owner after the last.
+#[test]
+fn the_file_with_owner_256_is_refused_at_the_lumps_word() {
+    let (declared, term) = ([1], [28, 24, 2 + 256 * 256]);
+    let over = folder().join("owner-256");
+    assert_eq!(file(&declared, &term), read(&over, "bin"));
+    assert_eq!(listed(&file(&declared, &term)).as_bytes(), read(&over, "expected"));
+}
+
 /// A recipe of docs/RECIPES.md with one bit changed: word 13, the Scheme add, is no kind any more.
 #[test]
 fn the_damaged_file_is_a_recipe_with_one_bit_changed() {

@@ -24,9 +24,11 @@ usage: compare check [--files N] [--seed S] [--start I] [--all-reached]
        compare list  [--files N] [--seed S] [--start I] [--all-reached]
        compare stack [--kib K]
 
-check        every term of up to 3 words, files at the edges, and N random files (200000): number and place
-run          every small recipe, every kind of value that if0 tests, edges of files and of what is lent, and N random
-             files (100000): result and every word of both buffers
+check        every term of up to 3 words, files at the edges, owners in range and over it wherever a type may stand, every two
+             owners that are compared, and N random files (200000): number and place
+run          every small recipe, every kind of value that if0 tests, every place of an owner, lumps opened and sealed for
+             other owners, edges of files and of what is lent, and N random files (100000): result and every word of both
+             buffers
 price        edges of prices, pulses, items and of what is lent, every choice of faults, every small recipe, edges of
              files, and N random files (100000) under random price tables: result, charges, total and every word of both
              buffers
@@ -47,7 +49,11 @@ stack        the deepest runs of 16,384 words, and the deepest files, run, price
              reached; of runs, also a kind of value that Scheme's if0 tests; of pricings, also an order of two refusals, a
              number of items, a pump or a band; of saves, also an order, a place, a length of the buffer, two ends of a run
              and the one that goes on, 20,000 of these, or an end that a file saved before U4 no longer comes to; of
-             nodes, a kind, a kind that is none, an operand past its range, a fault in a part, a place past the end or a size
+             nodes, a kind, a kind that is none, an operand past its range, a fault in a part, a place past the end or a
+             size. Of all but listings and nodes also: owner 0, 1 to 254 or 255 accepted; a refusal 6 or 7 for an owner
+             alone, by the rule and by where in the type it stands; a refusal 3 for an owner over 255 by where its type
+             stands; of runs, a lump opened, sealed for another owner, brought over in a list or a function; of nodes, an
+             L with each kind of owner, whole or not
 
 Status 0: no difference; 1: a difference, shrunk and shown; 2: not understood, or built without the engine.
 ";

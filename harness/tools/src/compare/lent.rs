@@ -11,13 +11,15 @@ pub fn at_the_edges() -> Vec<Case> {
 }
 
 /// Recipes of document 01's forms that end after a few steps of few words, in each of the ways.
-const SMALL: [&str; 9] = [
+const SMALL: [&str; 11] = [
     "N 5",
     "N (add 2 3)",
     "N (wrong 9 N)",
     "N (hd (nil N))",
     "L (ms L (fn v0))",
     "N (ms N (sm L (ms L 4)))",
+    "L255 (ms L255 (sm L7 (ms L7 nil)))",
+    "(L7 to L255) (ms (L7 to L255) (fn v0))",
     "N (app (ms (N to N) (fn v0)) 7)",
     "{N} (ms {N} (cons 1 nil))",
     "N (ms N (app (sm (N to N) (fn N (add v0 1))) 4))",

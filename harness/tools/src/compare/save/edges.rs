@@ -11,9 +11,11 @@ pub fn all() -> Vec<SaveCase> {
 }
 
 /// Recipes of few words, one of each type, whose terms are values or not.
-const SMALL: [&str; 7] = [
+const SMALL: [&str; 9] = [
     "N 5",
     "L (ms L (fn v0))",
+    "L255 (ms L255 (sm L7 (ms L7 nil)))",
+    "({L7} to L) (fn {L7} (ms L v0))",
     "{N} (nil N)",
     "(N to N) (fn N v0)",
     "N (app (ms (N to N) (fn v0)) 16777215)",
