@@ -16,11 +16,11 @@ use model::untyped::untyped;
 use model::{check, on_large_stack, Ml, Recipe, Type};
 use std::collections::BTreeSet;
 use std::rc::Rc;
-use tools::compare::owners::type_place;
+use tools::compare::owners::{type_place, OwnerCounts};
 use tools::compare::{compare_check, compare_run, Plan};
 use tools::engine::{Check, Run};
 use tools::make::owners::{forgotten, lump, OVER};
-use tools::make::{every_owner, every_sealed, every_two_owners};
+use tools::make::{every_owner, every_sealed, every_two_owners, file_of_text};
 use tools::stand_in;
 
 const PLAN: Plan = Plan { files: 3_000, seed: 1, start: 0 };
@@ -340,6 +340,61 @@ fn saves_that_lose_an_owner_or_take_any() {
         saved
     };
     saving::answers(alike, "refused 7 at place 0", "");
+}
+
+/// The rows that a file of these words is counted in, and its run.
+fn rows(declared: &[u32], term: &[u32]) -> Vec<String> {
+    let file = model::file::file(declared, term);
+    let mut counts = OwnerCounts::default();
+    on_large_stack(|| {
+        counts.file(&file, check(&file).err().as_ref());
+        counts.ran(&file, &model::run(&file, 100, 100, 100));
+    });
+    let all = [counts.rows(), counts.declared_rows(), counts.step_rows()].concat();
+    all.into_iter().filter(|row| row.1 > 0).map(|row| row.0).collect()
+}
+
+#[test]
+fn a_file_is_counted_by_what_its_owners_do() {
+    let over = "refusal 3 by an owner over 255";
+    // ms L255 0, declared so, and declared L; fn L7 v0, declared from L7 to L7.
+    let sealed = "accepted, declared with an owner over 0, alone";
+    let value = "run that comes to a value with an owner over 0";
+    assert_eq!(rows(&[lump(255)], &[30, lump(255), 33]), ["accepted with owner 255", sealed, value]);
+    assert_eq!(rows(&[2], &[30, lump(255), 33]), ["refusal 7 by an owner, alone"]);
+    let argument = "accepted, declared with an owner over 0, in a function's argument";
+    let function = rows(&[4, lump(7), lump(7)], &[18, lump(7), 16]);
+    assert_eq!(function, ["accepted with an owner from 1 to 254", argument, value]);
+    // null? (cons (nil L7) (nil {L9})); add (nil L7) 0; app (fn L9 0) 0: the last two are not refused for owners.
+    let at = "refusal 6 by an owner at a cons";
+    assert_eq!(rows(&[1], &[28, 25, 24, lump(7), 24, 3, lump(9)]), ["refusal 6 by an owner, in a list", at]);
+    assert_eq!(rows(&[1], &[21, 24, lump(7), 17]), [""; 0]);
+    assert_eq!(rows(&[1], &[19, 18, lump(9), 17, 17]), [""; 0]);
+    // nil {L256}; sm (N to L256); a term that is to be ML; a word that remains.
+    assert_eq!(rows(&[1], &[28, 24, 3, lump(256)]), [format!("{over} of nil"), format!("{over}, in a list")]);
+    let result = format!("{over}, in a function's result");
+    assert_eq!(rows(&[1], &[30, 1, 45, 4, 1, lump(256), 17]), [format!("{over} of sm"), result]);
+    assert_eq!(rows(&[1], &[lump(256)]), [""; 0]);
+    assert_eq!(rows(&[1, lump(256)], &[17]), [""; 0]);
+}
+
+#[test]
+fn a_run_is_counted_by_what_it_does_with_owners() {
+    let steps = |text: &str| {
+        let words = words_of(&file_of_text(text)).expect("a file");
+        let regions = regions(&words).expect("a header in order");
+        let rows = rows(regions.declared, regions.term);
+        rows.iter().filter_map(|row| row.strip_prefix("run that ")).map(str::to_string).collect::<Vec<_>>()
+    };
+    let (opens, value) = ("opens a lump of an owner over 0", "comes to a value with an owner over 0");
+    assert_eq!(steps("N (ms N (sm L (ms L 4)))"), ["opens a lump of owner 0"]);
+    assert_eq!(steps("L7 (ms L7 (sm L7 (ms L7 4)))"), [opens, value]);
+    assert_eq!(steps("L7 (ms L7 (sm L9 (ms L9 4)))"), [opens, "seals what it opens for another owner", value]);
+    assert_eq!(steps("{L7} (ms {L7} nil)"), ["brings over a list with an owner over 0, by ms", value]);
+    assert_eq!(steps("(N to L7) (ms (N to L7) (fn v0))"), ["wraps a function with an owner over 0, by ms", value]);
+    assert_eq!(steps("N (ms N (fun? (sm (L7 to N) (fn L7 0))))"), ["wraps a function with an owner over 0, by sm"]);
+    assert_eq!(steps("{L7} (tl (nil L7))"), ["makes a wrong at a type with an owner over 0"]);
+    assert_eq!(steps("{N} (ms {N} nil)"), [""; 0]);
 }
 
 /// The number of the refusal of a file; 0 if it is accepted.

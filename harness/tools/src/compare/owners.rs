@@ -153,11 +153,9 @@ impl OwnerCounts {
     /// The rows of a comparison of few files.
     pub fn few_rows(&self) -> Vec<(String, u64)> {
         let accepted = self.rows().into_iter().take(ACCEPTED.len());
-        let refused = [("6 by an owner", self.unequal[0]), ("7 by an owner", self.unequal[1])];
-        let over = ("3 by an owner over 255", self.over_within);
-        let sums =
-            [refused[0], refused[1], over].map(|(name, counts)| (format!("refusal {name}"), counts.iter().sum()));
-        accepted.chain(sums).collect()
+        let [six, seven] = self.unequal;
+        let refused = [("6 by an owner", six), ("7 by an owner", seven), ("3 by an owner over 255", self.over_within)];
+        accepted.chain(refused.map(|(name, counts)| (format!("refusal {name}"), counts.iter().sum()))).collect()
     }
 }
 
