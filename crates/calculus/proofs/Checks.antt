@@ -10,7 +10,7 @@ use borrow.Author.Tests.{leb-true, le-leb}
 use Rattle.calculus.specs.Trees.{Ty, ml, Term}
 use Rattle.calculus.specs.Words.{words, size}
 use Rattle.calculus.specs.Kinds.{Sort, type, term, Tree}
-use Rattle.calculus.specs.Limits.{InRange, nestingTy, nesting}
+use Rattle.calculus.specs.Limits.{InRangeTy, InRange, nestingTy, nesting}
 use Rattle.calculus.specs.Verdicts.{Verdict, passed, orRefuse}
 use Rattle.calculus.specs.Reading.{later, walk, inOrder, readTree}
 use Rattle.calculus.specs.Scope.{Scoped, scopeDue}
@@ -91,7 +91,7 @@ module _ (types terms : List ℕ) (start : ℕ) (x : Recipe) where
 -- Refusals 2 to 7.
 abbrev pub InOrder : List ℕ → Recipe → Type 0
 InOrder ws x = let τ = x .0 in let e = x .1 in
-    Contains ws τ e × (nestingTy τ ≤ 256) × (nesting e ≤ 256) × InRange e × Scoped [] e × Typed [] e τ
+    Contains ws τ e × (nestingTy τ ≤ 256) × (nesting e ≤ 256) × InRangeTy τ × InRange e × Scoped [] e × Typed [] e τ
 
 pub passes-in-order : (ws : List ℕ) (x : Recipe) → checkWords ws ≡ passed x → InOrder ws x
 unfolding checkWords
@@ -100,14 +100,14 @@ passes-in-order ws x q =
     let j = judged-iff (typeWords ws) (termWords ws) (4 + typeCount ws) x .0 (h .1) in
     let t = j .0 in
     let e = j .1 in
-    subst (InOrder ws) (sym (j .4)) ((h .0, t .spelt, e .spelt), t .nests, e .nests, e .ranged, j .2, j .3)
+    subst (InOrder ws) (sym (j .4)) ((h .0, t .spelt, e .spelt), t .nests, e .nests, t .ranged, e .ranged, j .2, j .3)
 
 in-order-passes : (ws : List ℕ) (x : Recipe) → InOrder ws x → checkWords ws ≡ passed x
 unfolding checkWords
 in-order-passes ws x h =
-    let t : Ordered type (typeWords ws) = record { tree = x .0; spelt = h .0 .1; ranged = tt; nests = h .1 } in
-    let e : Ordered (term ml) (termWords ws) = record { tree = x .1; spelt = h .0 .2; ranged = h .3; nests = h .2 } in
-    unless-iff (isHeader ws) 2 0 _ x .1 (h .0 .0, judged-iff (typeWords ws) (termWords ws) (4 + typeCount ws) x .1 (t, e, h .4, h .5, refl))
+    let t : Ordered type (typeWords ws) = record { tree = x .0; spelt = h .0 .1; ranged = h .3; nests = h .1 } in
+    let e : Ordered (term ml) (termWords ws) = record { tree = x .1; spelt = h .0 .2; ranged = h .4; nests = h .2 } in
+    unless-iff (isHeader ws) 2 0 _ x .1 (h .0 .0, judged-iff (typeWords ws) (termWords ws) (4 + typeCount ws) x .1 (t, e, h .5, h .6, refl))
 
 -- "the check accepts exactly those to which the published typing .. gives the declared type".
 pub check-iff : (bytes : List ℕ) (τ : Ty) (e : Term ml) → (check bytes ≡ passed (τ, e)) ↔ Accepted bytes τ e
@@ -124,14 +124,16 @@ check-iff bytes τ e = (
         spelt = contains-iff (wordsOf bytes) τ e .0 (h .0);
         nestsTy = h .1;
         nests = h .2;
-        ranged = h .3;
-        closed = h .4;
-        typed = h .5;
+        rangedTy = h .3;
+        ranged = h .4;
+        closed = h .5;
+        typed = h .6;
       },
   λ a.
       unless-iff (isSize (length bytes)) 1 0 (checkWords (wordsOf bytes)) (τ, e) .1 (
         size-iff (length bytes) .1 ((a .least, a .most), a .whole),
-        in-order-passes (wordsOf bytes) (τ, e) (contains-iff (wordsOf bytes) τ e .1 (a .spelt), a .nestsTy, a .nests, a .ranged, a .closed, a .typed),
+        in-order-passes (wordsOf bytes) (τ, e)
+            (contains-iff (wordsOf bytes) τ e .1 (a .spelt), a .nestsTy, a .nests, a .rangedTy, a .ranged, a .closed, a .typed),
       ),
 )
 

@@ -6,7 +6,7 @@ use mathlib.Core.Logic.{_↔_, _⊎_, inl, inr}
 use mathlib.Core.Path.{_≡_, refl, sym, ap, subst}
 use lib.Dec.{eqb, leb}
 use native.Mathlib.Omega.{arith}
-use borrow.Author.Tests.{leb-true, leb-false, le-leb, lt-leb, eqb-true, eqb-false, ne-eqb}
+use borrow.Author.Tests.{leb-true, leb-false, le-leb, lt-leb, eqb-true, eqb-false, ne-eqb, eq-eqb}
 use Rattle.calculus.specs.Trees.{Ty, N, L, list, _to_, Lang, ml, sc, Static, numbers, Test, isFun, isList, isNull, isNum, HD, TL, FIX, NULL?}
 use Rattle.calculus.specs.Trees.{TEST, APP, ADD, SUB, CONS, Term, var, num, lam, op1, op2, if0, nil, wrong, ms, sm, app, add, sub, cons, hd, tl}
 use Rattle.calculus.specs.Trees.{fix, null?, test}
@@ -28,7 +28,7 @@ tag (number n) = 0
 tag (lambda t b) = 1
 tag (nilForm t) = 2
 tag (consForm v w) = 3
-tag (sealed v) = 4
+tag (sealed o v) = 4
 tag other = 5
 
 -- A number for a term's form, by which two forms are told apart.
@@ -126,6 +126,11 @@ zero-ruled : {l : Lang} (n : ℕ) (a b : Term l) (x : Bool) → eqb n 0 ≡ x �
 zero-ruled n a b true q = rw (eqb-true n 0 q) if0-zero
 zero-ruled n a b false q = if0-other (eqb-false n 0 q)
 
+-- sm at an owner's L takes an ms at that same owner's L.
+lump-ruled : (o u : ℕ) {v : Term sc} → Value sc v → (b : Bool) → eqb o u ≡ b → Ruled (sm (L o) (ms (L u) v)) (cond b (becomes v) nothing)
+lump-ruled o u a true q = rw (eqb-true o u q) (sm-lump a)
+lump-ruled o u a false q = tt
+
 -- The rules that put a term elsewhere: what they put there is closed.
 app-ruled : {l : Lang} (v w : Term l) (t : Static l) (b : Term l) → Scoped [] v → Scoped [] w → Value l w → v ≡ lam t b
     → l ⊢ app v w ⇒ substitute w 0 b
@@ -175,16 +180,16 @@ contract-ruled (if0 {l = sc} v b c) s h = on-number (Ruled (if0 v b c)) _ _ h (i
 contract-ruled (nil t) s h = tt
 contract-ruled (wrong c t) s h = (t, refl)
 contract-ruled (ms N v) s h = on-number (Ruled (ms N v)) _ _ (h .1) (ms-no-number (h .1)) (λ n q. rw q ms-number)
-contract-ruled (ms L v) s h = tt
+contract-ruled (ms (L o) v) s h = tt
 contract-ruled (ms (list t) v) s h =
     on-list (Ruled (ms (list t) v)) _ _ _ (h .1) (ms-no-list (h .1)) (λ u q. rw q ms-nil) (λ a b x y q. rw q (ms-cons x y))
 contract-ruled (ms (t to u) v) s h = on-lambda (Ruled (ms (t to u) v)) _ _ (h .1) (ms-no-lambda (h .1)) (λ r b q. ms-ruled v t u b s q)
 contract-ruled (sm N v) s h = on-number (Ruled (sm N v)) _ _ h (λ n. tt) (λ n q. rw q sm-number)
-contract-ruled (sm L v) s lamV = tt
-contract-ruled (sm L v) s numV = tt
-contract-ruled (sm L v) s nilV = tt
-contract-ruled (sm L v) s (consV a b) = tt
-contract-ruled (sm L v) s (lumpV a) = sm-lump a
+contract-ruled (sm (L o) v) s lamV = tt
+contract-ruled (sm (L o) v) s numV = tt
+contract-ruled (sm (L o) v) s nilV = tt
+contract-ruled (sm (L o) v) s (consV a b) = tt
+contract-ruled (sm (L o) v) s (lumpV {o = u} a) = lump-ruled o u a (eqb o u) refl
 contract-ruled (sm (list t) v) s h = on-list (Ruled (sm (list t) v)) _ _ _ h (λ n c. tt) (λ u q. rw q sm-nil) (λ a b x y q. rw q (sm-cons x y))
 contract-ruled (sm (t to u) v) s h = on-lambda (Ruled (sm (t to u) v)) _ _ h (λ n. tt) (λ r b q. sm-ruled v t u r b s q)
 
@@ -227,7 +232,7 @@ rule-made s (ms-lambda {t} {u} {b}) =
     ((refl, lamV), ap (λ (x : Term sc). becomes (lam t (ms u (app x (sm t (var 0)))))) (sym (closed-shift 1 (lam tt b) s)))
 rule-made s (ms-no-lambda v ne) = ((refl, v), no-lambda v _ _ ne)
 rule-made s sm-number = (numV, refl)
-rule-made s (sm-lump v) = (lumpV v, refl)
+rule-made s (sm-lump {o = o} v) = (lumpV v, rw (eq-eqb o o refl))
 rule-made s sm-nil = (nilV, refl)
 rule-made s (sm-cons v w) = (consV v w, refl)
 rule-made s (sm-lambda {t} {u} {r} {b}) =

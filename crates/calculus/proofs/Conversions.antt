@@ -29,7 +29,7 @@ use Rattle.calculus.proofs.Reaching.{raises-in-second, one-end, value-e
 -- An ML value and a Scheme value are the same datum of a type; the steps of its way into ML, and out of it.
 data Same : ℕ → ℕ → Ty → Term ml → Term sc → Type 0 where
   numbers : {n : ℕ} → Same 1 1 N (num n) (num n)
-  lumps : {w : Term sc} → Value sc w → Same 0 1 L (ms L w) w
+  lumps : {u : ℕ} {w : Term sc} → Value sc w → Same 0 1 (L u) (ms (L u) w) w
   nils : {t : Ty} → Same 1 1 (list t) (nil t) (nil tt)
   conses : {t : Ty} {i j o p : ℕ} {v v′ : Term ml} {w w′ : Term sc} → Same i o t v w → Same j p (list t) v′ w′
       → Same (suc (i + j)) (suc (o + p)) (list t) (cons v v′) (cons w w′)
@@ -59,7 +59,7 @@ same-count (conses a b) = let x = same-count a in let y = same-count b in (omega
 type-bounded : (t : Ty) → suc (sizeTy t) ≤ boundaries t
 unfolding sizeTy boundaries
 type-bounded N = omega arith
-type-bounded L = omega arith
+type-bounded (L o) = omega arith
 type-bounded (list t) = omega arith
 type-bounded (t to u) = omega arith
 
@@ -183,7 +183,7 @@ conversion N {v} lamV = no-number v lamV (λ h. omega (arith, ap mark (h .1)))
 conversion N numV = (number, reached _ ms-number numV)
 conversion N {v} nilV = no-number v nilV (λ h. omega (arith, ap mark (h .1)))
 conversion N {v} (consV a b) = no-number v (consV a b) (λ h. omega (arith, ap mark (h .1)))
-conversion L h = (anything h, (0, _, stay, lumpV h))
+conversion (L o) h = (anything h, (0, _, stay, lumpV h))
 conversion (list t) {v} lamV = no-list t v lamV (λ h. omega (arith, ap mark (h .1))) (λ h. omega (arith, ap mark (h .2)))
 conversion (list t) {v} numV = no-list t v numV (λ h. omega (arith, ap mark (h .1))) (λ h. omega (arith, ap mark (h .2)))
 conversion (list t) nilV = (fits-nil, reached _ ms-nil nilV)
@@ -218,7 +218,7 @@ data-codes N lamV c d q = inl (cc)
 data-codes N numV c d q = inl (cc)
 data-codes N nilV c d q = inl (cc)
 data-codes N (consV a b) c d q = inl (cc)
-data-codes L h c d q = inl (cc)
+data-codes (L o) h c d q = inl (cc)
 data-codes (list t) lamV c d q = inr (cc)
 data-codes (list t) numV c d q = inr (cc)
 data-codes (list t) nilV c d q = inr (cc)
@@ -285,12 +285,12 @@ leaves : (t : Ty) (v : Term ml) → Value ml v → Typed [] v t → Leaves t v
 leaves t v h k = record { leaves = departs t h k; returns = returned t h k; alone = λ n r p. converts p (value-converting h) }
 
 -- Seals.
-seals : (v : Term sc) → Value sc v → Typed [] v tt → Seals v
-seals v h k =
+seals : (o : ℕ) (v : Term sc) → Value sc v → Typed [] v tt → Seals o v
+seals o v h k =
     let w = lumpV h in
     record {
       sealed = w;
-      closed = λ r a. value-no-step (typed-scoped [] (ms L v) L (k, refl)) w a;
+      closed = λ r a. value-no-step (typed-scoped [] (ms (L o) v) (L o) (k, refl)) w a;
       unsealed = then (rule (sm-lump h)) stay;
     }
 
@@ -368,7 +368,7 @@ list-back t v h k n p =
 -- A type whose values all come back as they were is one of data.
 back-data : (t : Ty) → ((v : Term ml) → Value ml v → Typed [] v t → (n : ℕ) × Steps n (ms t (sm t v)) v) → Data t
 back-data N h = tt
-back-data L h = tt
+back-data (L o) h = tt
 back-data (list t) h =
     back-data t (λ v x k. let y = h (cons v (nil t)) (consV x nilV) (t, list t, k, refl, (refl, refl)) in list-back t v x k (y .0) (y .1))
 back-data (t to u) h =

@@ -20,7 +20,7 @@ function =
     (then (rule ms-number) stay))))
 
 -- ms N (sm L (ms L 4)): 4, 2 steps.
-pub unsealed : Steps 2 (ms N (sm L (ms L (num 4)))) (num 4)
+pub unsealed : Steps 2 (ms N (sm (L 0) (ms (L 0) (num 4)))) (num 4)
 unfolding around
 unsealed = then (by-rule (in-ms N hole) (sm-lump numV)) (then (rule ms-number) stay)
 

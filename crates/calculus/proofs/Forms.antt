@@ -12,7 +12,7 @@ class (number n) = 0
 class (lambda t b) = 1
 class (nilForm t) = 2
 class (consForm v w) = 2
-class (sealed v) = 3
+class (sealed u v) = 3
 class other = 4
 
 module _ {m : Lang} (P : Became m → Type 0) (o : Became m) where
@@ -24,7 +24,7 @@ module _ {m : Lang} (P : Became m → Type 0) (o : Became m) where
   on-number R (lambda t b) k h ne p = ne (omega arith)
   on-number R (nilForm t) k h ne p = ne (omega arith)
   on-number R (consForm v w) k h ne p = ne (omega arith)
-  on-number R (sealed v) k h ne p = ne (omega arith)
+  on-number R (sealed u v) k h ne p = ne (omega arith)
   on-number R other k h ne p = ne (omega arith)
 
   pub on-lambda : {l : Lang} (R : Form l → Type 0) (f : Form l) (k : Static l → Term l → Became m) → R f → ((class f ≡ 1 → ⊥) → P o)
@@ -34,7 +34,7 @@ module _ {m : Lang} (P : Became m → Type 0) (o : Became m) where
   on-lambda R (lambda t b) k h ne p = p t b h
   on-lambda R (nilForm t) k h ne p = ne (omega arith)
   on-lambda R (consForm v w) k h ne p = ne (omega arith)
-  on-lambda R (sealed v) k h ne p = ne (omega arith)
+  on-lambda R (sealed u v) k h ne p = ne (omega arith)
   on-lambda R other k h ne p = ne (omega arith)
 
   pub on-list : {l : Lang} (R : Form l → Type 0) (f : Form l) (e : Static l → Became m) (k : Term l → Term l → Became m) → R f
@@ -44,15 +44,15 @@ module _ {m : Lang} (P : Became m → Type 0) (o : Became m) where
   on-list R (lambda t b) e k h ne p q = ne (omega arith)
   on-list R (nilForm t) e k h ne p q = p t h
   on-list R (consForm v w) e k h ne p q = q v w h
-  on-list R (sealed v) e k h ne p q = ne (omega arith)
+  on-list R (sealed u v) e k h ne p q = ne (omega arith)
   on-list R other e k h ne p q = ne (omega arith)
 
-  pub on-lump : (R : Form ml → Type 0) (f : Form ml) (k : Term sc → Became m) → R f → ((class f ≡ 3 → ⊥) → P o)
-      → ((v : Term sc) → R (sealed v) → P (k v)) → P (onLump f o k)
+  pub on-lump : (R : Form ml → Type 0) (f : Form ml) (k : ℕ → Term sc → Became m) → R f → ((class f ≡ 3 → ⊥) → P o)
+      → ((u : ℕ) (v : Term sc) → R (sealed u v) → P (k u v)) → P (onLump f o k)
   unfolding onLump
   on-lump R (number n) k h ne p = ne (omega arith)
   on-lump R (lambda t b) k h ne p = ne (omega arith)
   on-lump R (nilForm t) k h ne p = ne (omega arith)
   on-lump R (consForm v w) k h ne p = ne (omega arith)
-  on-lump R (sealed v) k h ne p = p v h
+  on-lump R (sealed u v) k h ne p = p u v h
   on-lump R other k h ne p = ne (omega arith)

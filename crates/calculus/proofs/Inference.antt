@@ -73,14 +73,14 @@ at-exactly l (x ∷ Γ) (suc i) = at-exactly l Γ i
 
 element-exactly : (l : Lang) (t : Static l) → Exactly (λ u. t ≡ lists l u) (element l t)
 element-exactly ml N = none-exactly (λ u q. cc)
-element-exactly ml L = none-exactly (λ u q. cc)
+element-exactly ml (L o) = none-exactly (λ u q. cc)
 element-exactly ml (list t) = record { right = λ u q. cc; whole = λ u q. cc }
 element-exactly ml (t to s) = none-exactly (λ u q. cc)
 element-exactly sc t = record { right = λ u q. refl; whole = λ u q. refl }
 
 sides-exactly : (l : Lang) (t : Static l) → Exactly (λ x. t ≡ functions l (x .0) (x .1)) (sides l t)
 sides-exactly ml N = none-exactly (λ x q. cc)
-sides-exactly ml L = none-exactly (λ x q. cc)
+sides-exactly ml (L o) = none-exactly (λ x q. cc)
 sides-exactly ml (list t) = none-exactly (λ x q. cc)
 sides-exactly ml (t to s) = record { right = λ x q. cc; whole = λ x q. let a : t ≡ x .0 = cc in let b : s ≡ x .1 = cc in rw (a, b) }
 sides-exactly sc t = record { right = λ x q. refl; whole = λ x q. refl }

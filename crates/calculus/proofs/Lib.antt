@@ -42,4 +42,5 @@ pub mod Demands
 pub mod Converting
 pub mod Reaching
 pub mod Conversions
+pub mod Owners
 pub mod Recipes

@@ -1,5 +1,6 @@
 -- The recipes that are proved: each computes. Assumes nothing.
 use mathlib.Core.Path.{refl}
+use native.Mathlib.Decide.{ℕ-discrete}
 use Rattle.calculus.specs.Words.{put, putTy, size, sizeTy}
 use Rattle.calculus.specs.Kinds.{rowFor}
 use Rattle.calculus.specs.Reading.{walk, inOrder, read, readTree}
@@ -8,11 +9,11 @@ use Rattle.calculus.specs.Reduction.{substitute, form, onNumber, onLambd
 use Rattle.calculus.specs.Reduction.{onNumbers, toML, toScheme, contract, fill, turn, step}
 use Rattle.calculus.specs.Run.{run}
 use Rattle.calculus.specs.File.{wordsOf, typed, checkWords, check, runIn, operate}
-use Rattle.calculus.specs.Recipes.{Starred, Classified, SavedBefore, Refused}
+use Rattle.calculus.specs.Recipes.{Starred, Classified, SavedBefore, Owned, Refused}
 
 pub starred : Starred
 unfolding operate runIn check checkWords typed wordsOf run step turn fill contract toScheme toML contract2 contract1 onNumbers answer amiss
-    onLump onList onLambda onNumber form substitute infer read readTree inOrder walk rowFor put putTy size sizeTy
+    onLump onList onLambda onNumber form substitute infer ℕ-discrete read readTree inOrder walk rowFor put putTy size sizeTy
 starred =
     record {
       sum = refl;
@@ -33,17 +34,30 @@ starred =
     }
 
 pub classified : Classified
-unfolding operate runIn check checkWords typed wordsOf run step turn fill contract toML contract2 amiss onNumber onLambda form infer read readTree
-    inOrder walk rowFor put putTy size sizeTy
+unfolding operate runIn check checkWords typed wordsOf run step turn fill contract toML contract2 amiss onNumber onLambda form infer ℕ-discrete read
+    readTree inOrder walk rowFor put putTy size sizeTy
 classified = record { failed-call = refl; failed-conversion = refl; own-step = refl }
 
 pub saved-before : SavedBefore
-unfolding operate runIn check checkWords typed wordsOf run step turn fill contract amiss onNumber form infer read readTree inOrder walk rowFor put
-    putTy size sizeTy
+unfolding operate runIn check checkWords typed wordsOf run step turn fill contract amiss onNumber form infer ℕ-discrete read readTree inOrder walk
+    rowFor put putTy size sizeTy
 saved-before = record { goes-on = refl }
 
+pub owned : Owned
+unfolding operate runIn check checkWords typed wordsOf run step turn fill contract toScheme toML contract2 onLump onLambda onNumber form substitute
+    infer ℕ-discrete read readTree inOrder walk rowFor put putTy size sizeTy
+owned =
+    record {
+      resealed = refl;
+      handed-over = refl;
+      declared-otherwise = refl;
+      last = refl;
+      larger-declared = refl;
+      larger-inside = refl;
+    }
+
 pub refused : Refused
-unfolding operate runIn check checkWords typed wordsOf infer read readTree inOrder walk rowFor size sizeTy
+unfolding operate runIn check checkWords typed wordsOf infer ℕ-discrete read readTree inOrder walk rowFor size sizeTy
 refused =
     record {
       empty-file = refl;

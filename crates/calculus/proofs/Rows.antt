@@ -11,7 +11,7 @@ use native.Mathlib.Omega.{arith}
 use native.Mathlib.Nat.{zero-max}
 use Rattle.calculus.specs.Trees.{ml, sc}
 use Rattle.calculus.specs.Words.{word, testNumber, put, putTy}
-use Rattle.calculus.specs.Limits.{InRange, nestingTy, nesting}
+use Rattle.calculus.specs.Limits.{InRangeTy, InRange, nestingTy, nesting}
 use Rattle.calculus.specs.Nodes.{TreeInRange}
 use Rattle.calculus.proofs.Verdicts.{found-some}
 use Rattle.calculus.specs.Kinds.{Sort, type, term, Tree, Trees, putTree, putTrees, Row, plain, testOf, table, rowIn, rowFor}
@@ -64,34 +64,34 @@ abbrev _also_ : {A B : Type 0} → A → B → A × B
 a also b = (a, b)
 
 laws : (s : Sort) → Laws (table s)
-unfolding put putTy InRange nesting nestingTy
+unfolding put putTy InRange InRangeTy nesting nestingTy
 laws type =
     plainly (λ ts ks. refl) (λ ts h. tt) (λ ts. refl)
-    also plainly (λ ts ks. refl) (λ ts h. tt) (λ ts. refl)
-    also plainly (λ ts ks. refl) (λ ts h. tt) (λ ts. refl)
-    also plainly (λ ts ks. refl) (λ ts h. tt) (λ ts. refl)
+    also record { made = λ o lo hi ts. record { spelt = λ ks. refl; ranged = λ h. hi; nested = refl } }
+    also plainly (λ ts ks. refl) (λ ts h. h .0) (λ ts. refl)
+    also plainly (λ ts ks. refl) (λ ts h. (h .0, h .1 .0)) (λ ts. refl)
     also tt
 laws (term ml) =
     record { made = λ o lo hi ts. record { spelt = λ ks. refl; ranged = λ h. hi; nested = refl } }
     also record { made = λ o lo hi ts. record { spelt = λ ks. refl; ranged = λ h. hi; nested = refl } }
-    also plainly (λ ts ks. refl) (λ ts h. h .1 .0) (λ ts. refl)
+    also plainly (λ ts ks. refl) (λ ts h. (h .0, h .1 .0)) (λ ts. refl)
     also plainly (λ ts ks. refl) (λ ts h. (h .0, h .1 .0)) (λ ts. refl)
     also plainly (λ ts ks. refl) (λ ts h. h .0) (λ ts. refl)
     also plainly (λ ts ks. refl) (λ ts h. (h .0, h .1 .0)) (λ ts. refl)
     also plainly (λ ts ks. refl) (λ ts h. (h .0, h .1 .0)) (λ ts. refl)
     also plainly (λ ts ks. refl) (λ ts h. (h .0, h .1 .0, h .1 .1 .0)) (λ ts. refl)
-    also plainly (λ ts ks. refl) (λ ts h. tt) (λ ts. refl)
+    also plainly (λ ts ks. refl) (λ ts h. h .0) (λ ts. refl)
     also plainly (λ ts ks. refl) (λ ts h. (h .0, h .1 .0)) (λ ts. refl)
     also plainly (λ ts ks. refl) (λ ts h. h .0) (λ ts. refl)
     also plainly (λ ts ks. refl) (λ ts h. h .0) (λ ts. refl)
     also plainly (λ ts ks. refl) (λ ts h. h .0) (λ ts. refl)
-    also record { made = λ o lo hi ts. record { spelt = λ ks. refl; ranged = λ h. (lo, hi); nested = refl } }
-    also plainly (λ ts ks. refl) (λ ts h. h .1 .0) (λ ts. refl)
+    also record { made = λ o lo hi ts. record { spelt = λ ks. refl; ranged = λ h. (lo, hi, h .0); nested = refl } }
+    also plainly (λ ts ks. refl) (λ ts h. (h .0, h .1 .0)) (λ ts. refl)
     also tt
 laws (term sc) =
     record { made = λ o lo hi ts. record { spelt = λ ks. refl; ranged = λ h. hi; nested = refl } }
     also record { made = λ o lo hi ts. record { spelt = λ ks. refl; ranged = λ h. hi; nested = refl } }
-    also plainly (λ ts ks. refl) (λ ts h. h .0) (λ ts. ap suc (zero-max _))
+    also plainly (λ ts ks. refl) (λ ts h. (tt, h .0)) (λ ts. ap suc (zero-max _))
     also plainly (λ ts ks. refl) (λ ts h. (h .0, h .1 .0)) (λ ts. refl)
     also plainly (λ ts ks. refl) (λ ts h. (h .0, h .1 .0)) (λ ts. refl)
     also plainly (λ ts ks. refl) (λ ts h. (h .0, h .1 .0)) (λ ts. refl)
@@ -101,8 +101,8 @@ laws (term sc) =
     also plainly (λ ts ks. refl) (λ ts h. h .0) (λ ts. refl)
     also plainly (λ ts ks. refl) (λ ts h. h .0) (λ ts. refl)
     also record { made = λ o lo hi ts. record { spelt = λ ks. rw (test-number o hi); ranged = λ h. h .0; nested = refl } }
-    also record { made = λ o lo hi ts. record { spelt = λ ks. refl; ranged = λ h. (lo, hi); nested = refl } }
-    also plainly (λ ts ks. refl) (λ ts h. h .1 .0) (λ ts. refl)
+    also record { made = λ o lo hi ts. record { spelt = λ ks. refl; ranged = λ h. (lo, hi, tt); nested = refl } }
+    also plainly (λ ts ks. refl) (λ ts h. (h .0, h .1 .0)) (λ ts. refl)
     also tt
 
 -- The law of the row at a kind.

@@ -14,7 +14,7 @@ use Rattle.calculus.specs.Kinds.{Sort, type, term, Tree, Trees, putTree,
 pub putTy-append : (t : Ty) (j k : List ℕ) → putTy t (j ++ k) ≡ putTy t j ++ k
 unfolding putTy
 putTy-append N j k = refl
-putTy-append L j k = refl
+putTy-append (L o) j k = refl
 putTy-append (list t) j k = rw (putTy-append t j k)
 putTy-append (t to u) j k = rw (putTy-append u j k, putTy-append t (putTy u j) k)
 
@@ -39,7 +39,7 @@ put-append (sm t a) j k = rw (put-append a j k, putTy-append t (put a j) k)
 length-putTy : (t : Ty) (k : List ℕ) → length (putTy t k) ≡ sizeTy t + length k
 unfolding putTy sizeTy
 length-putTy N k = omega arith
-length-putTy L k = omega arith
+length-putTy (L o) k = omega arith
 length-putTy (list t) k = omega (arith, length-putTy t k)
 length-putTy (t to u) k = omega (arith, length-putTy t (putTy u k), length-putTy u k)
 

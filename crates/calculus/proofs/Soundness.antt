@@ -4,6 +4,7 @@ use mathlib.Core.Bool.{Bool, true, false, cond}
 use mathlib.Core.List.{[], _∷_}
 use mathlib.Core.Path.{_≡_, refl, _∙_}
 use lib.Dec.{eqb, leb}
+use borrow.Author.Tests.{eq-eqb}
 use Rattle.calculus.specs.Trees.{Ty, N, L, list, _to_, Lang, ml, sc, Static, numbers, lists, functions, Op1, HD, TL, FIX, NULL?, TEST, Op2, APP}
 use Rattle.calculus.specs.Trees.{ADD, SUB, CONS, Term, var, num, lam, op1, op2, if0, nil, wrong, ms, sm, cons, fix}
 use Rattle.calculus.specs.Words.{largest}
@@ -21,7 +22,7 @@ FormTyped (number {l} n) τ = τ ≡ numbers l
 FormTyped (lambda t b) τ = Typed [] (lam t b) τ
 FormTyped (nilForm {l} t) τ = τ ≡ lists l t
 FormTyped (consForm v w) τ = Typed [] (cons v w) τ
-FormTyped (sealed v) τ = Typed [] (ms L v) τ
+FormTyped (sealed o v) τ = Typed [] (ms (L o) v) τ
 FormTyped other τ = ⊥
 
 -- Canonical forms: the class of an ML value is that of its type.
@@ -29,14 +30,14 @@ abbrev classTy : Ty → ℕ
 classTy N = 0
 classTy (t to u) = 1
 classTy (list t) = 2
-classTy L = 3
+classTy (L o) = 3
 
 canonical : (f : Form ml) (τ : Ty) → FormTyped f τ → class f ≡ classTy τ
 canonical (number n) τ h = rw h
 canonical (lambda t b) τ h = rw (h .2)
 canonical (nilForm t) τ h = rw h
 canonical (consForm v w) τ h = rw (h .4 .1)
-canonical (sealed v) τ h = rw (h .1)
+canonical (sealed o v) τ h = rw (h .1)
 canonical other τ h = absurd h
 
 -- What is asked of Scheme alone: there a value may be of any class.
@@ -95,9 +96,12 @@ module _ {l m : Lang} (τ : Static m) (f : Form l) (o : Became m) (s : InScheme 
       (λ u q. rw (lists-inj l t u q) p)
       (λ v w q. let i = lists-inj l t (q .0) (q .4 .1) in r v w (rw i at (q .2)) (rw (q .4 .0, i) at (q .3)))
 
-by-lump : (f : Form ml) (k : Term sc → Became sc) → FormTyped f L → ((v : Term sc) → Typed [] v tt → Preserved tt (k v))
+-- A value of an owner's L is an ms at that same owner's L.
+by-lump : (o : ℕ) (f : Form ml) (k : ℕ → Term sc → Became sc) → FormTyped f (L o) → ((v : Term sc) → Typed [] v tt → Preserved tt (k o v))
     → Preserved tt (onLump f nothing k)
-by-lump f k h p = on-lump (Preserved tt) nothing (λ f. FormTyped f L) f k h (otherwise ml f L 3 h refl tt) (λ v q. p v (q .0))
+by-lump o f k h p =
+    on-lump (Preserved tt) nothing (λ f. FormTyped f (L o)) f k h (otherwise ml f (L o) 3 h refl tt)
+    (λ u v q. let e : o ≡ u = cc (q .1) in rw (← e) (p v (q .0)))
 
 amiss-typed : (l : Lang) (τ : Static l) (c : ℕ) → InScheme l (Preserved τ (amiss l c))
 unfolding amiss
@@ -128,7 +132,7 @@ numbers-typed l τ v w k f g p =
 toScheme-typed : (t : Ty) (v : Term ml) → Typed [] v t → FormTyped (form v) t → Preserved tt (toScheme t v)
 unfolding toScheme
 toScheme-typed N v h f = by-number {l = ml} tt (form v) _ tt _ f (λ n. refl)
-toScheme-typed L v h f = by-lump (form v) _ f (λ w p. p)
+toScheme-typed (L o) v h f = by-lump o (form v) _ f (λ w p. rw (eq-eqb o o refl) p)
 toScheme-typed (list t) v h f = by-list {l = ml} tt (form v) _ tt t _ _ f refl (λ a b p q. (tt, tt, p, q, (refl, refl)))
 toScheme-typed (t to u) v h f =
     by-lambda {l = ml} tt (form v) _ tt t u _ f (λ b p. (tt, (t to u, t, weaken [] (of sc tt ∷ []) v (t to u) h, (refl, refl), refl), refl))
@@ -163,7 +167,7 @@ op2-placed l CONS a b τ t u h k r f g = (t, u, h, k, r)
 ms-placed : (t : Ty) (a : Term sc) → Typed [] a tt → FormTyped (form a) tt → Placed (ms t a) t (own (isLump t) (ms t a))
 unfolding form contract toML
 ms-placed N a h f = own-placed (ms N a) N (by-number {l = sc} N (form a) _ refl _ f (λ n. refl))
-ms-placed L a h f = (h, refl)
+ms-placed (L o) a h f = (h, refl)
 ms-placed (list t) a h f =
     own-placed (ms (list t) a) (list t)
     (by-list {l = sc} (list t) (form a) _ refl tt _ _ f refl (λ v w p q. (t, list t, (p, refl), (q, refl), (refl, refl))))

@@ -9,7 +9,7 @@ use Rattle.calculus.specs.Trees.{ms, sm}
 use Rattle.calculus.specs.Reduction.{isLump, isCons, isValue, done, turn}
 use Rattle.calculus.specs.Rules.{Value, lamV, numV, nilV, consV, lumpV}
 
--- An operator's node with values for parts is a value if the operator is cons; ms of a value, if the type is L.
+-- An operator's node with values for parts is a value if the operator is cons; ms of a value, if the type is an owner's L.
 pub cons-value : {l : Lang} (o : Op2) {a b : Term l} → T (isCons o) → Value l a → Value l b → Value l (op2 o a b)
 cons-value APP h v w = absurd h
 cons-value ADD h v w = absurd h
@@ -18,7 +18,7 @@ cons-value CONS h v w = consV v w
 
 pub lump-value : (t : Ty) {a : Term sc} → T (isLump t) → Value sc a → Value ml (ms t a)
 lump-value N h v = absurd h
-lump-value L h v = lumpV v
+lump-value (L o) h v = lumpV v
 lump-value (list t) h v = absurd h
 lump-value (t to u) h v = absurd h
 

@@ -12,7 +12,7 @@ use native.Mathlib.Omega.{arith}
 use Rattle.calculus.specs.Trees.{Ty, N, L, list, _to_, Lang, ml, sc, isFun, isList, isNull, isNum, HD, TL, FIX, NULL?, TEST, APP, ADD, SUB}
 use Rattle.calculus.specs.Trees.{CONS, Term, var, num, lam, op1, op2, if0, nil, wrong, ms, sm}
 use Rattle.calculus.specs.Words.{word, put, putTy}
-use Rattle.calculus.specs.Limits.{InRange}
+use Rattle.calculus.specs.Limits.{InRangeTy, InRange}
 use Rattle.calculus.specs.Scope.{lambdaAt, Scoped}
 use Rattle.calculus.specs.Kinds.{Sort, type, term, Tree, Trees, putTree, putTrees, Row, table, rowIn, sortOfKind, sortOf, sizeTree, sizeTrees}
 use Rattle.calculus.proofs.Sizes.{tree-length, trees-length}
@@ -100,35 +100,35 @@ pub fixed : {A : Type 0} → A → (0 ≤ 0) × (0 ≤ 0) × A
 fixed a = (omega arith, omega arith, a)
 
 unfoldable pub view-type : (t : Ty) → View type t
-unfolding putTy
+unfolding putTy InRangeTy
 view-type N = seen 1 0 tt refl tt refl (λ ks. refl) (λ h. fixed tt) (λ Γ. bound no-part)
-view-type L = seen 2 0 tt refl tt refl (λ ks. refl) (λ h. fixed tt) (λ Γ. bound no-part)
-view-type (list t) = seen 3 0 (t, tt) refl tt refl (λ ks. refl) (λ h. fixed (tt, tt)) (λ Γ. bound one-part)
-view-type (t to u) = seen 4 0 (t, (u, tt)) refl tt refl (λ ks. refl) (λ h. fixed (tt, (tt, tt))) (λ Γ. bound typed-part)
+view-type (L o) = seen 2 o tt refl tt refl (λ ks. refl) (λ h. (omega arith, h, tt)) (λ Γ. bound no-part)
+view-type (list t) = seen 3 0 (t, tt) refl tt refl (λ ks. refl) (λ h. fixed (h, tt)) (λ Γ. bound one-part)
+view-type (t to u) = seen 4 0 (t, (u, tt)) refl tt refl (λ ks. refl) (λ h. fixed (two-parts .0 h)) (λ Γ. bound typed-part)
 
 unfoldable pub view-ml : (e : Term ml) → View (term ml) e
 unfolding put InRange
 view-ml (var i) = seen 16 i tt refl tt refl (λ ks. refl) (λ h. (omega arith, h, tt)) (λ Γ. free-iff (lambdaAt Γ i ml))
 view-ml (num n) = seen 17 n tt refl tt refl (λ ks. refl) (λ h. (omega arith, h, tt)) (λ Γ. bound no-part)
-view-ml (lam t b) = seen 18 0 (t, (b, tt)) refl tt refl (λ ks. refl) (λ h. fixed (tt, (h, tt))) (λ Γ. bound typed-part)
+view-ml (lam t b) = seen 18 0 (t, (b, tt)) refl tt refl (λ ks. refl) (λ h. fixed (two-parts .0 h)) (λ Γ. bound typed-part)
 view-ml (op2 APP a b) = seen 19 0 (a, (b, tt)) refl tt refl (λ ks. refl) (λ h. fixed (two-parts .0 h)) (λ Γ. bound two-parts)
 view-ml (op1 FIX a) = seen 20 0 (a, tt) refl tt refl (λ ks. refl) (λ h. fixed (h, tt)) (λ Γ. bound one-part)
 view-ml (op2 ADD a b) = seen 21 0 (a, (b, tt)) refl tt refl (λ ks. refl) (λ h. fixed (two-parts .0 h)) (λ Γ. bound two-parts)
 view-ml (op2 SUB a b) = seen 22 0 (a, (b, tt)) refl tt refl (λ ks. refl) (λ h. fixed (two-parts .0 h)) (λ Γ. bound two-parts)
 view-ml (if0 a b c) = seen 23 0 (a, (b, (c, tt))) refl tt refl (λ ks. refl) (λ h. fixed (three-parts .0 h)) (λ Γ. bound three-parts)
-view-ml (nil t) = seen 24 0 (t, tt) refl tt refl (λ ks. refl) (λ h. fixed (tt, tt)) (λ Γ. bound one-part)
+view-ml (nil t) = seen 24 0 (t, tt) refl tt refl (λ ks. refl) (λ h. fixed (h, tt)) (λ Γ. bound one-part)
 view-ml (op2 CONS a b) = seen 25 0 (a, (b, tt)) refl tt refl (λ ks. refl) (λ h. fixed (two-parts .0 h)) (λ Γ. bound two-parts)
 view-ml (op1 HD a) = seen 26 0 (a, tt) refl tt refl (λ ks. refl) (λ h. fixed (h, tt)) (λ Γ. bound one-part)
 view-ml (op1 TL a) = seen 27 0 (a, tt) refl tt refl (λ ks. refl) (λ h. fixed (h, tt)) (λ Γ. bound one-part)
 view-ml (op1 NULL? a) = seen 28 0 (a, tt) refl tt refl (λ ks. refl) (λ h. fixed (h, tt)) (λ Γ. bound one-part)
-view-ml (wrong c t) = seen 29 c (t, tt) refl tt refl (λ ks. refl) (λ h. (h .0, h .1, (tt, tt))) (λ Γ. bound one-part)
-view-ml (ms t a) = seen 30 0 (t, (a, tt)) refl tt refl (λ ks. refl) (λ h. fixed (tt, (h, tt))) (λ Γ. bound typed-part)
+view-ml (wrong c t) = seen 29 c (t, tt) refl tt refl (λ ks. refl) (λ h. (h .0, h .1, (h .2, tt))) (λ Γ. bound one-part)
+view-ml (ms t a) = seen 30 0 (t, (a, tt)) refl tt refl (λ ks. refl) (λ h. fixed (two-parts .0 h)) (λ Γ. bound typed-part)
 
 unfoldable pub view-sc : (e : Term sc) → View (term sc) e
 unfolding put InRange
 view-sc (var i) = seen 32 i tt refl tt refl (λ ks. refl) (λ h. (omega arith, h, tt)) (λ Γ. free-iff (lambdaAt Γ i sc))
 view-sc (num n) = seen 33 n tt refl tt refl (λ ks. refl) (λ h. (omega arith, h, tt)) (λ Γ. bound no-part)
-view-sc (lam t b) = seen 34 0 (b, tt) refl tt refl (λ ks. refl) (λ h. fixed (h, tt)) (λ Γ. bound one-part)
+view-sc (lam t b) = seen 34 0 (b, tt) refl tt refl (λ ks. refl) (λ h. fixed (h .1, tt)) (λ Γ. bound one-part)
 view-sc (op2 APP a b) = seen 35 0 (a, (b, tt)) refl tt refl (λ ks. refl) (λ h. fixed (two-parts .0 h)) (λ Γ. bound two-parts)
 view-sc (op2 ADD a b) = seen 36 0 (a, (b, tt)) refl tt refl (λ ks. refl) (λ h. fixed (two-parts .0 h)) (λ Γ. bound two-parts)
 view-sc (op2 SUB a b) = seen 37 0 (a, (b, tt)) refl tt refl (λ ks. refl) (λ h. fixed (two-parts .0 h)) (λ Γ. bound two-parts)
@@ -142,7 +142,7 @@ view-sc (op1 (TEST isList) a) = seen 43 1 (a, tt) refl tt refl (λ ks. refl) (λ
 view-sc (op1 (TEST isNull) a) = seen 43 2 (a, tt) refl tt refl (λ ks. refl) (λ h. (omega arith, omega arith, (h, tt))) (λ Γ. bound one-part)
 view-sc (op1 (TEST isNum) a) = seen 43 3 (a, tt) refl tt refl (λ ks. refl) (λ h. (omega arith, omega arith, (h, tt))) (λ Γ. bound one-part)
 view-sc (wrong c t) = seen 44 c tt refl tt refl (λ ks. refl) (λ h. (h .0, h .1, tt)) (λ Γ. bound no-part)
-view-sc (sm t a) = seen 45 0 (t, (a, tt)) refl tt refl (λ ks. refl) (λ h. fixed (tt, (h, tt))) (λ Γ. bound typed-part)
+view-sc (sm t a) = seen 45 0 (t, (a, tt)) refl tt refl (λ ks. refl) (λ h. fixed (two-parts .0 h)) (λ Γ. bound typed-part)
 
 unfoldable pub view : (s : Sort) (t : Tree s) → View s t
 view type t = view-type t

@@ -5,7 +5,7 @@ use mathlib.Core.Path.{_≡_}
 use lib.ListN.{length}
 use Rattle.calculus.specs.Trees.{Ty, ml, Term}
 use Rattle.calculus.specs.Words.{putTy, words, size, sizeTy}
-use Rattle.calculus.specs.Limits.{InRange, nestingTy, nesting}
+use Rattle.calculus.specs.Limits.{InRangeTy, InRange, nestingTy, nesting}
 use Rattle.calculus.specs.Scope.{Scoped}
 use Rattle.calculus.specs.Typing.{Typed}
 use Rattle.calculus.specs.File.{wordsOf}
@@ -25,6 +25,8 @@ pub record Accepted (bytes : List ℕ) (τ : Ty) (e : Term ml) : Type 0 where
   -- "Nesting is at most 256"
   pub nestsTy : nestingTy τ ≤ 256
   pub nests : nesting e ≤ 256
+  -- the owners, numbers, codes and variables
+  pub rangedTy : InRangeTy τ
   pub ranged : InRange e
   pub closed : Scoped [] e
   pub typed : Typed [] e τ

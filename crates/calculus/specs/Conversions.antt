@@ -18,14 +18,14 @@ use Rattle.calculus.specs.Endings.{Ends}
 -- A type of data has no function type in it; what a lump seals may be any Scheme value.
 abbrev pub Data : Ty → Type 0
 Data N = Unit {0}
-Data L = Unit {0}
+Data (L o) = Unit {0}
 Data (list t) = Data t
 Data (t to u) = ⊥
 
--- A Scheme value fits a type: a number N; every value L; nil, and cons of what fits t and what fits {t}, {t}; a lambda t to u.
+-- A Scheme value fits a type: a number N; every value an owner's L; nil, and cons of what fits t and what fits {t}, {t}; a lambda t to u.
 pub data Fits : Ty → Term sc → Type 0 where
   number : {n : ℕ} → Fits N (num n)
-  anything : {v : Term sc} → Value sc v → Fits L v
+  anything : {o : ℕ} {v : Term sc} → Value sc v → Fits (L o) v
   fits-nil : {t : Ty} → Fits (list t) (nil tt)
   fits-cons : {t : Ty} {v w : Term sc} → Fits t v → Fits (list t) w → Fits (list t) (cons v w)
   function : {t u : Ty} {b : Term sc} → Fits (t to u) (lam tt b)
@@ -41,7 +41,7 @@ misfit N lamV = some 1
 misfit N numV = none
 misfit N nilV = some 1
 misfit N (consV a b) = some 1
-misfit L h = none
+misfit (L o) h = none
 misfit (list t) lamV = some 3
 misfit (list t) numV = some 3
 misfit (list t) nilV = none
@@ -54,7 +54,7 @@ misfit (t to u) (consV a b) = some 2
 -- The steps of a value's way there and back at a type: one at L, and two for each number, nil and cons.
 unfoldable pub crossing : {l : Lang} → Ty → Term l → ℕ
 crossing N v = 2
-crossing L v = 1
+crossing (L o) v = 1
 crossing (list t) (var i) = 2
 crossing (list t) (num n) = 2
 crossing (list t) (lam s b) = 2
@@ -70,7 +70,7 @@ crossing (t to u) v = 2
 -- The most words that boundaries take in a term while a value crosses: its own, and one at the tail of each list around the part that crosses.
 unfoldable pub boundaries : Ty → ℕ
 boundaries N = 2
-boundaries L = 2
+boundaries (L o) = 2
 boundaries (list t) = suc (sizeTy (list t)) + boundaries t
 boundaries (t to u) = suc (sizeTy (t to u))
 
@@ -117,11 +117,11 @@ pub record Leaves (t : Ty) (v : Term ml) : Type 0 where
   -- all steps there and back are conversions
   pub alone : (n : ℕ) (r : Term ml) (p : Steps n (ms t (sm t v)) r) → counts p ≡ allConversions n
 
--- A Scheme value under a seal is an ML value as it stands, whatever it is. No step of ML opens it; one step in Scheme takes the seal off.
-pub record Seals (v : Term sc) : Type 0 where
-  pub sealed : Value ml (ms L v)
-  pub closed : (r : Term ml) → ¬ (ms L v ⟶ r)
-  pub unsealed : Steps 1 (sm L (ms L v)) v
+-- A Scheme value under an owner's seal is an ML value as it stands, whatever it is. No step of ML opens it; one step in Scheme takes the seal off.
+pub record Seals (o : ℕ) (v : Term sc) : Type 0 where
+  pub sealed : Value ml (ms (L o) v)
+  pub closed : (r : Term ml) → ¬ (ms (L o) v ⟶ r)
+  pub unsealed : Steps 1 (sm (L o) (ms (L o) v)) v
 
 -- The ML lambda that a Scheme lambda becomes.
 abbrev pub wrapper : Ty → Ty → Term sc → Term ml
@@ -144,6 +144,6 @@ pub record Conversions : Type 0 where
   pub survives : (t : Ty) → Data t → Survives t
   pub crosses : (t : Ty) {v : Term sc} (h : Value sc v) → Typed [] v tt → Crosses t h
   pub leaves : (t : Ty) (v : Term ml) → Value ml v → Typed [] v t → Leaves t v
-  pub seals : (v : Term sc) → Value sc v → Typed [] v tt → Seals v
+  pub seals : (o : ℕ) (v : Term sc) → Value sc v → Typed [] v tt → Seals o v
   pub wraps : (t u : Ty) (b : Term sc) → Typed [] (lam tt b) tt → Wraps t u b
   pub functions : Functions

@@ -39,14 +39,14 @@ typeAt l (x ∷ Γ) (suc i) = typeAt l Γ i
 -- What a type is made of: t of {t}; t and u of t to u. In Scheme anything serves as a list and as a function.
 abbrev pub element : (l : Lang) → Static l → Option (Static l)
 element ml N = none
-element ml L = none
+element ml (L o) = none
 element ml (list t) = some t
 element ml (t to u) = none
 element sc t = some tt
 
 abbrev pub sides : (l : Lang) → Static l → Option (Static l × Static l)
 sides ml N = none
-sides ml L = none
+sides ml (L o) = none
 sides ml (list t) = none
 sides ml (t to u) = some (t, u)
 sides sc t = some (tt, tt)

@@ -6,7 +6,7 @@ use mathlib.Core.Option.{Option, none, some}
 use lib.Dec.{eqb, leb}
 use Rattle.calculus.specs.Trees.{Ty, N, L, list, _to_, Lang, ml, sc, Test, isFun, isList, isNull, isNum, Term, var, num, lam, if0, nil, wrong}
 use Rattle.calculus.specs.Trees.{ms, sm, app, add, sub, cons, hd, tl, fix, null?, test}
-use Rattle.calculus.specs.Words.{largest, lastCode, put, putTy, size, sizeTy}
+use Rattle.calculus.specs.Words.{largest, lastCode, lastOwner, put, putTy, size, sizeTy}
 use Rattle.calculus.specs.Verdicts.{found}
 
 -- What may be due at a word: a type, or a term of a language.
@@ -66,7 +66,7 @@ testOf (suc (suc (suc n))) = isNum
 abbrev pub table : (s : Sort) → List (Row s)
 table type =
     plain 1 [] (λ ts. N)
-    ∷ plain 2 [] (λ ts. L)
+    ∷ ranged 2 0 lastOwner [] (λ o ts. L o)
     ∷ plain 3 (type ∷ []) (λ ts. list (ts .0))
     ∷ plain 4 (type ∷ type ∷ []) (λ ts. ts .0 to ts .1 .0)
     ∷ []

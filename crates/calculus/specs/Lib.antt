@@ -21,6 +21,7 @@ pub mod Run
 pub mod Counting
 pub mod Endings
 pub mod Conversions
+pub mod Owners
 pub mod File
 pub mod Accepted
 pub mod Demands

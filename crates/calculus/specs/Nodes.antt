@@ -7,14 +7,14 @@ use mathlib.Core.Logic.{_↔_}
 use mathlib.Core.Path.{_≡_}
 use lib.Dec.{eqb}
 use lib.ListN.{length, getD, drop}
-use Rattle.calculus.specs.Limits.{InRange}
+use Rattle.calculus.specs.Limits.{InRangeTy, InRange}
 use Rattle.calculus.specs.Kinds.{Sort, type, term, Tree, putTree, sizeTree, rowFor, sortOf}
 use Rattle.calculus.specs.Verdicts.{found}
 use Rattle.calculus.specs.Reading.{nodeAt}
 
 -- The operands of a tree of any sort are in their ranges.
 abbrev pub TreeInRange : (s : Sort) → Tree s → Type 0
-TreeInRange type t = Unit {0}
+TreeInRange type t = InRangeTy t
 TreeInRange (term l) e = InRange e
 
 -- "A whole node starts with a word of any tree kind and has due kinds and operands throughout; scope, type and nesting don't matter to it, and a

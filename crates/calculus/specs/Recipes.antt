@@ -1,5 +1,6 @@
 -- Document 01, "Recipes tried by hand": those with a star, and the small inputs of the table of refusals, from the file's bytes to the
--- result; three recipes that tell classes of steps apart; and one that an earlier engine saved. proofs/Recipes.antt proves them all.
+-- result; three recipes that tell classes of steps apart; one that an earlier engine saved; and six with lumps of owners. proofs/Recipes.antt
+-- proves them all.
 use Prim.Native.Nat.{ℕ}
 use mathlib.Core.List.{List, [], _∷_, _++_}
 use mathlib.Core.Path.{_≡_}
@@ -76,6 +77,22 @@ pub record SavedBefore : Type 0 where
   pub goes-on : EndsAs
       (fileOf (1 ∷ []) (21 ∷ 3089 ∷ 30 ∷ 1 ∷ 38 ∷ 40 ∷ 1313 ∷ 39 ∷ 33 ∷ 36 ∷ 41 ∷ 40 ∷ 1313 ∷ 39 ∷ 289 ∷ []))
       plenty error 1 (counting 2 0 0 2) [] 0
+
+-- Document 02, "Lumps with owners". ms N (sm L9 ((fn L9 v0) applied to e)): the function takes owner 9's lumps.
+abbrev pub takenBy9 : List ℕ → List ℕ
+takenBy9 e = 30 ∷ 1 ∷ 45 ∷ 2306 ∷ 19 ∷ 18 ∷ 2306 ∷ 16 ∷ e
+
+pub record Owned : Type 0 where
+  -- "A Scheme script may still unseal a value and have it sealed for another owner": e is ms L9 (sm L7 (ms L7 4)), value 4, 4 steps
+  pub resealed : EndsAs (fileOf (1 ∷ []) (takenBy9 (30 ∷ 2306 ∷ 45 ∷ 1794 ∷ 30 ∷ 1794 ∷ 1057 ∷ []))) plenty
+      valued 0 (counting 4 1 3 0) (1041 ∷ []) 0
+  -- Owner 7's lump is not owner 9's: e is ms L7 4; and ms L7 4 at the declared type L9
+  pub handed-over : Refuses (fileOf (1 ∷ []) (takenBy9 (30 ∷ 1794 ∷ 1057 ∷ []))) plenty 6 0
+  pub declared-otherwise : Refuses (fileOf (2306 ∷ []) (30 ∷ 1794 ∷ 1057 ∷ [])) plenty 7 0
+  -- "an owner, 0 to 255 .. A larger owner is refusal 3": ms L255 4 is a value; 256 declared, and at the ms
+  pub last : EndsAs (fileOf (65282 ∷ []) (30 ∷ 65282 ∷ 1057 ∷ [])) plenty valued 0 (counting 0 0 0 0) (30 ∷ 65282 ∷ 1057 ∷ []) 0
+  pub larger-declared : Refuses (fileOf (65538 ∷ []) (30 ∷ 65538 ∷ 1057 ∷ [])) plenty 3 4
+  pub larger-inside : Refuses (fileOf (65282 ∷ []) (30 ∷ 65538 ∷ 1057 ∷ [])) plenty 3 6
 
 -- The small inputs of the table of refusals, fn N (ms N v0) with Scheme v0, and "3 before 4 at a word".
 pub record Refused : Type 0 where

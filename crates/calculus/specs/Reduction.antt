@@ -27,10 +27,11 @@ substitute v k (wrong c t) = wrong c t
 substitute v k (ms t a) = ms t (substitute v k a)
 substitute v k (sm t a) = sm t (substitute v k a)
 
--- "ML values: lambda, number, nil, cons of two values, ms L of a Scheme value. Scheme values: lambda, number, nil, cons of two values."
+-- "ML values: lambda, number, nil, cons of two values, ms L of a Scheme value. Scheme values: lambda, number, nil, cons of two values." The L is any
+-- owner's.
 abbrev pub isLump : Ty → Bool
 isLump N = false
-isLump L = true
+isLump (L o) = true
 isLump (list t) = false
 isLump (t to u) = false
 
@@ -52,13 +53,13 @@ isValue (wrong c t) = false
 isValue (ms t a) = isLump t && isValue a
 isValue (sm t a) = false
 
--- A value by its form; `sealed v` is ms L of v.
+-- A value by its form; `sealed o v` is ms at the owner o's L of v.
 pub data Form : Lang → Type 0 where
   number : {l : Lang} → ℕ → Form l
   lambda : {l : Lang} → Static l → Term l → Form l
   nilForm : {l : Lang} → Static l → Form l
   consForm : {l : Lang} → Term l → Term l → Form l
-  sealed : Term sc → Form ml
+  sealed : ℕ → Term sc → Form ml
   other : {l : Lang} → Form l
 
 abbrev pub op2Form : {l : Lang} → Op2 → Term l → Term l → Form l
@@ -69,7 +70,7 @@ op2Form CONS a b = consForm a b
 
 abbrev pub msForm : Ty → Term sc → Form ml
 msForm N a = other
-msForm L a = sealed a
+msForm (L o) a = sealed o a
 msForm (list t) a = other
 msForm (t to u) a = other
 
@@ -97,7 +98,7 @@ onNumber (number n) o k = k n
 onNumber (lambda t b) o k = o
 onNumber (nilForm t) o k = o
 onNumber (consForm v w) o k = o
-onNumber (sealed v) o k = o
+onNumber (sealed u v) o k = o
 onNumber other o k = o
 
 unfoldable pub onLambda : {l m : Lang} → Form l → Became m → (Static l → Term l → Became m) → Became m
@@ -105,7 +106,7 @@ onLambda (number n) o k = o
 onLambda (lambda t b) o k = k t b
 onLambda (nilForm t) o k = o
 onLambda (consForm v w) o k = o
-onLambda (sealed v) o k = o
+onLambda (sealed u v) o k = o
 onLambda other o k = o
 
 unfoldable pub onList : {l m : Lang} → Form l → Became m → (Static l → Became m) → (Term l → Term l → Became m) → Became m
@@ -113,15 +114,15 @@ onList (number n) o e k = o
 onList (lambda t b) o e k = o
 onList (nilForm t) o e k = e t
 onList (consForm v w) o e k = k v w
-onList (sealed v) o e k = o
+onList (sealed u v) o e k = o
 onList other o e k = o
 
-unfoldable pub onLump : {m : Lang} → Form ml → Became m → (Term sc → Became m) → Became m
+unfoldable pub onLump : {m : Lang} → Form ml → Became m → (ℕ → Term sc → Became m) → Became m
 onLump (number n) o k = o
 onLump (lambda t b) o k = o
 onLump (nilForm t) o k = o
 onLump (consForm v w) o k = o
-onLump (sealed v) o k = k v
+onLump (sealed u v) o k = k u v
 onLump other o k = o
 
 -- A value that no rule takes: in Scheme a wrong; in ML no value of a term that has a type is one.
@@ -178,15 +179,19 @@ contract2 l CONS v w = nothing
 -- applied to sm t of the new variable; of another value, wrong 2."
 unfoldable pub toML : Ty → Term sc → Became ml
 toML N v = onNumber (form v) (becomes (wrong 1 N)) (λ n. becomes (num n))
-toML L v = nothing
+toML (L o) v = nothing
 toML (list t) v = onList (form v) (becomes (wrong 3 (list t))) (λ u. becomes (nil t)) (λ a b. becomes (cons (ms t a) (ms (list t) b)))
 toML (t to u) v = onLambda (form v) (becomes (wrong 2 (t to u))) (λ s b. becomes (lam t (ms u (app v (sm t (var 0))))))
+
+-- Document 02, "sm at an owner's L takes an ms at that same owner's L": what the owner u has sealed, at the owner o's.
+abbrev pub opened : ℕ → ℕ → Term sc → Became sc
+opened o u v = cond (eqb o u) (becomes v) nothing
 
 -- "sm N of a number becomes that number. sm {t} of nil becomes the Scheme nil; of cons v w, cons of sm t v and sm {t} w. sm at t to u of a
 -- lambda becomes a new Scheme lambda, whose body is sm u of the old lambda applied to ms t of the new variable. sm L of ms L v becomes v."
 unfoldable pub toScheme : Ty → Term ml → Became sc
 toScheme N v = onNumber (form v) nothing (λ n. becomes (num n))
-toScheme L v = onLump (form v) nothing becomes
+toScheme (L o) v = onLump (form v) nothing (opened o)
 toScheme (list t) v = onList (form v) nothing (λ u. becomes (nil tt)) (λ a b. becomes (cons (sm t a) (sm (list t) b)))
 toScheme (t to u) v = onLambda (form v) nothing (λ s b. becomes (lam tt (sm u (app v (ms t (var 0))))))
 

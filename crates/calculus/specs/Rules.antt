@@ -4,7 +4,7 @@
 -- `l ⊢ e ⇒ r` is a rule of the language l; a rule that both languages have stands once, for any l.
 -- Codes: 1 not a number, 2 not a function, 3 not a list, 4 nil has neither head nor tail, 5 over the limit.
 -- Where document 01 departs from the figures: fix-lambda is of documents 000 and 003; add-over is its own; sm-lambda asks for a lambda, where
--- figure 2.20 takes any value.
+-- figure 2.20 takes any value. And document 02: sm-lump asks for one owner at both, where the figures have one L.
 use Prim.Native.Nat.{ℕ, suc, _+_, _-_, _≤_, _<_}
 use mathlib.Core.Path.{_≡_}
 use mathlib.Core.Logic.{_⊎_}
@@ -13,13 +13,13 @@ use Rattle.calculus.specs.Trees.{num, lam, op1, op2, if0, nil, wrong, ms
 use Rattle.calculus.specs.Words.{largest}
 use Rattle.calculus.specs.Substitution.{shift, ordinary}
 
--- Values: lambda, number, nil, cons of two values; in ML ms L of a Scheme value.
+-- Values: lambda, number, nil, cons of two values; in ML ms at any owner's L of a Scheme value.
 pub data Value : (l : Lang) → Term l → Type 0 where
   lamV : {l : Lang} {t : Static l} {b : Term l} → Value l (lam t b)
   numV : {l : Lang} {n : ℕ} → Value l (num n)
   nilV : {l : Lang} {t : Static l} → Value l (nil t)
   consV : {l : Lang} {v w : Term l} → Value l v → Value l w → Value l (cons v w)
-  lumpV : {v : Term sc} → Value sc v → Value ml (ms L v)
+  lumpV : {o : ℕ} {v : Term sc} → Value sc v → Value ml (ms (L o) v)
 
 -- The forms that a rule asks for: the term is such a one.
 abbrev pub Lambda : {l : Lang} → Term l → Type 0
@@ -82,7 +82,7 @@ pub data _⊢_⇒_ : (l : Lang) → Term l → Term l → Type 0 where
   ms-no-lambda : {t u : Ty} {v : Term sc} → Value sc v → ¬ Lambda v → ml ⊢ ms (t to u) v ⇒ wrong 2 (t to u)
   -- sm: an ML value into Scheme
   sm-number : {n : ℕ} → sc ⊢ sm N (num n) ⇒ num n
-  sm-lump : {v : Term sc} → Value sc v → sc ⊢ sm L (ms L v) ⇒ v
+  sm-lump : {o : ℕ} {v : Term sc} → Value sc v → sc ⊢ sm (L o) (ms (L o) v) ⇒ v
   sm-nil : {t u : Ty} → sc ⊢ sm (list t) (nil u) ⇒ nil tt
   sm-cons : {t : Ty} {v w : Term ml} → Value ml v → Value ml w → sc ⊢ sm (list t) (cons v w) ⇒ cons (sm t v) (sm (list t) w)
   sm-lambda : {t u r : Ty} {b : Term ml} → sc ⊢ sm (t to u) (lam r b) ⇒ lam tt (sm u (app (shift 1 0 (lam r b)) (ms t (var 0))))

@@ -15,6 +15,10 @@ largest = 16777215
 abbrev pub lastCode : ℕ
 lastCode = 65535
 
+-- Document 02, "The operand of L becomes an owner, 0 to 255."
+abbrev pub lastOwner : ℕ
+lastOwner = 255
+
 -- One of two kinds, by the language: ML's, or Scheme's.
 abbrev pub by : Lang → ℕ → ℕ → ℕ
 by ml a b = a
@@ -43,7 +47,7 @@ word2 l CONS = by l 25 40
 -- "A node is a word followed by its parts in order (prefix order)": the words of a type, and then k.
 unfoldable pub putTy : Ty → List ℕ → List ℕ
 putTy N k = 1 ∷ k
-putTy L k = 2 ∷ k
+putTy (L o) k = word 2 o ∷ k
 putTy (list t) k = 3 ∷ putTy t k
 putTy (t to u) k = 4 ∷ putTy t (putTy u k)
 
@@ -73,7 +77,7 @@ words e = put e []
 -- How many words a type and a term have.
 unfoldable pub sizeTy : Ty → ℕ
 sizeTy N = 1
-sizeTy L = 1
+sizeTy (L o) = 1
 sizeTy (list t) = suc (sizeTy t)
 sizeTy (t to u) = suc (sizeTy t + sizeTy u)
 

@@ -1,0 +1,39 @@
+-- Document 02, "Lumps with owners": of types, of the published typing and of the published reduction. proofs/Owners.antt proves it.
+use Prim.Native.Nat.{ℕ}
+use mathlib.Core.List.{List, [], _∷_, _++_}
+use mathlib.Core.Logic.{_↔_}
+use mathlib.Core.Path.{_≡_}
+use Rattle.calculus.specs.Trees.{Ty, N, L, list, _to_, ml, sc, Term, ms, sm, app}
+use Rattle.calculus.specs.Words.{wordsTy}
+use Rattle.calculus.specs.Scope.{Scoped}
+use Rattle.calculus.specs.Typing.{Lambdas, Typed}
+use Rattle.calculus.specs.Rules.{Value, _⊢_⇒_, Steps}
+
+-- The owners in a type, in the order of its words; and the type without them, as it was written before: with owner 0 for each.
+unfoldable pub owners : Ty → List ℕ
+owners N = []
+owners (L o) = o ∷ []
+owners (list t) = owners t
+owners (t to u) = owners t ++ owners u
+
+unfoldable pub ownerless : Ty → Ty
+ownerless N = N
+ownerless (L o) = L 0
+ownerless (list t) = list (ownerless t)
+ownerless (t to u) = ownerless t to ownerless u
+
+pub record Owners : Type 0 where
+  -- "Files written so far say owner 0": the word of L that they have.
+  pub so-far : wordsTy (L 0) ≡ 2 ∷ []
+  -- "Types are equal only if the owners are too": exactly if they were equal before there were owners, and the owners are.
+  pub equal : (t u : Ty) → (t ≡ u) ↔ ((ownerless t ≡ ownerless u) × (owners t ≡ owners u))
+  -- The values of an owner's L are the ms at that owner's L of a Scheme value.
+  pub values : (o : ℕ) (v : Term ml) → Typed [] v (L o) → (Value ml v ↔ ((w : Term sc) × Value sc w × (v ≡ ms (L o) w)))
+  -- "sm at an owner's L takes an ms at that same owner's L", and nothing else, whatever type it has.
+  pub own : (o : ℕ) (e : Term ml) (r : Term sc) → Scoped [] e → (sc ⊢ sm (L o) e ⇒ r) ↔ (Value sc r × (e ≡ ms (L o) r))
+  -- "A Scheme script may still unseal a value and have it sealed for another owner."
+  pub resealed : (o u : ℕ) (v : Term sc) → Value sc v → Typed [] v tt
+      → Typed [] (ms (L u) (sm (L o) (ms (L o) v))) (L u) × Steps 1 (ms (L u) (sm (L o) (ms (L o) v))) (ms (L u) v)
+  -- What takes one owner's lump is not given another's: neither a function of ML nor sm.
+  pub not-given : (o u : ℕ) → ¬ (o ≡ u) → (Γ : Lambdas) (e : Term ml) → Typed Γ e (L u)
+      → (¬ Typed Γ (sm (L o) e) tt) × ((f : Term ml) (t : Ty) → Typed Γ f (L o to t) → (τ : Ty) → ¬ Typed Γ (app f e) τ)
