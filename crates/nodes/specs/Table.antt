@@ -22,7 +22,7 @@ sortsNumber (s ∷ ss) = sortNumber s + 5 * sortsNumber ss
 -- The ten shapes of terms, ms and sm as one, and the four of types.
 abbrev pub shapeNumber : (s : Sort) → Tree s → ℕ
 shapeNumber type N = 10
-shapeNumber type L = 11
+shapeNumber type (L o) = 11
 shapeNumber type (list t) = 12
 shapeNumber type (t to u) = 13
 shapeNumber (term l) (var i) = 1

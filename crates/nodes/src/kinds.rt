@@ -71,6 +71,8 @@ const LARGEST: u64 = 16777215;
 
 const LAST_CODE: u64 = 65535;
 
+const LAST_OWNER: u64 = 255;
+
 // A row of the table is one number, because a const array is copied to the stack where it is used. A kind that is none has the row 0.
 // How many kinds have a row, and the table.
 pub const ROWS: usize = 64;
@@ -80,7 +82,7 @@ pub type Kinds = [u64; ROWS];
 pub const KINDS: Kinds = [
     0,
     TYPE + SHAPE * NUMBERS, // 1 N
-    TYPE + SHAPE * LUMP, // 2 L
+    TYPE + SHAPE * LUMP + UP_TO * LAST_OWNER, // 2 L
     TYPE + ONE + FIRST * TYPE + SHAPE * LIST, // 3 list
     TYPE + TWO + FIRST * TYPE + SECOND * TYPE + SHAPE * FUNCTION, // 4 function
     0,

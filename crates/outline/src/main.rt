@@ -108,12 +108,13 @@ fn main() {
     // parts that run out
     each(&[23u32, 17, 17]);
     each(&[4u32, 1]);
-    // operands at their ranges and past them: numbers and variables, codes, tests, and where it is to be 0
+    // operands at their ranges and past them: numbers and variables, codes, tests, owners, and where it is to be 0
     each(&[4294967056u32, 4294967057, 4294967072, 4294967073]);
     each(&[285u32, 1, 16776989, 1, 29, 1, 16777245, 1]);
     each(&[300u32, 16777004, 44, 16777260]);
     each(&[43u32, 33, 811, 33, 1067, 33]);
-    each(&[258u32, 257, 295, 277, 17, 17]);
+    each(&[258u32, 65282, 65538, 3, 65282, 3, 65538]);
+    each(&[260u32, 257, 295, 277, 17, 17]);
     // places past the end, and the empty buffer
     ask(&[17u32], 2);
     ask(&[17u32], 18446744073709551615);

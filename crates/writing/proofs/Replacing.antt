@@ -34,7 +34,7 @@ module _ {m : Lang} (v : Term m) (d : ℕ) where
       → (putTree s (inTree v d s t) k ≡ put v k) × (sizeTree s t ≡ 1)
   unfolding size view view-ml view-sc seen
   hit-shape type N h e k = absurd (omega (arith, h))
-  hit-shape type L h e k = absurd (omega (arith, h))
+  hit-shape type (L o) h e k = absurd (omega (arith, h))
   hit-shape type (list t) h e k = absurd (omega (arith, h))
   hit-shape type (t to u) h e k = absurd (omega (arith, h))
   hit-shape (term ml) (var i) h e k = (at-variable ml i k e, refl)
@@ -64,7 +64,7 @@ module _ {m : Lang} (v : Term m) (d : ℕ) where
       ≡ headOf s t ∷ putTrees (view s t .row .parts) (inTrees v (inside s t d) (view s t .row .parts) (view s t .parts)) k
   unfolding put putTy substitute view view-type view-ml view-sc seen
   miss type N h k = refl
-  miss type L h k = refl
+  miss type (L o) h k = refl
   miss type (list t) h k = refl
   miss type (t to u) h k = refl
   miss (term ml) (var i) h k = other-variable ml i k h
