@@ -3,23 +3,25 @@ use Prim.Native.Nat.{ℕ, _+_, _-_, _≤_, _<_}
 use mathlib.Core.Bool.{Bool, true, false}
 use mathlib.Core.List.{List, []}
 use mathlib.Core.Path.{_≡_, refl, sym, ap, _∙_, subst, subst₂}
+use borrow.Author.Tests.{eq-eqb, ne-eqb}
 use borrow.Rule.Slice.PartAt.{part-to-end}
-use lib.ListN.{length, take, drop, length-drop}
+use lib.ListN.{length, getD, take, drop, length-drop}
 use native.Mathlib.Omega.{arith}
 use Rattle.calculus.specs.Trees.{Ty, N, L, list, _to_, ml}
-use Rattle.calculus.specs.Words.{putTy, wordsTy, sizeTy}
+use Rattle.calculus.specs.Words.{word, putTy, wordsTy, sizeTy}
 use Rattle.calculus.specs.Kinds.{type}
 use Rattle.calculus.specs.Inference.{sameType}
+use Rattle.calculus.proofs.Inference.{same-iff}
 use Rattle.calculus.proofs.Sizes.{past-word, past-tree}
 use Rattle.nodes.specs.Table.{shapeNumber}
 use Rattle.types.specs.References.{formerAt, Written, Means, codomain, arrows}
-use Rattle.types.specs.Comparisons.{firstDifference, Matched, Says, Compares, Compared, Equality}
+use Rattle.types.specs.Comparisons.{firstDifference, Matched, lumpsCompared, Says, Compares, Compared, Equality}
 use Rattle.types.specs.declared.Match.{Match}
 use Rattle.types.specs.declared.Match.the-variants.{Same, Differ}
 use Rattle.types.specs.declared.Comparison.{Comparison}
 use Rattle.types.specs.declared.Comparison.the-variants.{Equal, At}
 use Rattle.types.proofs.Pairs.{same-lists, same-functions, other-shapes, one-shape}
-use Rattle.types.proofs.Differences.{other-firsts, within-types, past-type}
+use Rattle.types.proofs.Differences.{other-owners, other-lumps, other-firsts, within-types, past-type}
 use Rattle.types.proofs.Matching.{if-differ, if-same, same-in}
 use Rattle.types.proofs.Meanings.{means-former, means-in, shape-of, argument-written, element-written}
 use Rattle.types.proofs.Frames.{means-codomain, means-arrows}
@@ -49,6 +51,18 @@ lift w p end s t v false r e p′ f x = (
       omega (arith, d, z, i .0),
 )
 
+-- What is said of two lumps by their words.
+lumps-say : (w : List ℕ) (p q o u : ℕ) → getD w p 0 ≡ word 2 o → getD w q 0 ≡ word 2 u
+    → Says w p (L o) (L u) (sameType ml (L o) (L u)) (lumpsCompared w p q)
+unfolding Says firstDifference putTy
+lumps-say w p q o u a b = by (sameType ml (L o) (L u)) refl
+  where
+    by : (s : Bool) → sameType ml (L o) (L u) ≡ s → Says w p (L o) (L u) s (lumpsCompared w p q)
+    by true e = let z : o ≡ u = cc (same-iff ml (L o) (L u) .0 e) in rw (eq-eqb (getD w p 0) (getD w q 0) (omega (arith, a, b, z))) refl
+    by false e =
+        rw (ne-eqb (getD w p 0) (getD w q 0) (λ z. other-owners o u e (omega (arith, a, b, z))))
+        (p, refl, λ x. omega (arith, other-lumps o u [] [] e))
+
 -- The types that p and q mean have one shape f, with a part, and those written behind p and q are compared.
 pub record OneShape (w : List ℕ) (p q f g : ℕ) (m : Match) : Type 0 where
   pub first : f ≡ formerAt w p
@@ -75,17 +89,23 @@ module _ (w ls : List ℕ) (p q room : ℕ) where
 
     module _ (same : f ≡ g) where
       -- By cases on the shape, which both have.
-      by-shape : (r : Comparison) → (f ≡ 10 → Right r N N) → (f ≡ 11 → Right r L L) → (f ≡ 12 → (t u : Ty) → Right r (list t) (list u))
-          → (f ≡ 13 → (s t u v : Ty) → Right r (s to t) (u to v)) → Compares w ls p q room r
+      by-shape : (r : Comparison) → (f ≡ 10 → Right r N N) → (f ≡ 11 → (o u : ℕ) → Right r (L o) (L u))
+          → (f ≡ 12 → (t u : Ty) → Right r (list t) (list u)) → (f ≡ 13 → (s t u v : Ty) → Right r (s to t) (u to v)) → Compares w ls p q room r
       by-shape r a b c d t u lo hi lo′ hi′ mp mq less =
           one-shape (Right r) f a b c d t u (ef ∙ means-former w ls lo hi p t mp) (same ∙ eg ∙ means-former w ls lo′ hi′ q u mq)
           lo hi lo′ hi′ mp mq less
 
-      pub no-parts : f < 12 → Compares w ls p q room Equal
-      unfolding Says
-      no-parts small =
-          by-shape Equal (λ e lo hi lo′ hi′ mp mq less. refl) (λ e lo hi lo′ hi′ mp mq less. refl)
+      -- Lumps are equal if their words are.
+      pub lumps : f ≡ 11 → (r : Comparison) → r ≡ lumpsCompared w p q → Compares w ls p q room r
+      unfolding Means
+      lumps eleven r e =
+          by-shape r (λ e. absurd (omega arith)) (λ _ o u lo hi lo′ hi′ mp mq less. rw e (lumps-say w p q o u (mp .1) (mq .1)))
           (λ e. absurd (omega arith)) (λ e. absurd (omega arith))
+
+      pub no-parts : (f ≡ 11 → ⊥) → f < 12 → Compares w ls p q room Equal
+      unfolding Says
+      no-parts other small =
+          by-shape Equal (λ e lo hi lo′ hi′ mp mq less. refl) (λ e. absurd (other e)) (λ e. absurd (omega arith)) (λ e. absurd (omega arith))
 
   module _ {f g : ℕ} {m : Match} (B : OneShape w p q f g m) where
     by-parts : (r : Comparison) → (f ≡ 12 → (t u : Ty) → Right r (list t) (list u)) → (f ≡ 13 → (s t u v : Ty) → Right r (s to t) (u to v))

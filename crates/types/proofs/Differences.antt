@@ -3,18 +3,18 @@ use Prim.Native.Nat.{ℕ, suc, _+_, _%_, _<_}
 use mathlib.Core.Bool.{Bool, true, false, _&&_, false≢true}
 use mathlib.Core.List.{List, [], _∷_}
 use mathlib.Core.Path.{_≡_, refl, sym, ap, _∙_}
-use borrow.Author.Tests.{eq-eqb, ne-eqb}
+use borrow.Author.Tests.{eq-eqb, ne-eqb, eqb-false}
 use lib.ListN.{length, getD, drop}
 use native.Mathlib.Omega.{arith}
 use Rattle.calculus.specs.Trees.{Ty, N, L, list, _to_, ml}
-use Rattle.calculus.specs.Words.{putTy, sizeTy}
+use Rattle.calculus.specs.Words.{word, putTy, sizeTy}
 use Rattle.calculus.specs.Kinds.{type}
 use Rattle.calculus.specs.Inference.{sameType}
 use Rattle.calculus.proofs.Inference.{same-iff}
 use Rattle.nodes.specs.Table.{rowOf, shapeNumber}
 use Rattle.nodes.proofs.Shapes.{shape-first}
 use Rattle.types.specs.Comparisons.{firstDifference}
-use Rattle.types.proofs.Pairs.{same-lists, same-functions}
+use Rattle.types.proofs.Pairs.{same-lumps, same-lists, same-functions}
 
 -- Lists that differ in their first words, and lists that do not.
 pub at-first : (x y : List ℕ) → (getD x 0 0 ≡ getD y 0 0 → ⊥) → firstDifference x y ≡ 0
@@ -39,7 +39,7 @@ other-firsts t u a b d =
 pub past-type : (t : Ty) (a b : List ℕ) → firstDifference (putTy t a) (putTy t b) ≡ sizeTy t + firstDifference a b
 unfolding firstDifference putTy sizeTy
 past-type N a b = omega arith
-past-type L a b = omega arith
+past-type (L o) a b = let h = past-first (word 2 o ∷ a) (word 2 o ∷ b) (omega arith) (omega arith) refl in omega (arith, h)
 past-type (list t) a b = let h : firstDifference (putTy t a) (putTy t b) ≡ sizeTy t + firstDifference a b = past-type t a b in omega arith
 past-type (t to u) a b =
     let h : firstDifference (putTy t (putTy u a)) (putTy t (putTy u b)) ≡ sizeTy t + firstDifference (putTy u a) (putTy u b) =
@@ -47,25 +47,37 @@ past-type (t to u) a b =
     let g : firstDifference (putTy u a) (putTy u b) ≡ sizeTy u + firstDifference a b = past-type u a b in
     omega arith
 
+apart : (t u : Ty) (a b c d : List ℕ) → (shapeNumber type t ≡ shapeNumber type u → ⊥)
+    → firstDifference (putTy t a) (putTy u b) ≡ firstDifference (putTy t c) (putTy u d)
+apart t u a b c d n = other-firsts t u a b n ∙ sym (other-firsts t u c d n)
+
+-- Lumps that are not the same differ in their words, by their owners.
+pub other-owners : (o u : ℕ) → sameType ml (L o) (L u) ≡ false → word 2 o ≡ word 2 u → ⊥
+other-owners o u q e = eqb-false o u (sym (same-lumps o u) ∙ q) (omega (arith, e))
+
+pub other-lumps : (o u : ℕ) (a b : List ℕ) → sameType ml (L o) (L u) ≡ false → firstDifference (putTy (L o) a) (putTy (L u) b) ≡ 0
+unfolding putTy
+other-lumps o u a b q = at-first (word 2 o ∷ a) (word 2 u ∷ b) (other-owners o u q)
+
 -- Types that are not the same differ within their own words.
 pub within-types : (t u : Ty) (a b c d : List ℕ) → sameType ml t u ≡ false
     → firstDifference (putTy t a) (putTy u b) ≡ firstDifference (putTy t c) (putTy u d)
 unfolding firstDifference putTy
 within-types N N a b c d q = absurd (false≢true (sym q))
-within-types N L a b c d q = refl
-within-types N (list u) a b c d q = refl
-within-types N (u to v) a b c d q = refl
-within-types L N a b c d q = refl
-within-types L L a b c d q = absurd (false≢true (sym q))
-within-types L (list u) a b c d q = refl
-within-types L (u to v) a b c d q = refl
-within-types (list t) N a b c d q = refl
-within-types (list t) L a b c d q = refl
+within-types N (L o) a b c d q = apart N (L o) a b c d (λ e. omega (arith, e))
+within-types N (list u) a b c d q = apart N (list u) a b c d (λ e. omega (arith, e))
+within-types N (u to v) a b c d q = apart N (u to v) a b c d (λ e. omega (arith, e))
+within-types (L o) N a b c d q = apart (L o) N a b c d (λ e. omega (arith, e))
+within-types (L o) (L u) a b c d q = other-lumps o u a b q ∙ sym (other-lumps o u c d q)
+within-types (L o) (list u) a b c d q = apart (L o) (list u) a b c d (λ e. omega (arith, e))
+within-types (L o) (u to v) a b c d q = apart (L o) (u to v) a b c d (λ e. omega (arith, e))
+within-types (list t) N a b c d q = apart (list t) N a b c d (λ e. omega (arith, e))
+within-types (list t) (L o) a b c d q = apart (list t) (L o) a b c d (λ e. omega (arith, e))
 within-types (list t) (list u) a b c d q = ap suc (within-types t u a b c d (sym (same-lists t u) ∙ q))
-within-types (list t) (u to v) a b c d q = refl
-within-types (s to t) N a b c d q = refl
-within-types (s to t) L a b c d q = refl
-within-types (s to t) (list u) a b c d q = refl
+within-types (list t) (u to v) a b c d q = apart (list t) (u to v) a b c d (λ e. omega (arith, e))
+within-types (s to t) N a b c d q = apart (s to t) N a b c d (λ e. omega (arith, e))
+within-types (s to t) (L o) a b c d q = apart (s to t) (L o) a b c d (λ e. omega (arith, e))
+within-types (s to t) (list u) a b c d q = apart (s to t) (list u) a b c d (λ e. omega (arith, e))
 within-types (s to t) (u to v) a b c d q =
     ap suc (by (sameType ml s u) refl (λ h. within-types s u (putTy t a) (putTy v b) (putTy t c) (putTy v d) h) (λ h. within-types t v a b c d h))
   where

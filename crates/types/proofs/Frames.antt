@@ -15,7 +15,7 @@ use Rattle.types.proofs.Meanings.{Codomain, written-means, written-in}
 pub means-widen : (w ls : List ℕ) (lo hi lo′ hi′ p : ℕ) (t : Ty) → lo′ ≤ lo → hi ≤ hi′ → Means w ls lo hi p t → Means w ls lo′ hi′ p t
 unfolding Means
 means-widen w ls lo hi lo′ hi′ p N a b m = m
-means-widen w ls lo hi lo′ hi′ p L a b m = m
+means-widen w ls lo hi lo′ hi′ p (L o) a b m = m
 means-widen w ls lo hi lo′ hi′ p (list t) a b m = m
 means-widen w ls lo hi lo′ hi′ p (t to u) a b m = (m .0, by (λ x. means-widen w ls (p + 1) hi (p + 1) hi′ (getD ls p 0) u (omega arith) b x) (m .1))
   where
@@ -29,7 +29,7 @@ pub means-frame : (w ls ls′ : List ℕ) (lo hi p : ℕ) (t : Ty) → ((i : ℕ
     → Means w ls lo hi p t → Means w ls′ lo hi p t
 unfolding Means
 means-frame w ls ls′ lo hi p N f m = m
-means-frame w ls ls′ lo hi p L f m = m
+means-frame w ls ls′ lo hi p (L o) f m = m
 means-frame w ls ls′ lo hi p (list t) f m = m
 means-frame w ls ls′ lo hi p (t to u) f m =
     (m .0, by (λ h x. means-frame w ls ls′ (p + 1) hi (getD ls p 0) u (λ i a b. f i (omega arith) b) x) (m .1))
@@ -52,14 +52,14 @@ means-codomain w ls lo hi p end t u m e = by (m .1)
 arrows-size : (t : Ty) → arrows t ≤ sizeTy t
 unfolding arrows sizeTy
 arrows-size N = omega arith
-arrows-size L = omega arith
+arrows-size (L o) = omega arith
 arrows-size (list t) = omega arith
 arrows-size (t to u) = omega (arith, arrows-size u)
 
 pub means-arrows : (w ls : List ℕ) (lo hi p : ℕ) (t : Ty) → hi ≤ length w → Means w ls lo hi p t → arrows t ≤ (hi - lo) + length w
 unfolding Means arrows
 means-arrows w ls lo hi p N h m = omega arith
-means-arrows w ls lo hi p L h m = omega arith
+means-arrows w ls lo hi p (L o) h m = omega arith
 means-arrows w ls lo hi p (list t) h m = omega arith
 means-arrows w ls lo hi p (t to u) h m = by (λ x. means-arrows w ls (p + 1) hi (getD ls p 0) u h x) (m .1)
   where

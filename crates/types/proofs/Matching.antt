@@ -3,12 +3,14 @@ use Prim.Native.Nat.{ℕ, suc, _+_, _-_, _%_, _≤_, _<_}
 use mathlib.Core.Bool.{Bool, true, false, cond, false≢true}
 use mathlib.Core.List.{List}
 use mathlib.Core.Path.{_≡_, refl, sym, ap, _∙_, subst, subst₂}
+use lib.Dec.{eqb}
 use lib.ListN.{length, getD, take, drop, length-drop}
+use borrow.Author.Tests.{eq-eqb}
 use borrow.Rule.Slice.PartAt.{part-to-end}
 use native.Mathlib.Nat.{add-zero, pos-of-ne-zero}
 use native.Mathlib.Omega.{arith}
 use Rattle.calculus.specs.Trees.{Ty, N, L, list, _to_, ml}
-use Rattle.calculus.specs.Words.{putTy, sizeTy}
+use Rattle.calculus.specs.Words.{word, putTy, sizeTy}
 use Rattle.calculus.specs.Kinds.{type}
 use Rattle.calculus.specs.Inference.{sameType}
 use Rattle.calculus.proofs.Inference.{same-iff}
@@ -20,7 +22,7 @@ use Rattle.nodes.proofs.Shapes.{shape-first}
 use Rattle.types.specs.Comparisons.{firstDifference, InBoth, Matched, TypeEnd}
 use Rattle.types.specs.declared.Match.{Match}
 use Rattle.types.specs.declared.Match.the-variants.{Same, Differ}
-use Rattle.types.proofs.Pairs.{same-refl, same-lists, same-functions, one-shape}
+use Rattle.types.proofs.Pairs.{same-refl, same-lumps, same-lists, same-functions, one-shape}
 use Rattle.types.proofs.Differences.{at-first, past-first, past-type}
 
 -- What an answer for two types says of them.
@@ -95,7 +97,7 @@ module _ (x y : List ℕ) (at : ℕ) where
     abbrev Right : Match → Ty → Ty → Type 0
     Right r t u = (k l : List ℕ) → x ≡ putTy t k → y ≡ putTy u l → r ≡ matching t u at (firstDifference x y)
 
-    by-shape : (r : Match) → (row .shape ≡ 10 → Right r N N) → (row .shape ≡ 11 → Right r L L)
+    by-shape : (r : Match) → (row .shape ≡ 10 → Right r N N) → (row .shape ≡ 11 → (o u : ℕ) → Right r (L o) (L u))
         → (row .shape ≡ 12 → (t u : Ty) → Right r (list t) (list u)) → (row .shape ≡ 13 → (s t u v : Ty) → Right r (s to t) (u to v))
         → (t u : Ty) → Right r t u
     by-shape r a b c d t u k l p q =
@@ -103,13 +105,23 @@ module _ (x y : List ℕ) (at : ℕ) where
         one-shape (Right r) (row .shape) a b c d t u (e ∙ shape-is x t k p)
         (e ∙ ap (λ (j : ℕ). rowOf (j % 256) .shape) (F .word) ∙ shape-is y u l q) k l p q
 
+    -- Lumps of one word have one owner.
+    one-owner : (o u : ℕ) (k l : List ℕ) → x ≡ putTy (L o) k → y ≡ putTy (L u) l → eqb o u ≡ true
+    unfolding putTy
+    one-owner o u k l p q =
+        let a : getD x 0 0 ≡ word 2 o = ap (λ (z : List ℕ). getD z 0 0) p in
+        let b : getD y 0 0 ≡ word 2 u = ap (λ (z : List ℕ). getD z 0 0) q in
+        eq-eqb o u (omega (arith, a, b, F .word))
+
     -- N and L have no parts.
     pub no-parts : row .shape < 12 → Matched x y at (Same (at + 1))
     unfolding sizeTy
     no-parts small =
         record {
           within = (omega arith, omega (arith, pos-of-ne-zero (F .more-x)), omega (arith, pos-of-ne-zero (F .more-y)));
-          is = by-shape (Same (at + 1)) (λ e k l p q. refl) (λ e k l p q. refl) (λ e. absurd (omega arith)) (λ e. absurd (omega arith));
+          is =
+              by-shape (Same (at + 1)) (λ e k l p q. refl) (λ e o u k l p q. rw (same-lumps o u, one-owner o u k l p q))
+              (λ e. absurd (omega arith)) (λ e. absurd (omega arith));
         }
 
     module _ (big : 12 ≤ row .shape) {r : Match} (m : Matched (take (length x - 1) (drop 1 x)) (take (length y - 1) (drop 1 y)) (at + 1) r) where

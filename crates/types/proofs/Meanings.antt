@@ -90,8 +90,8 @@ former-in : (w : List ℕ) (p : ℕ) → (formerAt w p ≡ 0 → ⊥) → (0 < p
 unfolding former
 former-in w p f = shape-in w p (λ e. f (ap former e))
 
--- A list type and a function type have another written behind.
-pub behind : (w : List ℕ) (p f : ℕ) → f ≡ formerAt w p → 12 ≤ f → (0 < p) × (p + 1 ≤ length w)
+-- The word that a lump, a list type or a function type is read by is there.
+pub behind : (w : List ℕ) (p f : ℕ) → f ≡ formerAt w p → 11 ≤ f → (0 < p) × (p + 1 ≤ length w)
 behind w p f e h = let i = former-in w p (λ z. omega (arith, z)) in (i .0, omega (arith, i .1))
 
 -- A function's result type: what the lambda's link refers to, or written.
@@ -102,7 +102,7 @@ Codomain w ls lo hi p n u =
 pub means-former : (w ls : List ℕ) (lo hi p : ℕ) (t : Ty) → Means w ls lo hi p t → formerAt w p ≡ shapeNumber type t
 unfolding Means former
 means-former w ls lo hi p N m = m
-means-former w ls lo hi p L m = m
+means-former w ls lo hi p (L o) m = m .0
 means-former w ls lo hi p (list t) m = m .0
 means-former w ls lo hi p (t to u) m = by (m .1)
   where
@@ -112,23 +112,25 @@ means-former w ls lo hi p (t to u) m = by (m .1)
 
 shape-above : (t : Ty) → 10 ≤ shapeNumber type t
 shape-above N = omega arith
-shape-above L = omega arith
+shape-above (L o) = omega arith
 shape-above (list t) = omega arith
 shape-above (t to u) = omega arith
 
 pub means-in : (w ls : List ℕ) (lo hi p : ℕ) (t : Ty) → Means w ls lo hi p t → (0 < p) × (p < length w)
 means-in w ls lo hi p t m = former-in w p (λ z. omega (arith, means-former w ls lo hi p t m, shape-above t))
 
--- The shape of a tree at a place.
+-- The word at a place, by the words from there on; and the shape of a tree there.
+first-word : (w : List ℕ) (p : ℕ) (k : List ℕ) → drop p w ≡ k → getD w p 0 ≡ getD k 0 0
+first-word w p k d = sym (getD-drop p w 0 0 ∙ ap (λ (n : ℕ). getD w n 0) (add-zero p)) ∙ ap (λ (l : List ℕ). getD l 0 0) d
+
 pub shape-of : (s : Sort) (w : List ℕ) (p : ℕ) (t : Tree s) (k : List ℕ) → 0 < p → drop p w ≡ putTree s t k → shapeAt w p ≡ shapeNumber s t
 shape-of s w p t k h d =
-    let e : getD w p 0 ≡ getD (drop p w) 0 0 = sym (getD-drop p w 0 0 ∙ ap (λ (n : ℕ). getD w n 0) (add-zero p)) in
-    shape-here w p (λ z. omega arith) ∙ ap (λ (j : ℕ). rowOf (j % 256) .shape) (e ∙ ap (λ (l : List ℕ). getD l 0 0) d) ∙ shape-first s t k
+    shape-here w p (λ z. omega arith) ∙ ap (λ (j : ℕ). rowOf (j % 256) .shape) (first-word w p (putTree s t k) d) ∙ shape-first s t k
 
 pub written-means : (w ls : List ℕ) (lo hi p : ℕ) (t : Ty) → 0 < p → Written w p t → Means w ls lo hi p t
 unfolding Means former putTy
 written-means w ls lo hi p N h x = ap former (shape-of type w p N (x .0) h (x .1))
-written-means w ls lo hi p L h x = ap former (shape-of type w p L (x .0) h (x .1))
+written-means w ls lo hi p (L o) h x = (ap former (shape-of type w p (L o) (x .0) h (x .1)), first-word w p _ (x .1))
 written-means w ls lo hi p (list t) h x = (ap former (shape-of type w p (list t) (x .0) h (x .1)), (x .0, past-word p 3 w _ (x .1)))
 written-means w ls lo hi p (t to u) h x =
     let d = past-word p 4 w _ (x .1) in

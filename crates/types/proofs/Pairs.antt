@@ -3,6 +3,8 @@ use Prim.Native.Nat.{ℕ}
 use mathlib.Core.Bool.{Bool, true, false, _&&_, and-eq-true-iff}
 use mathlib.Core.Logic.{_↔_}
 use mathlib.Core.Path.{_≡_, refl, sym, ap}
+use borrow.Author.Tests.{eqb-true, eq-eqb}
+use lib.Dec.{eqb}
 use native.Mathlib.Omega.{arith}
 use Rattle.calculus.specs.Trees.{Ty, N, L, list, _to_, ml}
 use Rattle.calculus.specs.Kinds.{type}
@@ -21,6 +23,13 @@ same-refl t = same-iff ml t t .1 refl
 
 pub same-sym : (t u : Ty) → sameType ml t u ≡ sameType ml u t
 same-sym t u = one-test _ _ (λ q. same-iff ml u t .1 (sym (same-iff ml t u .0 q)), λ q. same-iff ml t u .1 (sym (same-iff ml u t .0 q)))
+
+pub same-lumps : (o u : ℕ) → sameType ml (L o) (L u) ≡ eqb o u
+same-lumps o u =
+    one-test _ _ (
+      λ q. let e = same-iff ml (L o) (L u) .0 q in eq-eqb o u cc,
+      λ q. same-iff ml (L o) (L u) .1 (ap L (eqb-true o u q)),
+    )
 
 pub same-lists : (t u : Ty) → sameType ml (list t) (list u) ≡ sameType ml t u
 same-lists t u =
@@ -51,21 +60,21 @@ other-shapes t u d = by (sameType ml t u) refl
     by false q = q
 
 -- Two types of one shape, by the shape.
-pub one-shape : (P : Ty → Ty → Type 0) (h : ℕ) → (h ≡ 10 → P N N) → (h ≡ 11 → P L L) → (h ≡ 12 → (t u : Ty) → P (list t) (list u))
+pub one-shape : (P : Ty → Ty → Type 0) (h : ℕ) → (h ≡ 10 → P N N) → (h ≡ 11 → (o u : ℕ) → P (L o) (L u)) → (h ≡ 12 → (t u : Ty) → P (list t) (list u))
     → (h ≡ 13 → (s t u v : Ty) → P (s to t) (u to v)) → (t u : Ty) → h ≡ shapeNumber type t → h ≡ shapeNumber type u → P t u
 one-shape P h a b c d N N p q = a p
-one-shape P h a b c d N L p q = absurd (omega arith)
+one-shape P h a b c d N (L u) p q = absurd (omega arith)
 one-shape P h a b c d N (list u) p q = absurd (omega arith)
 one-shape P h a b c d N (u to v) p q = absurd (omega arith)
-one-shape P h a b c d L N p q = absurd (omega arith)
-one-shape P h a b c d L L p q = b p
-one-shape P h a b c d L (list u) p q = absurd (omega arith)
-one-shape P h a b c d L (u to v) p q = absurd (omega arith)
+one-shape P h a b c d (L o) N p q = absurd (omega arith)
+one-shape P h a b c d (L o) (L u) p q = b p o u
+one-shape P h a b c d (L o) (list u) p q = absurd (omega arith)
+one-shape P h a b c d (L o) (u to v) p q = absurd (omega arith)
 one-shape P h a b c d (list t) N p q = absurd (omega arith)
-one-shape P h a b c d (list t) L p q = absurd (omega arith)
+one-shape P h a b c d (list t) (L u) p q = absurd (omega arith)
 one-shape P h a b c d (list t) (list u) p q = c p t u
 one-shape P h a b c d (list t) (u to v) p q = absurd (omega arith)
 one-shape P h a b c d (s to t) N p q = absurd (omega arith)
-one-shape P h a b c d (s to t) L p q = absurd (omega arith)
+one-shape P h a b c d (s to t) (L u) p q = absurd (omega arith)
 one-shape P h a b c d (s to t) (list u) p q = absurd (omega arith)
 one-shape P h a b c d (s to t) (u to v) p q = d p s t u v

@@ -4,7 +4,7 @@ use mathlib.Core.Bool.{Bool, true, false, cond}
 use mathlib.Core.List.{List, [], _∷_}
 use mathlib.Core.Path.{_≡_}
 use lib.Dec.{eqb}
-use lib.ListN.{length}
+use lib.ListN.{length, getD}
 use Rattle.calculus.specs.Trees.{Ty, ml}
 use Rattle.calculus.specs.Words.{putTy, wordsTy, sizeTy}
 use Rattle.calculus.specs.Inference.{sameType}
@@ -42,6 +42,10 @@ pub record TypeEnd (w : List ℕ) (at r : ℕ) : Type 0 where
 unfoldable pub Says : List ℕ → ℕ → Ty → Ty → Bool → Comparison → Type 0
 Says w p t u true r = r ≡ Equal
 Says w p t u false r = (d : ℕ) × (r ≡ At d) × (Written w p t → d ≡ p + firstDifference (wordsTy t) (wordsTy u))
+
+-- Two lumps, written at p and at q: equal if their words are.
+abbrev pub lumpsCompared : List ℕ → ℕ → ℕ → Comparison
+lumpsCompared w p q = cond (eqb (getD w p 0) (getD w q 0)) Equal (At p)
 
 -- The references p and q mean two types, the first with fewer arrows in a row than `room`.
 abbrev pub Compares : List ℕ → List ℕ → ℕ → ℕ → ℕ → Comparison → Type 0

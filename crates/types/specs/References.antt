@@ -7,7 +7,7 @@ use mathlib.Core.Path.{_≡_}
 use lib.Dec.{eqb}
 use lib.ListN.{getD, drop}
 use Rattle.calculus.specs.Trees.{Ty, N, L, list, _to_}
-use Rattle.calculus.specs.Words.{putTy, sizeTy}
+use Rattle.calculus.specs.Words.{word, putTy, sizeTy}
 use Rattle.nodes.specs.Table.{rowOf}
 
 -- The shape of the word at a place. The place 0 is in the header, and no reference.
@@ -25,11 +25,12 @@ formerAt w p = former (shapeAt w p)
 abbrev pub Written : List ℕ → ℕ → Ty → Type 0
 Written w p t = (k : List ℕ) × (drop p w ≡ putTy t k)
 
--- The reference p means the type, by the words w and those of the links ls that stand from lo up to hi. A list's element type and a function's
--- argument type are always written behind p; a function's result type is written too, or is what the lambda's link refers to.
+-- The reference p means the type, by the words w and those of the links ls that stand from lo up to hi. A lump is always written at p, with its
+-- owner; a list's element type and a function's argument type are always written behind p; a function's result type is written too, or is what
+-- the lambda's link refers to.
 unfoldable pub Means : List ℕ → List ℕ → ℕ → ℕ → ℕ → Ty → Type 0
 Means w ls lo hi p N = formerAt w p ≡ 10
-Means w ls lo hi p L = formerAt w p ≡ 11
+Means w ls lo hi p (L o) = (formerAt w p ≡ 11) × (getD w p 0 ≡ word 2 o)
 Means w ls lo hi p (list t) = (formerAt w p ≡ 12) × Written w (p + 1) t
 Means w ls lo hi p (t to u) =
     Written w (p + 1) t
@@ -43,6 +44,6 @@ codomain w ls p end = cond (eqb (shapeAt w p) 3) (getD ls p 0) end
 -- How many arrows follow one another in a type.
 unfoldable pub arrows : Ty → ℕ
 arrows N = 0
-arrows L = 0
+arrows (L o) = 0
 arrows (list t) = 0
 arrows (t to u) = suc (arrows u)

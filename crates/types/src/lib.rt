@@ -6,13 +6,13 @@
 use nodes::kinds::Kinds;
 use nodes::kinds::row_at;
 ghost use mathlib.Core.Path.{_≡_};
-ghost use Prim.Native.Nat.{_≤_};
+ghost use Prim.Native.Nat.{_<_, _≤_};
 ghost use lib.ListN.{length};
 ghost use Rattle.nodes.specs.Table.{kinds};
 ghost use Rattle.nodes.specs.Walks.{WordsAt};
 ghost use Rattle.types.specs.Links.{Linked};
 ghost use Rattle.types.specs.References.{shapeAt, formerAt, codomain};
-ghost use Rattle.types.specs.Comparisons.{Matched, TypeEnd, Compares, Compared, Equality};
+ghost use Rattle.types.specs.Comparisons.{Matched, TypeEnd, lumpsCompared, Compares, Compared, Equality};
 
 // How two written types compare: equal, with the place past the first; or the first of its words that differs from the second's.
 pub enum Match {
@@ -120,6 +120,17 @@ pub fn codomain(table: &Kinds, all: &[u32], link: &[u16], p: usize, end: usize) 
     end
 }
 
+// Compares two lumps, which are written: they are equal if their owners are, so that their words are one.
+fn compare_lumps(all: &[u32], p: usize, q: usize) -> Comparison
+    requires { ⌜ (p < length (now all)) × (q < length (now all)) ⌝ }
+    ensures { λ r. ⌜ r ≡ lumpsCompared (now (all .entry)) p q ⌝ }
+{
+    if all[p] != all[q] {
+        return Comparison::At(p);
+    }
+    Comparison::Equal
+}
+
 // The same for references that have fewer arrows in a row than `room`.
 fn compare_within(
     table: &Kinds,
@@ -138,6 +149,9 @@ fn compare_within(
     let former = former_at(table, all, p);
     if former != former_at(table, all, q) {
         return Comparison::At(p);
+    }
+    if former == nodes::kinds::LUMP {
+        return compare_lumps(all, p, q);
     }
     if former < nodes::kinds::LIST {
         return Comparison::Equal;

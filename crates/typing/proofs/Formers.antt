@@ -16,10 +16,10 @@ use Rattle.typing.specs.Operators.{argumentEnd, ArgumentEnd, elementOf}
 
 -- By cases on the shape.
 module _ (w : List ℕ) (t f : ℕ) (e : f ≡ formerAt w t) (ls : List ℕ) (lo hi : ℕ) (P : Ty → Type 0) where
-  pub by-former : (f ≡ 10 → P N) → (f ≡ 11 → P L) → (f ≡ 12 → (x : Ty) → P (list x)) → (f ≡ 13 → (x y : Ty) → P (x to y))
+  pub by-former : (f ≡ 10 → P N) → (f ≡ 11 → (o : ℕ) → P (L o)) → (f ≡ 12 → (x : Ty) → P (list x)) → (f ≡ 13 → (x y : Ty) → P (x to y))
       → (s : Ty) → Means w ls lo hi t s → P s
   by-former a b c d N m = a (e ∙ means-former w ls lo hi t N m)
-  by-former a b c d L m = b (e ∙ means-former w ls lo hi t L m)
+  by-former a b c d (L o) m = b (e ∙ means-former w ls lo hi t (L o) m) o
   by-former a b c d (list x) m = c (e ∙ means-former w ls lo hi t (list x) m) x
   by-former a b c d (x to y) m = d (e ∙ means-former w ls lo hi t (x to y) m) x y
 
@@ -29,7 +29,8 @@ module _ (w : List ℕ) (t f : ℕ) (e : f ≡ formerAt w t) where
   no-function n =
       record {
         there = λ z. absurd (z refl);
-        is = λ s ls lo hi m. by-former w t f e ls lo hi (λ s. 0 ≡ argumentEnd t s) (λ h. refl) (λ h. refl) (λ h x. refl) (λ h x y. absurd (n h)) s m;
+        is = λ s ls lo hi m.
+            by-former w t f e ls lo hi (λ s. 0 ≡ argumentEnd t s) (λ h. refl) (λ h o. refl) (λ h x. refl) (λ h x y. absurd (n h)) s m;
       }
 
   pub function-end : f ≡ 13 → (r : ℕ) → TypeEnd w (t + 1) r → ArgumentEnd w t r
@@ -66,7 +67,7 @@ module _ (w : List ℕ) (t r : ℕ) (e : r ≡ elementOf w t) where
 
   pub no-list : r ≡ 0 → (ls : List ℕ) (lo hi : ℕ) (s : Ty) → Means w ls lo hi t s → elementType ml s ≡ none
   no-list z ls lo hi s m =
-      by-former w t (formerAt w t) refl ls lo hi (λ s. elementType ml s ≡ none) (λ k. refl) (λ k. refl)
+      by-former w t (formerAt w t) refl ls lo hi (λ s. elementType ml s ≡ none) (λ k. refl) (λ k o. refl)
       (λ k. absurd (omega (arith, by-test true (eq-eqb (formerAt w t) 12 k)))) (λ k x y. refl) s m
 
 -- N.
@@ -77,4 +78,4 @@ module _ (w : List ℕ) (t f : ℕ) (e : f ≡ formerAt w t) (ls : List ℕ) (lo
       (λ k. absurd (omega arith))
 
   pub no-number : (f ≡ 10 → ⊥) → (s : Ty) → Means w ls lo hi t s → sameType ml s N ≡ false
-  no-number n = by-former w t f e ls lo hi (λ s. sameType ml s N ≡ false) (λ h. absurd (n h)) (λ h. refl) (λ h x. refl) (λ h x y. refl)
+  no-number n = by-former w t f e ls lo hi (λ s. sameType ml s N ≡ false) (λ h. absurd (n h)) (λ h o. refl) (λ h x. refl) (λ h x y. refl)

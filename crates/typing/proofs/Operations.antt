@@ -34,14 +34,14 @@ module _ (w ls : List ℕ) (t end : ℕ) (a : ArgumentEnd w t end) where
   pub fix-other : end ≡ 0 → Finds1 FIX w ls t 0
   unfolding Finds
   fix-other z N lo hi few m = refl
-  fix-other z L lo hi few m = refl
+  fix-other z (L o) lo hi few m = refl
   fix-other z (list s) lo hi few m = refl
   fix-other z (s to v) lo hi few m = absurd (omega (arith, a .is (s to v) ls lo hi m))
 
   pub apply-other : (u : ℕ) → end ≡ 0 → Finds2 APP w ls t u 0
   unfolding Finds
   apply-other u z N v lo hi few m mu = refl
-  apply-other u z L v lo hi few m mu = refl
+  apply-other u z (L o) v lo hi few m mu = refl
   apply-other u z (list s) v lo hi few m mu = refl
   apply-other u z (s to x) v lo hi few m mu = absurd (omega (arith, a .is (s to x) ls lo hi m))
 
@@ -51,7 +51,7 @@ module _ (w ls : List ℕ) (t end : ℕ) (a : ArgumentEnd w t end) where
 
     pub fix-rule : IfSame w ls (t + 1) c (t + 1) r → Finds1 FIX w ls t r
     fix-rule same N lo hi few m = absurd (arrow (a .is N ls lo hi m))
-    fix-rule same L lo hi few m = absurd (arrow (a .is L ls lo hi m))
+    fix-rule same (L o) lo hi few m = absurd (arrow (a .is (L o) ls lo hi m))
     fix-rule same (list s) lo hi few m = absurd (arrow (a .is (list s) ls lo hi m))
     fix-rule same (s to v) lo hi few m =
         let x = argument-means w ls lo hi t s v m in
@@ -59,7 +59,7 @@ module _ (w ls : List ℕ) (t end : ℕ) (a : ArgumentEnd w t end) where
 
     pub apply-rule : (u : ℕ) → IfSame w ls (t + 1) u c r → Finds2 APP w ls t u r
     apply-rule u same N v lo hi few m mu = absurd (arrow (a .is N ls lo hi m))
-    apply-rule u same L v lo hi few m mu = absurd (arrow (a .is L ls lo hi m))
+    apply-rule u same (L o) v lo hi few m mu = absurd (arrow (a .is (L o) ls lo hi m))
     apply-rule u same (list s) v lo hi few m mu = absurd (arrow (a .is (list s) ls lo hi m))
     apply-rule u same (s to x) v lo hi few m mu =
         finds-if w ls lo hi c r x (sameType ml s v) (same s v lo hi lo hi few (argument-means w ls lo hi t s x m) mu)
@@ -73,7 +73,7 @@ module _ (w ls : List ℕ) (t u e : ℕ) (he : e ≡ elementOf w u) where
     where
       not-list : (s v : Ty) → elementType ml v ≡ none → Finds w ls lo hi (result2 ml CONS s v) 0
       not-list s N q = refl
-      not-list s L q = refl
+      not-list s (L o) q = refl
       not-list s (list v) q = absurd (Option·none-ne-some v (sym q))
       not-list s (u to v) q = refl
 

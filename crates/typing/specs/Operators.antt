@@ -19,7 +19,7 @@ Finds w ls lo hi (some t) r = Means w ls lo hi r t
 -- The place past the argument type of the function type at t; 0 for any other type.
 abbrev pub argumentEnd : ℕ → Ty → ℕ
 argumentEnd t N = 0
-argumentEnd t L = 0
+argumentEnd t (L o) = 0
 argumentEnd t (list u) = 0
 argumentEnd t (u to v) = t + 1 + sizeTy u
 

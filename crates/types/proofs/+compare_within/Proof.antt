@@ -8,8 +8,9 @@ use borrow.Fn.Kinds.{In, Out}
 use borrow.Fn.PlainCycle.{Measures, is, falls, and}
 use Rattle.nodes.proofs.Ways.{part-length}
 use Rattle.types.proofs.Meanings.{behind}
-use Rattle.types.proofs.Comparing.{OneShape, no-room, other-formers, no-parts, differ, ends, lists, functions}
+use Rattle.types.proofs.Comparing.{OneShape, no-room, other-formers, lumps, no-parts, differ, ends, lists, functions}
 use Rattle.types.proofs.former_at.Reads as former-at
+use Rattle.types.proofs.compare_lumps.Reads as compare-lumps
 use Rattle.types.proofs.compare_words.Reads as words
 use Rattle.types.proofs.codomain.Reads as codomain
 use Rattle.types.proofs.compare_within.Reads as compare-within
@@ -28,7 +29,18 @@ abbrev below : ℕ → In 3 kinds.ps
 below t = and 3 kinds.ps (falls 3 kinds.ps _<_ μ t) compare-within.Pre
 
 abbrev calls : ℕ → lts.Claims
-calls t = (former-at.Asked, former-at.Learnt, words.Asked, words.Learnt, codomain.Asked, codomain.Learnt, below t, compare-within.Post)
+calls t = (
+  former-at.Asked,
+  former-at.Learnt,
+  compare-lumps.Asked,
+  compare-lumps.Learnt,
+  words.Asked,
+  words.Learnt,
+  codomain.Asked,
+  codomain.Learnt,
+  below t,
+  compare-within.Post,
+)
 
 -- A moment or a need, by the contracts that are cited.
 abbrev Cited : ℕ → (lts.Claims → In 3 kinds.ps → Out 3 kinds.ps kinds.r → Type 0) → Type 0
@@ -36,31 +48,34 @@ Cited t M = M (calls t) (asked t) compare-within.Post
 
 module _ {t : ℕ} where
   -- The moments, each by a later one: the types have one shape, with a part; the parts are compared; they are the same.
-  abbrev start : Cited t lts.Else3 → Cited t lts.Start
-  start c = c .before .before .before .before .before .before .before
+  abbrev start : Cited t lts.Else4 → Cited t lts.Start
+  start c = c .before .before .before .before .before .before .before .before
 
-  abbrev parts : Cited t lts.After-compare-words → Cited t lts.Else3
+  abbrev one-shape : Cited t lts.Else4 → Cited t lts.Else2
+  one-shape c = c .before .before
+
+  abbrev parts : Cited t lts.After-compare-words → Cited t lts.Else4
   parts c = c .before .before .before
 
   abbrev same : Cited t lts.After-arguments2 → Cited t lts.After-compare-words
   same c = c .before .before
 
   -- Both references have a type written behind.
-  first : (c : Cited t lts.Else3) → start c .args .p + 1 ≤ length (start c .args .all .now)
-  first c = behind _ _ _ (c .before .before .before .former-at .ensures) (c .if3 .left) .1
+  first : (c : Cited t lts.Else4) → start c .args .p + 1 ≤ length (start c .args .all .now)
+  first c = behind _ _ _ (one-shape c .before .before .former-at .ensures) (omega (arith, c .if4 .left)) .1
 
-  second : (c : Cited t lts.Else3) → start c .args .q + 1 ≤ length (start c .args .all .now)
-  second c = behind _ _ _ (c .before .if2 .left ∙ c .before .before .former-at2 .ensures) (c .if3 .left) .1
+  second : (c : Cited t lts.Else4) → start c .args .q + 1 ≤ length (start c .args .all .now)
+  second c = behind _ _ _ (one-shape c .if2 .left ∙ one-shape c .before .former-at2 .ensures) (omega (arith, c .if4 .left)) .1
 
-  compared : (c : Cited t lts.After-compare-words) → let s = start (parts c) .args in let k = parts c .before .before in
+  compared : (c : Cited t lts.After-compare-words) → let s = start (parts c) .args in let k = one-shape (parts c) .before in
       OneShape (s .all .now) (s .p) (s .q) (k .before .former-at .result) (k .former-at2 .result) (c .compare-words .result)
   compared c =
-      let k = parts c .before in
+      let k = one-shape (parts c) in
       record {
         first = k .before .before .former-at .ensures;
         second = k .before .former-at2 .ensures;
         same = k .if2 .left;
-        many = parts c .if3 .left;
+        many = parts c .if4 .left;
         matched = c .compare-words .ensures;
       }
 
@@ -73,6 +88,13 @@ module _ {t : ℕ} where
       let s = start k .args in
       ends _ (s .link .now) _ _ (s .room) (compared (same c)) _ (c .arguments2 .given .1) (first k) (second k)
 
+  lumps-requires : Cited t lts.Need-compare-lumps-requires
+  lumps-requires c κs =
+      let k = c .before in
+      let f = k .before .before .former-at .ensures in
+      let g = k .if2 .left ∙ k .before .former-at2 .ensures in
+      (omega (arith, behind _ _ _ f (omega (arith, c .if3 .taken)) .1), omega (arith, behind _ _ _ g (omega (arith, c .if3 .taken)) .1))
+
   compare-words-requires : Cited t lts.Need-compare-words-requires
   compare-words-requires c κs =
       let k = c .before .before in
@@ -84,11 +106,11 @@ module _ {t : ℕ} where
   add-codomain c =
       let k = c .before .before .before in record { fits = omega (arith, past k, start (parts (same k)) .good .1 .0 .1) }
 
-  returns-6 : Cited t lts.Need-returns-6
-  returns-6 c =
+  returns-7 : Cited t lts.Need-returns-7
+  returns-7 c =
       let at-codomain = c .before .before in
       let k = at-codomain .before .before .before in
-      functions _ _ _ _ _ (compared (same k)) _ (k .arguments2 .given .1) (at-codomain .before .if4 .left) _ _ _ (at-codomain .codomain .ensures)
+      functions _ _ _ _ _ (compared (same k)) _ (k .arguments2 .given .1) (at-codomain .before .if5 .left) _ _ _ (at-codomain .codomain .ensures)
       (c .before .codomain2 .ensures) (c .compare-within .ensures)
 
 pub +compare-within-spec : {M : Type 1} → statement M
@@ -96,14 +118,19 @@ pub +compare-within-spec : {M : Type 1} → statement M
     close μ λ t. lts.spec (calls t) (asked t) compare-within.Post
     (λ c. no-room _ _ _ _ _ (c .if1 .taken)) (λ c κs. search needs) (λ c κs. search needs)
     (λ c. other-formers _ _ _ _ _ _ (c .before .before .former-at .ensures) _ (c .before .former-at2 .ensures) (c .if2 .taken))
-    (λ c. let k = c .before in
-    no-parts _ _ _ _ _ _ (k .before .before .former-at .ensures) _ (k .before .former-at2 .ensures) (k .if2 .left) (c .if3 .taken))
+    lumps-requires
+    (λ c. let k = c .before .before in
+    lumps _ _ _ _ _ _ (k .before .before .former-at .ensures) _ (k .before .former-at2 .ensures) (k .if2 .left) (c .before .if3 .taken) _
+    (c .compare-lumps .ensures))
+    (λ c. let k = c .before .before in
+    no-parts _ _ _ _ _ _ (k .before .before .former-at .ensures) _ (k .before .former-at2 .ensures) (k .if2 .left) (c .before .if3 .left)
+    (c .if4 .taken))
     (λ c. record { fits = omega (arith, first c, start c .good .1 .0 .1) })
     (λ c. record { fits = omega (arith, second c, start c .good .1 .0 .1) })
     (λ c. record { fits = omega (arith, first c, start c .good .1 .0 .1) }) first first (λ c. search needs)
     (λ c. record { fits = omega (arith, second (c .before), start (c .before) .good .1 .0 .1) })
     (λ c. second (c .before)) (λ c. second (c .before)) (λ c. search needs) compare-words-requires (λ c. search needs)
     (λ c. differ _ _ _ _ _ (compared (c .before .before .before)) _ (c .before .arguments .given .1)) (λ c. search needs)
-    (λ c. let k = c .before .before in lists _ _ _ _ _ (compared (same k)) _ (k .arguments2 .given .1) (c .if4 .taken))
+    (λ c. let k = c .before .before in lists _ _ _ _ _ (compared (same k)) _ (k .arguments2 .given .1) (c .if5 .taken))
     (λ c κs. search needs) (λ c. omega (arith, past (c .before .before .before))) add-codomain (λ c κs. search needs)
-    (λ c. search needs) (λ c κs. search needs) returns-6
+    (λ c. search needs) (λ c κs. search needs) returns-7

@@ -97,7 +97,7 @@ pub +compare-words-spec : {M : Type 1} → statement M
 +compare-words-spec =
     close μ λ t. lts.spec (calls t) (asked t) compare-words.Post
     (λ c. no-x _ _ _ (c .if1 .taken)) (λ c. no-y _ _ _ (c .if2 .taken)) (λ c. search needs) (λ c. search needs)
-    (λ c. other-words _ _ _ (c .if3 .taken)) (λ c κs. search needs) (λ c. search needs)
+    (λ c. other-words _ _ _ (λ e. omega (arith, e, c .if3 .taken))) (λ c κs. search needs) (λ c. search needs)
     (λ c. no-parts _ _ _ (one-word (c .before)) (c .if4 .taken)) (λ c. search needs) (λ c. search needs) (λ c. search needs)
     (λ c. search needs) (λ c. search needs) (λ c. search needs) (λ c. search needs) compare-words-requires (λ c. search needs)
     (λ c. search needs) returns-5 returns-6 (λ c. omega (arith, past (c .before .before)))
