@@ -3,7 +3,7 @@ use Prim.Native.Nat.{ℕ, _%_, _<_, _≤_}
 use mathlib.Core.List.{List, [], _∷_}
 use mathlib.Core.Path.{_≡_, refl, sym, ap, _∙_, subst}
 use lib.ListN.{length, getD}
-use borrow.Author.Tests.{ne-eqb}
+use borrow.Author.Tests.{eq-eqb, ne-eqb}
 use native.Mathlib.Omega.{arith}
 use Rattle.calculus.specs.Trees.{N, L, list, _to_, Lang, ml, sc, Static, isFun, isList, isNull, isNum, HD, TL, FIX, NULL?, TEST, APP}
 use Rattle.calculus.specs.Trees.{ADD, SUB, CONS, Term, var, num, lam, op1, op2, if0, nil, wrong, ms, sm}
@@ -21,7 +21,7 @@ pub data Formed : (l : Lang) → ℕ → Term l → Type 0 where
   is-function : {l : Lang} (t : Static l) (b : Term l) → Formed l 2 (lam t b)
   is-nil : {l : Lang} (t : Static l) → Formed l 3 (nil t)
   is-cons : {l : Lang} (v w : Term l) → Formed l 4 (op2 CONS v w)
-  is-lump : (v : Term sc) → Formed ml 5 (ms L v)
+  is-lump : (o : ℕ) (v : Term sc) → Formed ml 5 (ms (L o) v)
   is-other : {l : Lang} {e : Term l} → form e ≡ other → Formed l 0 e
 
 unfoldable pub formed : (l : Lang) (e : Term l) → Formed l (formNumber (form e)) e
@@ -38,7 +38,7 @@ formed l (if0 a b c) = is-other refl
 formed l (nil t) = is-nil t
 formed l (wrong c t) = is-other refl
 formed ml (ms N a) = is-other refl
-formed ml (ms L a) = is-lump a
+formed ml (ms (L o) a) = is-lump o a
 formed ml (ms (list t) a) = is-other refl
 formed ml (ms (t to u) a) = is-other refl
 formed sc (sm t a) = is-other refl
@@ -78,7 +78,7 @@ form-by ml (wrong c t) k =
 form-by sc (wrong c t) k =
     rw (ne-eqb (word 44 c) 25 (λ e. omega (arith, e)), ne-eqb (word 44 c) 40 (λ e. omega (arith, e)), ne-eqb (word 44 c) 30 (λ e. omega (arith, e)))
 form-by ml (ms N a) k = refl
-form-by ml (ms L a) k = refl
+form-by ml (ms (L o) a) k = rw (eq-eqb (word 2 o % 256) 2 (omega arith))
 form-by ml (ms (list t) a) k = refl
 form-by ml (ms (t to u) a) k = refl
 form-by sc (sm t a) k = refl

@@ -3,11 +3,12 @@ use Prim.Native.Nat.{ℕ, _+_, _/_, _<_}
 use mathlib.Core.Bool.{Bool, true, false}
 use mathlib.Core.List.{List, [], _∷_, _++_}
 use mathlib.Core.Path.{_≡_, refl, sym, ap, _∙_, subst}
+use borrow.Author.Tests.{eq-eqb, ne-eqb}
 use lib.Dec.{T}
 use lib.ListN.{getD, drop}
-use lib.Seq.{drop-drop}
+use lib.Seq.{drop-drop, getD-drop}
 use native.Mathlib.Omega.{arith}
-use Rattle.calculus.specs.Trees.{Ty, N, L, Lang, ml, sc, Term, wrong}
+use Rattle.calculus.specs.Trees.{Ty, N, L, Lang, ml, sc, Term, wrong, ms}
 use Rattle.calculus.specs.Words.{word, put, putTy, size, sizeTy}
 use Rattle.calculus.specs.Kinds.{type, term}
 use Rattle.calculus.specs.Reduction.{form, becomes, nothing, onNumber, onLump, toML, toScheme}
@@ -17,7 +18,7 @@ use Rattle.contraction.specs.declared.became.Became.the-variants.{Nothin
 use Rattle.contraction.specs.declared.became.Piece.the-variants.{Part}
 use Rattle.contraction.specs.Forms.{isScheme}
 use Rattle.contraction.specs.Pieces.{Tells, misfitIn, numberIn, from, converted}
-use Rattle.contraction.specs.Chosen.{ValueAt, AtType, AtList, AtFunction}
+use Rattle.contraction.specs.Chosen.{ValueAt, AtType, AtLump, AtList, AtFunction}
 use Rattle.contraction.proofs.ByForm.{Formed, is-number, is-lump, by-form}
 use Rattle.contraction.proofs.Parts.{Stands, sized, stands}
 use Rattle.contraction.proofs.Looks.{no-number, no-lump, number-told, number-of}
@@ -106,35 +107,61 @@ module _ {ws : List ℕ} {form-number value end : ℕ} (p : ValueAt ws form-numb
     pub number-number : {scheme : Bool} → form-number ≡ 1 → AtType ws scheme (numberIn scheme n) N
     number-number h = record { of = λ l v k q s. rw s (number-at l v k q (value-form (from l) N v k q 1 h)) }
 
-  -- At L.
-  pub lump-ml : AtType ws false Nothing L
+  -- At an owner's L.
+  pub lump-ml : AtLump ws false Nothing
   unfolding toML
-  lump-ml = in-ml (λ v k q. refl)
+  lump-ml = record { of = λ o. in-ml (λ v k q. refl) }
 
-  pub lump-other : (form-number ≡ 5 → ⊥) → AtType ws true Nothing L
+  pub lump-other : (form-number ≡ 5 → ⊥) → AtLump ws true Nothing
   unfolding toScheme
   lump-other h =
-      in-scheme (λ v k q. subst (Tells ws Nothing) (sym (no-lump nothing _ (value-form ml L v k q form-number refl) h)) refl)
+      record {
+        of = λ o. in-scheme (λ v k q. subst (Tells ws Nothing) (sym (no-lump nothing _ (value-form ml (L o) v k q form-number refl) h)) refl);
+      }
 
-  lump-size : (l : Lang) (v : Term l) (k : List ℕ) → drop 1 ws ≡ putTy L (put v k) → end < value + 2 → Formed l 5 v → ⊥
+  lump-size : (o : ℕ) (l : Lang) (v : Term l) (k : List ℕ) → drop 1 ws ≡ putTy (L o) (put v k) → end < value + 2 → Formed l 5 v → ⊥
   unfolding size sizeTy
-  lump-size l v k q h (is-lump a) = omega (arith, h, value-stands ml L v k q .end)
+  lump-size o l v k q h (is-lump u a) = omega (arith, h, value-stands ml (L o) v k q .end)
 
-  pub lump-absurd : {scheme : Bool} → form-number ≡ 5 → end < value + 2 → AtType ws scheme Nothing L
-  lump-absurd h g = record { of = λ l v k q s. absurd (lump-size (from l) v k q g (value-form (from l) L v k q 5 h)) }
+  pub lump-absurd : {scheme : Bool} → form-number ≡ 5 → end < value + 2 → AtLump ws scheme Nothing
+  lump-absurd h g =
+      record { of = λ o. record { of = λ l v k q s. absurd (lump-size o (from l) v k q g (value-form (from l) (L o) v k q 5 h)) } }
 
-  lump-out : (v : Term ml) (k : List ℕ) → drop 1 ws ≡ putTy L (put v k) → Formed ml 5 v → Tells ws (Becomes (Part (value + 2) end)) (toScheme L v)
+  -- The owners' words stand behind the sm and behind the ms.
+  owner-here : (o : ℕ) (v : Term ml) (k : List ℕ) → drop 1 ws ≡ putTy (L o) (put v k) → getD ws 1 0 ≡ word 2 o
+  unfolding putTy
+  owner-here o v k q = sym (getD-drop 1 ws 0 0) ∙ ap (λ (w : List ℕ). getD w 0 0) q
+
+  owner-inside : (o u : ℕ) (a : Term sc) (k : List ℕ) → drop 1 ws ≡ putTy (L o) (put (ms (L u) a) k) → getD ws (value + 1) 0 ≡ word 2 u
+  unfolding put putTy
+  owner-inside o u a k q = sym (getD-drop value ws 1 0) ∙ ap (λ (w : List ℕ). getD w 1 0) (type-stands ml (L o) (ms (L u) a) k q .after)
+
+  lump-refused : (o : ℕ) (v : Term ml) (k : List ℕ) → drop 1 ws ≡ putTy (L o) (put v k) → (getD ws (value + 1) 0 ≡ getD ws 1 0 → ⊥) → Formed ml 5 v
+      → Tells ws Nothing (toScheme (L o) v)
+  unfolding toScheme onLump form
+  lump-refused o v k q n (is-lump u a) =
+      rw (ne-eqb o u (λ e. n (omega (arith, e, owner-here o v k q, owner-inside o u a k q)))) refl
+
+  pub lump-kept : form-number ≡ 5 → (getD ws (value + 1) 0 ≡ getD ws 1 0 → ⊥) → AtLump ws true Nothing
+  lump-kept h n = record { of = λ o. in-scheme (λ v k q. lump-refused o v k q n (value-form ml (L o) v k q 5 h)) }
+
+  lump-out : (o : ℕ) (v : Term ml) (k : List ℕ) → drop 1 ws ≡ putTy (L o) (put v k) → getD ws (value + 1) 0 ≡ getD ws 1 0 → Formed ml 5 v
+      → Tells ws (Becomes (Part (value + 2) end)) (toScheme (L o) v)
   unfolding toScheme onLump form put putTy size sizeTy
-  lump-out v k q (is-lump a) =
-      let z = sym (drop-drop 2 value ws) ∙ ap (drop 2) (type-stands ml L v k q .after) in
-      (_, refl, sym (sized (term sc) a k ws (value + 2) end z (omega (arith, value-stands ml L v k q .end)) .own))
+  lump-out o v k q e (is-lump u a) =
+      let z = sym (drop-drop 2 value ws) ∙ ap (drop 2) (type-stands ml (L o) v k q .after) in
+      let h : o ≡ u = omega (arith, e, owner-here o v k q, owner-inside o u a k q) in
+      rw (eq-eqb o u h) (_, refl, sym (sized (term sc) a k ws (value + 2) end z (omega (arith, value-stands ml (L o) v k q .end)) .own))
 
-  pub lump-scheme : form-number ≡ 5 → AtType ws true (Becomes (Part (value + 2) end)) L
-  lump-scheme h = in-scheme (λ v k q. lump-out v k q (value-form ml L v k q 5 h))
+  pub lump-scheme : form-number ≡ 5 → getD ws (value + 1) 0 ≡ getD ws 1 0 → AtLump ws true (Becomes (Part (value + 2) end))
+  lump-scheme h e = record { of = λ o. in-scheme (λ v k q. lump-out o v k q e (value-form ml (L o) v k q 5 h)) }
 
 -- The same where the code knows the language.
 pub known-type : {ws : List ℕ} {scheme s : Bool} {r : Became} {t : Ty} → s ≡ scheme → AtType ws scheme r t → AtType ws s r t
 known-type e h = record { of = λ l v k q i. h .of l v k q (sym e ∙ i) }
+
+pub known-lump : {ws : List ℕ} {scheme s : Bool} {r : Became} → s ≡ scheme → AtLump ws scheme r → AtLump ws s r
+known-lump e h = record { of = λ o. known-type e (h .of o) }
 
 pub known-list : {ws : List ℕ} {scheme s : Bool} {r : Became} → s ≡ scheme → AtList ws scheme r → AtList ws s r
 known-list e h = record { of = λ t. known-type e (h .of t) }

@@ -1,5 +1,5 @@
 -- The ways out of choosing a rule for ms and sm at the type of a function, and at whichever type it is. Assumes nothing.
-use Prim.Native.Nat.{ℕ, _+_, _<_}
+use Prim.Native.Nat.{ℕ, _+_, _%_, _<_}
 use mathlib.Core.Bool.{Bool, true, false}
 use mathlib.Core.List.{List, [], _∷_, _++_}
 use mathlib.Core.Path.{_≡_, refl, sym, ap, _∙_, subst}
@@ -7,7 +7,7 @@ use lib.Dec.{eqb}
 use lib.ListN.{getD, drop}
 use native.Mathlib.Omega.{arith}
 use Rattle.calculus.specs.Trees.{Ty, N, L, list, _to_, Lang, ml, sc, Term, wrong}
-use Rattle.calculus.specs.Words.{put, putTy, sizeTy}
+use Rattle.calculus.specs.Words.{word, put, putTy, sizeTy}
 use Rattle.calculus.specs.Kinds.{type, term}
 use Rattle.calculus.specs.Reduction.{form, becomes, nothing, onLambda, toML, toScheme}
 use Rattle.calculus.proofs.Sizes.{putTy-append}
@@ -19,7 +19,7 @@ use Rattle.contraction.specs.declared.became.Became.the-variants.{Nothin
 use Rattle.contraction.specs.declared.became.Piece.the-variants.{IntoML, IntoScheme}
 use Rattle.contraction.specs.Forms.{isScheme}
 use Rattle.contraction.specs.Pieces.{Tells, misfitIn, from, converted}
-use Rattle.contraction.specs.Chosen.{ValueAt, AtType, AtList, AtFunction, OfBoundary}
+use Rattle.contraction.specs.Chosen.{ValueAt, AtType, AtLump, AtList, AtFunction, OfBoundary}
 use Rattle.contraction.proofs.ByForm.{Formed, is-function, size-some}
 use Rattle.contraction.proofs.Parts.{Stands, stands}
 use Rattle.contraction.proofs.Parts as parts
@@ -84,14 +84,14 @@ module _ {ws : List ℕ} {form-number value end : ℕ} (p : ValueAt ws form-numb
 -- The type by its first word.
 data TypeBy : ℕ → Ty → Type 0 where
   by-N : TypeBy 1 N
-  by-L : TypeBy 2 L
+  by-L : (o : ℕ) → TypeBy (word 2 o) (L o)
   by-list : (t : Ty) → TypeBy 3 (list t)
   by-to : (t u : Ty) → TypeBy 4 (t to u)
 
 type-by : (t : Ty) (k : List ℕ) → TypeBy (getD (putTy t k) 0 0) t
 unfolding putTy
 type-by N k = by-N
-type-by L k = by-L
+type-by (L o) k = by-L o
 type-by (list t) k = by-list t
 type-by (t to u) k = by-to t u
 
@@ -119,38 +119,39 @@ module _ (ws : List ℕ) {r : Became} {n : ℕ} (n-is : n ≡ getD (drop 1 ws) 0
 
   only-N : At ws r N → (t : Ty) (m : ℕ) → TypeBy m t → m ≡ 1 → At ws r t
   only-N g t m by-N e = g
-  only-N g t m by-L e = absurd (omega (arith, e))
+  only-N g t m (by-L o) e = absurd (omega (arith, e))
   only-N g t m (by-list s) e = absurd (omega (arith, e))
   only-N g t m (by-to s u) e = absurd (omega (arith, e))
 
   pub at-N : n ≡ 1 → At ws r N → OfBoundary ws r
   at-N e g = turned (λ t b. only-N g t n b e)
 
-  only-L : At ws r L → (t : Ty) (m : ℕ) → TypeBy m t → m ≡ 2 → At ws r t
+  only-L : AtLump ws (eqb (getD ws 0 0) 45) r → (t : Ty) (m : ℕ) → TypeBy m t → m % 256 ≡ 2 → At ws r t
   only-L g t m by-N e = absurd (omega (arith, e))
-  only-L g t m by-L e = g
+  only-L g t m (by-L o) e = g .of o
   only-L g t m (by-list s) e = absurd (omega (arith, e))
   only-L g t m (by-to s u) e = absurd (omega (arith, e))
 
-  pub at-L : n ≡ 2 → At ws r L → OfBoundary ws r
+  pub at-L : n % 256 ≡ 2 → AtLump ws (eqb (getD ws 0 0) 45) r → OfBoundary ws r
   at-L e g = turned (λ t b. only-L g t n b e)
 
   only-list : AtList ws (eqb (getD ws 0 0) 45) r → (t : Ty) (m : ℕ) → TypeBy m t → m ≡ 3 → At ws r t
   only-list g t m by-N e = absurd (omega (arith, e))
-  only-list g t m by-L e = absurd (omega (arith, e))
+  only-list g t m (by-L o) e = absurd (omega (arith, e))
   only-list g t m (by-list s) e = g .of s
   only-list g t m (by-to s u) e = absurd (omega (arith, e))
 
   pub at-list : n ≡ 3 → AtList ws (eqb (getD ws 0 0) 45) r → OfBoundary ws r
   at-list e g = turned (λ t b. only-list g t n b e)
 
-  only-function : AtFunction ws (eqb (getD ws 0 0) 45) r → (t : Ty) (m : ℕ) → TypeBy m t → (m ≡ 1 → ⊥) → (m ≡ 2 → ⊥) → (m ≡ 3 → ⊥) → At ws r t
+  only-function : AtFunction ws (eqb (getD ws 0 0) 45) r → (t : Ty) (m : ℕ) → TypeBy m t → (m ≡ 1 → ⊥) → (m % 256 ≡ 2 → ⊥) → (m ≡ 3 → ⊥)
+      → At ws r t
   only-function g t m by-N a b c = absurd (a refl)
-  only-function g t m by-L a b c = absurd (b refl)
+  only-function g t m (by-L o) a b c = absurd (b (omega arith))
   only-function g t m (by-list s) a b c = absurd (c refl)
   only-function g t m (by-to s u) a b c = g .of s u
 
-  pub at-function : (n ≡ 1 → ⊥) → (n ≡ 2 → ⊥) → (n ≡ 3 → ⊥) → AtFunction ws (eqb (getD ws 0 0) 45) r → OfBoundary ws r
+  pub at-function : (n ≡ 1 → ⊥) → (n % 256 ≡ 2 → ⊥) → (n ≡ 3 → ⊥) → AtFunction ws (eqb (getD ws 0 0) 45) r → OfBoundary ws r
   at-function a b c g = turned (λ t z. only-function g t n z a b c)
 
 -- No type, or no value after it.

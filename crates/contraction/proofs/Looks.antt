@@ -23,7 +23,7 @@ module _ {m : Lang} (o : Became m) where
   no-number k (is-function t b) h = refl
   no-number k (is-nil t) h = refl
   no-number k (is-cons v w) h = refl
-  no-number k (is-lump v) h = refl
+  no-number k (is-lump u v) h = refl
   no-number k (is-other q) h = ap (λ f. onNumber f o k) q
 
   pub no-lambda : {l : Lang} {v : Term l} {n : ℕ} (k : Static l → Term l → Became m) → Formed l n v → (n ≡ 2 → ⊥) → onLambda (form v) o k ≡ o
@@ -32,7 +32,7 @@ module _ {m : Lang} (o : Became m) where
   no-lambda k (is-function t b) h = absurd (h refl)
   no-lambda k (is-nil t) h = refl
   no-lambda k (is-cons v w) h = refl
-  no-lambda k (is-lump v) h = refl
+  no-lambda k (is-lump u v) h = refl
   no-lambda k (is-other q) h = ap (λ f. onLambda f o k) q
 
   pub no-list : {l : Lang} {v : Term l} {n : ℕ} (e : Static l → Became m) (k : Term l → Term l → Became m) → Formed l n v → (n ≡ 3 → ⊥) → (n ≡ 4 → ⊥)
@@ -42,16 +42,16 @@ module _ {m : Lang} (o : Became m) where
   no-list e k (is-function t b) h g = refl
   no-list e k (is-nil t) h g = absurd (h refl)
   no-list e k (is-cons v w) h g = absurd (g refl)
-  no-list e k (is-lump v) h g = refl
+  no-list e k (is-lump u v) h g = refl
   no-list e k (is-other q) h g = ap (λ f. onList f o e k) q
 
-pub no-lump : {m : Lang} (o : Became m) {v : Term ml} {n : ℕ} (k : Term _ → Became m) → Formed ml n v → (n ≡ 5 → ⊥) → onLump (form v) o k ≡ o
+pub no-lump : {m : Lang} (o : Became m) {v : Term ml} {n : ℕ} (k : ℕ → Term _ → Became m) → Formed ml n v → (n ≡ 5 → ⊥) → onLump (form v) o k ≡ o
 unfolding onLump form
 no-lump o k (is-number n) h = refl
 no-lump o k (is-function t b) h = refl
 no-lump o k (is-nil t) h = refl
 no-lump o k (is-cons v w) h = refl
-no-lump o k (is-lump v) h = absurd (h refl)
+no-lump o k (is-lump u v) h = absurd (h refl)
 no-lump o k (is-other q) h = ap (λ f. onLump f o k) q
 
 -- A value that no rule takes.

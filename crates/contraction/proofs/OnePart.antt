@@ -31,7 +31,7 @@ null-told ws a n (is-number m) = refl
 null-told ws a n (is-function t b) = refl
 null-told ws a n (is-nil t) = (_, refl, refl)
 null-told ws a n (is-cons v w) = (_, refl, refl)
-null-told ws a n (is-lump v) = refl
+null-told ws a n (is-lump o v) = refl
 null-told ws a n (is-other q) = rw q refl
 
 -- Scheme's tests, by the form.

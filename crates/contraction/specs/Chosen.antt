@@ -4,7 +4,7 @@ use mathlib.Core.Bool.{Bool}
 use mathlib.Core.List.{List}
 use mathlib.Core.Path.{_≡_}
 use lib.ListN.{length, drop}
-use Rattle.calculus.specs.Trees.{Ty, list, _to_, Lang, ml, sc, Op1, FIX, Op2, APP, Term, op1, op2, if0, ms, sm, fix}
+use Rattle.calculus.specs.Trees.{Ty, L, list, _to_, Lang, ml, sc, Op1, FIX, Op2, APP, Term, op1, op2, if0, ms, sm, fix}
 use Rattle.calculus.specs.Words.{put, putTy, words}
 use Rattle.calculus.specs.Reduction.{contract, contract1, contract2, toML, toScheme}
 use Rattle.writing.specs.Given.{Given, mostWords}
@@ -70,6 +70,10 @@ pub record ValueAt (ws : List ℕ) (form value end : ℕ) : Type 0 where
 -- At the type t, whose words stand from 1 up to the value.
 pub record AtType (ws : List ℕ) (scheme : Bool) (r : Became) (t : Ty) : Type 0 where
   pub of : (l : Lang) (v : Term (from l)) (k : List ℕ) → drop 1 ws ≡ putTy t (put v k) → scheme ≡ isScheme l → Tells ws r (converted l t v)
+
+-- At an owner's L, at {t}, at t to u, whichever they are.
+pub record AtLump (ws : List ℕ) (scheme : Bool) (r : Became) : Type 0 where
+  pub of : (o : ℕ) → AtType ws scheme r (L o)
 
 pub record AtList (ws : List ℕ) (scheme : Bool) (r : Became) : Type 0 where
   pub of : (t : Ty) → AtType ws scheme r (list t)

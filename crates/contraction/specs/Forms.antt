@@ -14,10 +14,10 @@ formNumber (number n) = 1
 formNumber (lambda t b) = 2
 formNumber (nilForm t) = 3
 formNumber (consForm v w) = 4
-formNumber (sealed v) = 5
+formNumber (sealed o v) = 5
 formNumber other = 0
 
--- By the shape, the first word and the second: ms L is `30 2`.
+-- By the shape, the first word and the second: ms at an owner's L is 30 and a word of the kind 2.
 abbrev pub formBy : ℕ → ℕ → ℕ → ℕ
 formBy shape w v =
     cond (eqb shape 2) 1
@@ -25,7 +25,7 @@ formBy shape w v =
     (cond (eqb shape 7) 3
     (cond (eqb w 25) 4
     (cond (eqb w 40) 4
-    (cond (eqb w 30) (cond (eqb v 2) 5 0) 0)))))
+    (cond (eqb w 30) (cond (eqb (v % 256) 2) 5 0) 0)))))
 
 unfoldable pub formAt : List ℕ → ℕ
 formAt ws = formBy (rowOf (getD ws 0 0 % 256) .shape) (getD ws 0 0) (getD ws 1 0)

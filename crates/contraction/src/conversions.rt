@@ -11,10 +11,10 @@ use writing::spans::skip;
 ghost use mathlib.Core.Path.{_≡_};
 ghost use Prim.Native.Nat.{_≤_};
 ghost use lib.ListN.{length};
-ghost use Rattle.calculus.specs.Trees.{N, L};
+ghost use Rattle.calculus.specs.Trees.{N};
 ghost use Rattle.writing.specs.Given.{mostWords, Given};
 ghost use Rattle.contraction.specs.Pieces.{BecameIn, misfitIn};
-ghost use Rattle.contraction.specs.Chosen.{NodeIn, ValueAt, AtType, AtList, AtFunction, OfBoundary};
+ghost use Rattle.contraction.specs.Chosen.{NodeIn, ValueAt, AtType, AtLump, AtList, AtFunction, OfBoundary};
 
 // A value that has not the type, whose words end at `value`: a wrong in ML.
 fn misfit(scheme: bool, code: u32, value: usize) -> Became
@@ -43,17 +43,20 @@ fn at_number(words: &[u32], scheme: bool, form: u64, value: usize, end: usize) -
     number_in(scheme, number_at(&words[value..]))
 }
 
-// At the type L: nothing is opened on its way into ML.
+// At an owner's L: nothing is opened on its way into ML, and on its way out only what that same owner has sealed.
 fn at_lump(words: &[u32], scheme: bool, form: u64, value: usize, end: usize) -> Became
     requires { ⌜ (length (now words) ≤ mostWords) × ValueAt (now words) form value end ⌝ }
     ensures placed { λ r. ⌜ BecameIn (length (now (words .entry))) r ⌝ }
-    ensures told { λ r. ⌜ AtType (now (words .entry)) scheme r L ⌝ }
+    ensures told { λ r. ⌜ AtLump (now (words .entry)) scheme r ⌝ }
 {
     if scheme {
         if form != crate::forms::LUMP {
             return Became::Nothing;
         }
         if end < value + 2 {
+            return Became::Nothing;
+        }
+        if words[value + 1] != words[1] {
             return Became::Nothing;
         }
         return Became::Becomes(Piece::Part {
@@ -169,7 +172,7 @@ pub fn converted(table: &Kinds, words: &[u32], end: usize) -> Became
     if t == nodes::words::N {
         return at_number(words, scheme, form, value, end);
     }
-    if t == nodes::words::L {
+    if t % 256 == nodes::words::L {
         return at_lump(words, scheme, form, value, end);
     }
     if t == nodes::words::LIST {

@@ -18,7 +18,7 @@ pub const CONS: u64 = 4;
 
 pub const LUMP: u64 = 5;
 
-// The form of the node that the words start with: `LUMP` is ms L of a term.
+// The form of the node that the words start with: `LUMP` is ms at an owner's L of a term.
 pub fn form_at(table: &Kinds, words: &[u32]) -> u64
     requires { ⌜ now table ≡ kinds ⌝ }
     ensures { λ r. ⌜ r ≡ formAt (now (words .entry)) ⌝ }
@@ -49,7 +49,7 @@ pub fn form_at(table: &Kinds, words: &[u32]) -> u64
     if words.len() < 2 {
         return OTHER;
     }
-    if words[1] == nodes::words::L {
+    if words[1] % 256 == nodes::words::L {
         return LUMP;
     }
     OTHER

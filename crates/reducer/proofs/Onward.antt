@@ -200,7 +200,8 @@ onward m (inside (second CONS a) A) x r v =
     value-on (second CONS a) A x refl refl (omega arith) (onward m A (plug (second CONS a) x) (r .1) (consV (r .0) v))
 onward m (inside (tested b c) A) x r v = inr (ripe-over (tested b c) A x refl refl (r .1) v)
 onward m (inside (intoML N) A) x r v = inr (ripe-over (intoML N) A x refl refl (r .1) (refl, v))
-onward m (inside (intoML L) A) x r v = value-on (intoML L) A x refl refl (omega arith) (onward ml A (plug (intoML L) x) (r .1) (lumpV v))
+onward m (inside (intoML (L o)) A) x r v =
+    value-on (intoML (L o)) A x refl refl (omega arith) (onward ml A (plug (intoML (L o)) x) (r .1) (lumpV v))
 onward m (inside (intoML (list t)) A) x r v = inr (ripe-over (intoML (list t)) A x refl refl (r .1) (refl, v))
 onward m (inside (intoML (t to u)) A) x r v = inr (ripe-over (intoML (t to u)) A x refl refl (r .1) (refl, v))
 onward m (inside (intoScheme t) A) x r v = inr (ripe-over (intoScheme t) A x refl refl (r .1) v)

@@ -159,7 +159,7 @@ module _ (ws : List ℕ) (shape : ℕ) (shape-is : shape ≡ rowOf (getD ws 0 0 
     lump-form : (t : Ty) (a : Term sc) → eqb (formNumber (form (ms t a))) 0 ≡ not (isLump t)
     unfolding form
     lump-form N a = refl
-    lump-form L a = refl
+    lump-form (L o) a = refl
     lump-form (list t) a = refl
     lump-form (t to u) a = refl
 

@@ -80,7 +80,8 @@ at-lump-requires c κs = let f = c .before .before .before .before in (start (at
 returns-4 : tie.Need-returns-4
 returns-4 c =
     let g = c .at-lump .ensures in
-    let f = c .before .before .before .before .before in (g .0, at-L _ (sym (getD-drop 1 (ws (at f)) 0 0)) (c .before .if4 .taken) (g .1))
+    let f = c .before .before .before .before .before in
+    (g .0, at-L _ (sym (getD-drop 1 (ws (at f)) 0 0)) (omega (arith, c .before .if4 .taken)) (g .1))
 
 at-list-requires : tie.Need-at-list-requires
 at-list-requires c κs = let f = c .before .before .before .before .before in (start (at f) .pre .given, known f)
