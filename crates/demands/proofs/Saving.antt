@@ -14,6 +14,7 @@ use Rattle.calculus.specs.Counting.{later}
 use Rattle.calculus.specs.Endings.{Ending}
 use Rattle.calculus.specs.File.{bytesOf, fileOf, Recipe, operate, padded, leftBy}
 use Rattle.calculus.specs.Accepted.{Accepted}
+use Rattle.calculus.proofs.Types.{equal-by-words}
 use Rattle.calculus.proofs.Verdicts.{not-both, passed-injective, refused-injective}
 use Rattle.calculus.proofs.Checks.{accepted-once, operate-iff}
 use Rattle.calculus.proofs.Bounds.{operate-bounded}
@@ -38,7 +39,7 @@ use Rattle.saving.specs.declared.Saved.the-variants.{Refused, File}
 use Rattle.saving.proofs.Bytes.{file-bytes}
 use Rattle.saving.proofs.Saving.{refused-by, passed-by}
 use Rattle.saving.proofs.Laws.{exactly}
-use Rattle.saving.proofs.Going.{one-tree, goes-on}
+use Rattle.saving.proofs.Going.{goes-on}
 use Rattle.demands.specs.Saved.{Handed, handed, bytesDue, Finishes, refuses, writes, RefusedBy, Savable, SavedOnce, Paused, leftOf, writtenOf}
 use Rattle.demands.specs.Saved.{ReadBack, after, AsOne, SaveRuns}
 use Rattle.demands.proofs.Running as running
@@ -213,7 +214,7 @@ module _ (l : Lent) (g : Returned) (run : Promised l g) (types out : List ℕ) (
     reads n q =
         let w = written h x out′ saves n q in
         let f = exactly (wordsTy (p .declared)) (r .left) (length out) .saves (w .file) .0 (w .made) .0 in
-        let same = one-tree type (f .declared) (p .declared) tt tt (sym (f .types-are)) in
+        let same = equal-by-words .equal (f .declared) (p .declared) .1 (sym (f .types-are)) in
         let e = ending (l .limit) (room l) (p .term) (p .declared) (p .accepted .typed) in
         record {
           by-rules = e;

@@ -1,5 +1,6 @@
 -- The listing's examples: each computes. Assumes nothing.
 use mathlib.Core.Path.{refl}
+use native.Mathlib.Decide.{ℕ-discrete}
 use Rattle.calculus.specs.Words.{put, putTy, size, sizeTy}
 use Rattle.calculus.specs.Kinds.{rowFor}
 use Rattle.calculus.specs.Reading.{walk, inOrder, read, readTree}
@@ -12,5 +13,5 @@ use Rattle.lister.specs.Listing.{field, listing, Examples}
 
 pub examples : Examples
 unfolding listing field decimal operate runIn check checkWords typed wordsOf run step turn fill contract
-    contract2 contract1 onNumbers onList onNumber form infer read readTree inOrder walk rowFor put putTy size sizeTy
+    contract2 contract1 onNumbers onList onNumber form infer ℕ-discrete read readTree inOrder walk rowFor put putTy size sizeTy
 examples = record { sum = refl; hd-of-nil = refl; sealed = refl; empty-file = refl }

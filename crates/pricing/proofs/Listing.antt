@@ -17,13 +17,13 @@ use Rattle.pricing.specs.Items.{listOf, items, itemsIn, Lists}
 -- Types tell themselves apart.
 abbrev class : Ty → ℕ
 class N = 0
-class L = 1
+class (L o) = 1
 class (list t) = 2
 class (t to u) = 3
 
 abbrev element : Ty → Ty
 element N = N
-element L = L
+element (L o) = L o
 element (list t) = t
 element (t to u) = t
 

@@ -3,7 +3,6 @@ use Prim.Native.Nat.{ℕ, zero, suc, _+_, _≤_}
 use mathlib.Core.Bool.{Bool, true, false}
 use mathlib.Core.List.{List, []}
 use mathlib.Core.Logic.{_⊎_, inl, inr}
-use mathlib.Core.Option.{Option·some-injective}
 use mathlib.Core.Path.{_≡_, refl, sym, ap, _∙_, subst}
 use native.Mathlib.Omega.{arith}
 use lib.Dec.{leb}
@@ -11,17 +10,16 @@ use lib.ListN.{length}
 use borrow.Author.Tests.{leb-true, leb-false}
 use Rattle.calculus.specs.Trees.{Ty, ml, Term}
 use Rattle.calculus.specs.Words.{wordsTy, words, size}
-use Rattle.calculus.specs.Kinds.{Sort, type, term, Tree, putTree}
-use Rattle.calculus.specs.Limits.{nestingTy, nesting}
+use Rattle.calculus.specs.Kinds.{type, term}
+use Rattle.calculus.specs.Limits.{InRangeTy, nestingTy, nesting}
 use Rattle.calculus.specs.Verdicts.{refused, passed}
-use Rattle.calculus.specs.Reading.{readTree}
-use Rattle.calculus.specs.Nodes.{TreeInRange}
 use Rattle.calculus.specs.Run.{End, valued, spent, error, full, Open, uncounted, Result, run, capacity}
 use Rattle.calculus.specs.Counting.{later}
 use Rattle.calculus.specs.File.{Recipe, judged, operate}
 use Rattle.calculus.specs.Accepted.{Accepted}
 use Rattle.calculus.proofs.Verdicts.{not-both, refused-injective}
-use Rattle.calculus.proofs.Reading.{whole-tree}
+use Rattle.calculus.proofs.Reading.{one-tree}
+use Rattle.calculus.proofs.Types.{equal-by-words}
 use Rattle.calculus.proofs.Typing.{typed-scoped}
 use Rattle.calculus.proofs.Nesting.{Ordered, ordered-passes, deeper-refused}
 use Rattle.calculus.proofs.Runs.{lastTerm}
@@ -38,11 +36,12 @@ left-open error t f = absurd f
 left-open full t f = refl
 
 -- Of the words of a term in range and of the declared type, conditions 3 to 7 give nothing but 4.
-judged-fine : (τ : Ty) (t : Term ml) (start : ℕ) → nestingTy τ ≤ 256 → Fine τ t → (n p : ℕ) → judged (wordsTy τ) (words t) start ≡ refused n p → n ≡ 4
-judged-fine τ t start h g n p q = by (leb (nesting t) 256) refl
+judged-fine : (τ : Ty) (t : Term ml) (start : ℕ) → InRangeTy τ → nestingTy τ ≤ 256 → Fine τ t → (n p : ℕ)
+    → judged (wordsTy τ) (words t) start ≡ refused n p → n ≡ 4
+judged-fine τ t start r h g n p q = by (leb (nesting t) 256) refl
   where
     types : Ordered type (wordsTy τ)
-    types = record { tree = τ; spelt = refl; ranged = tt; nests = h }
+    types = record { tree = τ; spelt = refl; ranged = r; nests = h }
 
     by : (b : Bool) → leb (nesting t) 256 ≡ b → n ≡ 4
     by true e =
@@ -53,10 +52,6 @@ judged-fine τ t start h g n p q = by (leb (nesting t) 256) refl
         let i = deeper-refused (term ml) t (g .ranged) (leb-false (nesting t) 256 e) in
         let j : judged (wordsTy τ) (words t) start ≡ refused 4 (start + i .0) = rw (ordered-passes type (wordsTy τ) types, i .1) in
         refused-injective (sym q ∙ j) .0
-
--- Words are those of one tree in range.
-pub one-tree : (s : Sort) (t u : Tree s) → TreeInRange s t → TreeInRange s u → putTree s t [] ≡ putTree s u [] → t ≡ u
-one-tree s t u i j q = Option·some-injective t u (sym (whole-tree s t i) ∙ ap (readTree s) q ∙ whole-tree s u j)
 
 module _ (bytes : List ℕ) (k first second : ℕ) (τ : Ty) (r : Result) (h : Paused bytes k first second τ r) where
   abbrev cap : ℕ
@@ -102,14 +97,16 @@ module _ (bytes : List ℕ) (k first second : ℕ) (τ : Ty) (r : Result) (h : P
     where
       by : Numbered (wordsTy τ) (r .left) n p
           → (n ≤ 7 → judged (wordsTy τ) (r .left) (4 + length (wordsTy τ)) ≡ refused n p) → (n ≡ 4) ⊎ (n ≡ 12) ⊎ (n ≡ 13)
-      by (inl i) j = inl (judged-fine τ t (4 + length (wordsTy τ)) (left .accepted .nestsTy) fine n p (rw (left .words-are) at j (i .1)))
+      by (inl i) j =
+          let a = left .accepted in
+          inl (judged-fine τ t (4 + length (wordsTy τ)) (a .rangedTy) (a .nestsTy) fine n p (rw (left .words-are) at j (i .1)))
       by (inr i) j = inr (i .0)
 
   -- The file that was saved holds the declared type and the last term.
   saved : (file : List ℕ) → FileOf (wordsTy τ) (r .left) file → Accepted file τ t
   saved file f =
-      let p = one-tree type (f .declared) τ tt tt (sym (f .types-are)) in
-      let q = one-tree (term ml) (f .term) t (f .accepted .ranged) (fine .ranged) (sym (f .terms-are) ∙ left .words-are) in
+      let p = equal-by-words .equal (f .declared) τ .1 (sym (f .types-are)) in
+      let q = one-tree (term ml) (f .term) t [] [] (f .accepted .ranged) (fine .ranged) (sym (f .terms-are) ∙ left .words-are) .0 in
       subst (λ (u : Term ml). Accepted file τ u) q (subst (λ (σ : Ty). Accepted file σ (f .term)) p (f .accepted))
 
   as-one : (room : ℕ) (file : List ℕ) → saving (wordsTy τ) (r .left) room ≡ passed file → (j : ℕ) → 1 ≤ j

@@ -11,7 +11,7 @@ use borrow.Author.Tests.{leb-true, leb-false, le-leb, lt-leb}
 use Rattle.calculus.specs.Trees.{Ty, ml, Term}
 use Rattle.calculus.specs.Words.{wordsTy, words, size, sizeTy}
 use Rattle.calculus.specs.Kinds.{type, term}
-use Rattle.calculus.specs.Limits.{nestingTy}
+use Rattle.calculus.specs.Limits.{InRangeTy, nestingTy}
 use Rattle.calculus.specs.Verdicts.{Verdict, refused, passed, andThen, unless}
 use Rattle.calculus.specs.Reading.{walk, inOrder}
 use Rattle.calculus.specs.File.{wordsOf, bytesOf, fileOf, Recipe, judged, checkWords, check, isHeader}
@@ -73,6 +73,7 @@ module _ (types terms : List ℕ) where
               spelt = words-back (fileOf types terms) ∙ file-of types terms (t .tree) (e .tree) (t .spelt) (e .spelt);
               nestsTy = t .nests;
               nests = e .nests;
+              rangedTy = t .ranged;
               ranged = e .ranged;
               closed = j .2;
               typed = j .3;
@@ -83,7 +84,7 @@ module _ (types terms : List ℕ) where
   file-judged : (bs : List ℕ) (f : FileOf types terms bs) → judged types terms start ≡ passed (f .declared, f .term)
   file-judged bs f =
       let a = f .accepted in
-      let t : Ordered type types = record { tree = f .declared; spelt = f .types-are; ranged = tt; nests = a .nestsTy } in
+      let t : Ordered type types = record { tree = f .declared; spelt = f .types-are; ranged = a .rangedTy; nests = a .nestsTy } in
       let e : Ordered (term ml) terms = record { tree = f .term; spelt = f .terms-are; ranged = a .ranged; nests = a .nests } in
       judged-iff types terms start (f .declared, f .term) .1 (t, e, a .closed, a .typed, refl)
 
@@ -206,10 +207,10 @@ no-type : (terms : List ℕ) (from : ℕ) → judged [] terms from ≡ refused 3
 unfolding inOrder walk
 no-type terms from = refl
 
-no-term : (τ : Ty) (from : ℕ) → nestingTy τ ≤ 256 → judged (wordsTy τ) [] from ≡ refused 3 from
+no-term : (τ : Ty) (from : ℕ) → InRangeTy τ → nestingTy τ ≤ 256 → judged (wordsTy τ) [] from ≡ refused 3 from
 unfolding inOrder walk
-no-term τ from h =
-    let t : Ordered type (wordsTy τ) = record { tree = τ; spelt = refl; ranged = tt; nests = h } in
+no-term τ from g h =
+    let t : Ordered type (wordsTy τ) = record { tree = τ; spelt = refl; ranged = g; nests = h } in
     rw (ordered-passes type (wordsTy τ) t) (ap (refused 3) (omega arith))
 
 pub judges : Judges

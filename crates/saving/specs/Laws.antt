@@ -6,7 +6,7 @@ use mathlib.Core.Path.{_≡_}
 use lib.ListN.{length}
 use Rattle.calculus.specs.Trees.{Ty, ml, Term}
 use Rattle.calculus.specs.Words.{wordsTy, words}
-use Rattle.calculus.specs.Limits.{nestingTy}
+use Rattle.calculus.specs.Limits.{InRangeTy, nestingTy}
 use Rattle.calculus.specs.Verdicts.{refused, passed}
 use Rattle.calculus.specs.Run.{Open, Result}
 use Rattle.calculus.specs.Counting.{later}
@@ -46,7 +46,7 @@ pub record Judges : Type 0 where
   pub as-checked : (types terms : List ℕ) → 1 ≤ length types → 1 ≤ length terms → fileBytes (length types) (length terms) ≤ 16384
       → check (bytesOf (fileOf types terms)) ≡ judged types terms (4 + length types)
   pub no-type : (terms : List ℕ) (start : ℕ) → judged [] terms start ≡ refused 3 4
-  pub no-term : (τ : Ty) (start : ℕ) → nestingTy τ ≤ 256 → judged (wordsTy τ) [] start ≡ refused 3 start
+  pub no-term : (τ : Ty) (start : ℕ) → InRangeTy τ → nestingTy τ ≤ 256 → judged (wordsTy τ) [] start ≡ refused 3 start
 
 -- Bytes are numbers under 256.
 abbrev pub Bytes : List ℕ → Type 0
