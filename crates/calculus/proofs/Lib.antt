@@ -43,4 +43,5 @@ pub mod Converting
 pub mod Reaching
 pub mod Conversions
 pub mod Owners
+pub mod Ownerless
 pub mod Recipes

@@ -1,13 +1,17 @@
 -- Document 02, "Lumps with owners": of types, of the published typing and of the published reduction. proofs/Owners.antt proves it.
-use Prim.Native.Nat.{ℕ}
+use Prim.Native.Nat.{ℕ, _%_}
+use mathlib.Core.Bool.{cond}
 use mathlib.Core.List.{List, [], _∷_, _++_}
 use mathlib.Core.Logic.{_↔_}
 use mathlib.Core.Path.{_≡_}
-use Rattle.calculus.specs.Trees.{Ty, N, L, list, _to_, ml, sc, Term, ms, sm, app}
+use lib.Dec.{eqb}
+use Rattle.calculus.specs.Trees.{Ty, N, L, list, _to_, Lang, ml, sc, Static, Term, var, num, lam, op1, op2, if0, nil, wrong, ms, sm, app}
 use Rattle.calculus.specs.Words.{wordsTy}
 use Rattle.calculus.specs.Scope.{Scoped}
 use Rattle.calculus.specs.Typing.{Lambdas, Typed}
 use Rattle.calculus.specs.Rules.{Value, _⊢_⇒_, Steps}
+use Rattle.calculus.specs.Run.{End, Counts, ended}
+use Rattle.calculus.specs.Endings.{Ends}
 
 -- The owners in a type, in the order of its words; and the type without them, as it was written before: with owner 0 for each.
 unfoldable pub owners : Ty → List ℕ
@@ -37,3 +41,37 @@ pub record Owners : Type 0 where
   -- What takes one owner's lump is not given another's: neither a function of ML nor sm.
   pub not-given : (o u : ℕ) → ¬ (o ≡ u) → (Γ : Lambdas) (e : Term ml) → Typed Γ e (L u)
       → (¬ Typed Γ (sm (L o) e) tt) × ((f : Term ml) (t : Ty) → Typed Γ f (L o to t) → (τ : Ty) → ¬ Typed Γ (app f e) τ)
+
+-- A term without its owners: every type that is written in it.
+abbrev pub ownerlessStatic : (l : Lang) → Static l → Static l
+ownerlessStatic ml t = ownerless t
+ownerlessStatic sc t = tt
+
+unfoldable pub ownerlessTerm : {l : Lang} → Term l → Term l
+ownerlessTerm (var i) = var i
+ownerlessTerm (num n) = num n
+ownerlessTerm (lam {l} t b) = lam (ownerlessStatic l t) (ownerlessTerm b)
+ownerlessTerm (op1 o a) = op1 o (ownerlessTerm a)
+ownerlessTerm (op2 o a b) = op2 o (ownerlessTerm a) (ownerlessTerm b)
+ownerlessTerm (if0 a b c) = if0 (ownerlessTerm a) (ownerlessTerm b) (ownerlessTerm c)
+ownerlessTerm (nil {l} t) = nil (ownerlessStatic l t)
+ownerlessTerm (wrong {l} c t) = wrong c (ownerlessStatic l t)
+ownerlessTerm (ms t a) = ms (ownerless t) (ownerlessTerm a)
+ownerlessTerm (sm t a) = sm (ownerless t) (ownerlessTerm a)
+
+-- A word without its owner, if it has one; and words without theirs.
+abbrev pub ownerlessWord : ℕ → ℕ
+ownerlessWord w = cond (eqb (w % 256) 2) 2 w
+
+unfoldable pub ownerlessWords : List ℕ → List ℕ
+ownerlessWords [] = []
+ownerlessWords (w ∷ ws) = ownerlessWord w ∷ ownerlessWords ws
+
+-- What owners do: they refuse recipes, and change no run. A term that has its type has it without them, makes the same steps, and ends the same
+-- under every limit and capacity, with the same counts, but for the owners in the words left.
+pub record OwnersRefuseOnly : Type 0 where
+  pub typed : (τ : Ty) (e : Term ml) → Typed [] e τ → Typed [] (ownerlessTerm e) (ownerless τ)
+  pub steps : (n : ℕ) (e r : Term ml) → Steps n e r → Steps n (ownerlessTerm e) (ownerlessTerm r)
+  pub ends : (limit cap : ℕ) (e : Term ml) (end : End) (code : ℕ) (made : Counts) (left : List ℕ) (wanted : ℕ)
+      → Ends limit cap e (ended end code made left wanted)
+      → Ends limit cap (ownerlessTerm e) (ended end code made (ownerlessWords left) wanted)
