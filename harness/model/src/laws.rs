@@ -1,9 +1,10 @@
-//! Demand 3, the law of owners, that of the counts and that of going on as tests of terms and runs: what the proofs say of the
+//! Demand 3, the laws of owners, that of the counts and that of going on as tests of terms and runs: what the proofs say of the
 //! definitions, tried on the definitions here.
 
 use crate::check::{check, Recipe, Refusal};
 use crate::class::{Class, ClassCounts};
 use crate::node::{ml_words, Node};
+use crate::owners::{forgotten, without_owners};
 use crate::run::{run, End, Ended, Run};
 use crate::save::save;
 use crate::scope::unbound;
@@ -57,6 +58,27 @@ pub fn try_lumps(node: Node<'_>) -> Result<(), String> {
         }
     }
     node.parts().into_iter().flatten().try_for_each(try_lumps)
+}
+
+/// Owners refuse recipes and change no run: a recipe that is accepted is accepted too with owner 0 for every lump, and then ends the
+/// same under every limit and capacity. Answers whether the file is one that is accepted.
+pub fn try_ownerless(bytes: &[u8], limit: u32, lengths: [usize; 2]) -> Result<bool, String> {
+    let plain = without_owners(bytes);
+    match (check(bytes), check(&plain)) {
+        (Err(_), _) => return Ok(false),
+        (Ok(_), Err(refusal)) => return Err(format!("accepted, but without owners refused by {}", refusal.number)),
+        (Ok(_), Ok(_)) => {}
+    }
+    let [owned, ownerless] = [bytes, &plain].map(|bytes| run(bytes, limit, lengths[0], lengths[1]));
+    match alike_but_owners(&owned, &ownerless) {
+        true => Ok(true),
+        false => Err(format!("{:?}, but without owners {:?}", owned.result, ownerless.result)),
+    }
+}
+
+/// A run and that of the same recipe without owners: the same answer, and the same words left but for the owners.
+pub fn alike_but_owners(owned: &Run, ownerless: &Run) -> bool {
+    owned.result == ownerless.result && forgotten(&owned.first) == ownerless.first && owned.second == ownerless.second
 }
 
 /// If the first run ended as a value or an error, the second, lent at least as much, ended the same.

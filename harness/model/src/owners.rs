@@ -1,5 +1,6 @@
 //! Owners of lumps, from document 02's request U6: "Types are equal only if the owners are too."
 
+use crate::file::{bytes_of, words_of};
 use crate::kinds::LUMP;
 use crate::tree::Type;
 
@@ -55,4 +56,17 @@ fn same_shape(due: &Type, found: &Type, within: Within, all: &mut Vec<Differing>
 /// The owners that the words of types and terms name, those out of range too.
 pub fn owners(words: &[u32]) -> impl Iterator<Item = u32> + '_ {
     words.iter().filter(|word| **word % 256 == LUMP).map(|word| word / 256)
+}
+
+/// The words with owner 0 for every lump.
+pub fn forgotten(words: &[u32]) -> Vec<u32> {
+    words.iter().map(|&word| if word % 256 == LUMP { LUMP } else { word }).collect()
+}
+
+/// The file with owner 0 for every lump; its header stays.
+pub fn without_owners(bytes: &[u8]) -> Vec<u8> {
+    match words_of(bytes) {
+        Ok(words) => bytes_of(&[&words[..4], &forgotten(&words[4..])].concat()),
+        Err(_) => bytes.to_vec(),
+    }
 }

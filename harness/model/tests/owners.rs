@@ -4,11 +4,11 @@ mod common;
 use common::*;
 use model::build::{l, list, ml, n, sc, to};
 use model::file::file;
-use model::laws::try_lumps;
+use model::laws::{alike_but_owners, try_lumps, try_ownerless};
 use model::node::Node;
-use model::owners::{differing, owners, Differing, Within};
+use model::owners::{differing, forgotten, owners, without_owners, Differing, Within};
 use model::rules::scheme_rule;
-use model::{End, Ml, Scheme};
+use model::{on_large_stack, End, Ml, Scheme};
 use std::rc::Rc;
 
 /// The word of L with an owner.
@@ -202,4 +202,88 @@ fn owners_that_differ_are_told_from_left_to_right() {
         [None, None, None]
     );
     assert_eq!(owners(&[4, lump(7), w(17, 2), lump(256), 2]).collect::<Vec<_>>(), [7, 256, 0]);
+}
+
+#[test]
+fn what_is_forgotten_is_the_owners_of_lumps_alone() {
+    // v1, 1, wrong 1, a word of kind 130 and one of kind 2 with an owner over the last.
+    let words = [w(16, 1), w(17, 1), w(29, 1), w(130, 7), lump(300), lump(7), 2];
+    assert_eq!(forgotten(&words), [w(16, 1), w(17, 1), w(29, 1), w(130, 7), 2, 2, 2]);
+    // The header says 258 words of type, which is the word of owner 1's L: it stays.
+    let lists = chain(&[3], 257, &[lump(7)]);
+    assert_eq!(without_owners(&file(&lists, &[17])), file(&chain(&[3], 257, &[2]), &[17]));
+    assert_eq!(without_owners(&[2, 7, 0, 0]), [2, 7, 0, 0]);
+}
+
+/// A recipe with owners and the same without them, both written by hand: under this limit and in this capacity both end as said,
+/// each with its words.
+fn both_end(
+    recipes: [[&[u32]; 2]; 2],
+    lent_both: (u32, usize),
+    end: Result<model::Ended, model::Refusal>,
+    left: [&[u32]; 2],
+) {
+    let [owned, ownerless] = recipes.map(|[declared, term]| lent(declared, term, lent_both.0, lent_both.1));
+    leaves(&owned, end, left[0]);
+    leaves(&ownerless, end, left[1]);
+    assert!(alike_but_owners(&owned, &ownerless));
+    let [declared, term] = recipes[0];
+    let tried = on_large_stack(|| try_ownerless(&file(declared, term), lent_both.0, [lent_both.1; 2]));
+    assert_eq!(tried, Ok(true));
+}
+
+#[test]
+fn owners_change_no_run() {
+    let (a, b) = (lump(7), lump(9));
+    // ms L9 (sm L7 (ms L7 4)): a value, spent before its step, and refused for its words.
+    let resealed: [[&[u32]; 2]; 2] =
+        [[&[b], &[30, b, 45, a, 30, a, w(33, 4)]], [&[2], &[30, 2, 45, 2, 30, 2, w(33, 4)]]];
+    let value = ended(End::Value, 0, 1, 3, 0, [0, 1, 0]);
+    both_end(resealed, (5, 7), value, [&[30, b, w(33, 4)], &[30, 2, w(33, 4)]]);
+    both_end(resealed, (0, 7), ended(End::Spent, 0, 0, 7, 0, [0, 0, 0]), [resealed[0][1], resealed[1][1]]);
+    both_end(resealed, (5, 6), Err(model::Refusal::new(8, 0)), [&[], &[]]);
+    // tl (nil L7) raises error 4 in its second step.
+    let tail: [[&[u32]; 2]; 2] = [[&[3, a], &[27, 24, a]], [&[3, 2], &[27, 24, 2]]];
+    both_end(tail, (9, 3), ended(End::Error, 4, 2, 0, 0, [0, 0, 2]), [&[], &[]]);
+    // ms (L7 to L9) (fn v0) becomes fn L7 (ms L9 (app (fn v0) (sm L7 v0))), 10 words.
+    let wrapped: [[&[u32]; 2]; 2] = [[&[4, a, b], &[30, 4, a, b, 34, 32]], [&[4, 2, 2], &[30, 4, 2, 2, 34, 32]]];
+    both_end(wrapped, (9, 9), ended(End::Full, 0, 0, 6, 10, [0, 0, 0]), [wrapped[0][1], wrapped[1][1]]);
+    let function = |a: u32, b: u32| [18, a, 30, b, 35, 34, 32, 45, a, 16];
+    both_end(wrapped, (9, 10), ended(End::Value, 0, 1, 10, 0, [0, 1, 0]), [&function(a, b), &function(2, 2)]);
+}
+
+#[test]
+fn a_recipe_that_is_refused_for_an_owner_may_be_accepted_without() {
+    let refused = file(&[lump(9)], &[30, lump(7), 39]);
+    assert_eq!((refused_bytes(&refused), refused_bytes(&without_owners(&refused))), ((7, 0), (0, 0)));
+    assert_eq!(on_large_stack(|| try_ownerless(&refused, 5, [9, 9])), Ok(false));
+}
+
+#[test]
+fn the_law_sees_a_run_that_owners_change() {
+    let runs = || [lump(7), 2].map(|o| lent(&[o], &[30, o, 36, w(33, 2), w(33, 3)], 5, 6));
+    let alike = |change: fn(&mut model::Run)| {
+        let [mut owned, ownerless] = runs();
+        change(&mut owned);
+        alike_but_owners(&owned, &ownerless)
+    };
+    assert!(alike(|_| {}) && alike(|owned| owned.first[1] = lump(8)) && alike(|owned| owned.first[1] = 2));
+    // Another answer: a step more, one as a call, a word more, more wanted, another end and code.
+    assert!(![
+        alike(|owned| owned.result = Err(model::Refusal::new(8, 0))),
+        alike(|owned| owned.result = common::ended(End::Value, 0, 2, 3, 0, [0, 0, 1])),
+        alike(|owned| owned.result = common::ended(End::Value, 0, 1, 3, 0, [1, 0, 0])),
+        alike(|owned| owned.result = common::ended(End::Value, 0, 1, 4, 0, [0, 0, 1])),
+        alike(|owned| owned.result = common::ended(End::Value, 0, 1, 3, 1, [0, 0, 1])),
+        alike(|owned| owned.result = common::ended(End::Spent, 0, 1, 3, 0, [0, 0, 1])),
+        alike(|owned| owned.result = common::ended(End::Value, 3, 1, 3, 0, [0, 0, 1])),
+    ]
+    .contains(&true));
+    // Other words: the owner beside its L, behind the words left, in the second buffer.
+    assert!(![
+        alike(|owned| owned.first[2] += 256 * 7),
+        alike(|owned| owned.first[3] = lump(7)),
+        alike(|owned| owned.second[0] = lump(7)),
+    ]
+    .contains(&true));
 }

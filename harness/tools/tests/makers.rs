@@ -1,8 +1,8 @@
 //! The makers make what they promise, and reach every rule, end and refusal.
 
 use model::earlier::before_u4;
-use model::file::{bytes_of, words_of};
-use model::laws::{try_counts, try_going_on, try_reduction, WentOn};
+use model::file::words_of;
+use model::laws::{try_counts, try_going_on, try_ownerless, try_reduction, WentOn};
 use model::node::{ml_words, Node};
 use model::owners::owners;
 use model::price::items;
@@ -12,7 +12,7 @@ use model::step::{step, Step};
 use model::{check, on_large_stack, run, save, End, Ml, Recipe, Scheme};
 use std::collections::BTreeSet;
 use tools::make::cans::can_file;
-use tools::make::owners::forgotten;
+use tools::make::owners::without_owners;
 use tools::make::prices::{any_prices, differing};
 use tools::make::saves::{any_room, any_words, outgrowing};
 use tools::make::*;
@@ -75,8 +75,7 @@ fn damaged_files_have_owners_over_the_last_and_owners_that_differ() {
             let word = words.get(refusal.place as usize).copied().unwrap_or(0);
             over += u32::from(refusal.number == 3 && word % 256 == 2 && word / 256 > 255);
             if matches!(refusal.number, 6 | 7) {
-                let equal = bytes_of(&[&words[..4], &forgotten(&words[4..])].concat());
-                differ[refusal.number as usize - 6] += u32::from(check(&equal).is_ok());
+                differ[refusal.number as usize - 6] += u32::from(check(&without_owners(&file)).is_ok());
             }
         }
         assert!(over > 300 && differ.iter().all(|&count| count > 100), "{over} {differ:?}");
@@ -254,6 +253,22 @@ fn counts_add_up_and_are_counts_over_the_reduction() {
             }
         }
         assert!(steps > 10_000, "{steps}");
+    });
+}
+
+#[test]
+fn owners_change_no_run() {
+    on_large_stack(|| {
+        let (mut tried, mut owned) = (0, 0);
+        for index in 0..FILES {
+            let mut random = Random::new(6, index);
+            let file = if random.chance(80) { well_typed_file(&mut random) } else { damaged_file(&mut random) };
+            let (limit, capacity) = (random.below(120) as u32, 40 + random.below(400));
+            let accepted = try_ownerless(&file, limit, [capacity, capacity + random.below(2)]);
+            tried += u64::from(accepted.unwrap_or_else(|law| panic!("file {index}: {law}")));
+            owned += u64::from(check(&file).is_ok() && without_owners(&file) != file);
+        }
+        assert!(tried > FILES / 2 && owned > FILES / 3, "{tried} {owned}");
     });
 }
 

@@ -10,16 +10,17 @@ use model::node::{Node, Tree};
 use model::owners::{differing, owners, Differing, Within};
 use model::read::{read_ml, DEEPEST};
 use model::rules::Rule;
-use model::step::{Step, Turn};
+use model::step::{turn, Step, Turn};
 use model::typing::type_of;
 use model::untyped::untyped;
 use model::{check, on_large_stack, Ml, Recipe, Type};
+use std::cell::RefCell;
 use std::collections::BTreeSet;
 use std::rc::Rc;
 use tools::compare::owners::{type_place, OwnerCounts};
-use tools::compare::{compare_check, compare_run, Plan};
-use tools::engine::{Check, Run};
-use tools::make::owners::{forgotten, lump, OVER};
+use tools::compare::{compare_check, compare_ownerless, compare_run, Case, Plan};
+use tools::engine::{Check, RecipeRun, Run};
+use tools::make::owners::{forgotten, lump, without_owners, OVER};
 use tools::make::{every_owner, every_sealed, every_two_owners, file_of_text};
 use tools::stand_in;
 
@@ -297,6 +298,133 @@ fn only_lumps_of_owner_0_are_values() {
     };
     let text = run_finds(engine, "(ms L1 ");
     assert!(text.contains("\nmodel:\n  value (end 0)") && text.contains("\nengine:\n  spent (end 1)"), "{text}");
+}
+
+/// What the law that owners change no run shows of a wrong run, the model having no say: the engine's own two runs; none if it sees
+/// nothing wrong.
+fn law_shows(engine: Run) -> Option<String> {
+    let cases = every_sealed().into_iter().flat_map(|file| [1, 9].map(|limit| Case::new(file.clone(), limit, 40, 41)));
+    let shown = on_large_stack(|| cases.map(|case| compare_ownerless(engine, &case)).find_map(Result::err))?;
+    assert!(shown.contains("\nengine:\n") && shown.contains("\nengine, without owners:\n"), "{shown}");
+    assert!(!shown.contains("model"), "{shown}");
+    Some(shown)
+}
+
+/// The comparison of runs finds it, by the model, in a small term with this in it; and so does the law alone.
+fn both_find(engine: Run, inside: &str) {
+    let text = run_finds(engine, inside);
+    assert!(text.contains("\nmodel:\n") && text.contains("\nengine:\n"), "{text}");
+    let shown = law_shows(engine).expect("a difference");
+    assert!(shown.contains(inside), "{shown}");
+}
+
+/// How often the steps that a run has made open a lump of such an owner.
+fn opened(file: &[u8], steps: u32, such: fn(u32) -> bool) -> u32 {
+    let Ok(Recipe { mut term, .. }) = check(file) else { return 0 };
+    let mut count = 0;
+    for _ in 0..steps {
+        let turn = turn(&term).expect("a step that was made");
+        let Step::Next(rule, next) = turn.step() else { break };
+        let owner = turn.node.node().parts()[0].and_then(|t| owners(&t.words()).next());
+        count += u32::from(rule == Rule::SmLump && owner.is_some_and(such));
+        term = next;
+    }
+    count
+}
+
+#[test]
+fn owners_that_cost_a_step() {
+    let engine: Run = |file, limit, first, second| {
+        let mut result = stand_in::run(file, limit, first, second);
+        let more = opened(file, result.steps, |owner| owner > 0);
+        (result.steps, result.others) = (result.steps + more, result.others + more);
+        result
+    };
+    both_find(engine, "(sm L");
+}
+
+#[test]
+fn an_owner_whose_opening_is_a_call() {
+    let engine: Run = |file, limit, first, second| {
+        let mut result = stand_in::run(file, limit, first, second);
+        let calls = opened(file, result.steps, |owner| owner == 7);
+        (result.calls, result.conversions) = (result.calls + calls, result.conversions - calls);
+        result
+    };
+    both_find(engine, "(sm L7 ");
+}
+
+#[test]
+fn an_owner_that_takes_a_word() {
+    let engine: Run = |file, limit, first, second| {
+        let mut result = stand_in::run(file, limit, first, second);
+        let is_owned = words_of(file).is_ok_and(|words| owners(&words[4..]).any(|owner| owner > 0));
+        result.wanted += u32::from(is_owned && result.wanted > 0);
+        result
+    };
+    both_find(engine, "L");
+}
+
+/// The right run, the words that it leaves changed.
+fn left(file: &[u8], limit: u32, buffers: [&mut [u32]; 2], change: fn(&mut [u32])) -> RecipeRun {
+    let [first, second] = buffers;
+    let result = stand_in::run(file, limit, first, second);
+    change(&mut first[..result.left as usize]);
+    result
+}
+
+#[test]
+fn an_owner_left_in_the_wrong_place() {
+    // With the word behind the L.
+    let engine: Run = |file, limit, first, second| {
+        left(file, limit, [first, second], |words| {
+            let at = (1..words.len()).find(|at| words[at - 1] % 256 == 2 && words[at - 1] > 2);
+            at.into_iter().for_each(|at| (words[at - 1], words[at]) = (2, words[at] + words[at - 1] - 2));
+        })
+    };
+    both_find(engine, "L");
+    // With another L: that has the same words without owners, so the model alone finds it.
+    let engine: Run = |file, limit, first, second| {
+        left(file, limit, [first, second], |words| {
+            let lumps: Vec<usize> = (0..words.len()).filter(|at| words[*at] % 256 == 2).collect();
+            lumps.windows(2).for_each(|pair| words.swap(pair[0], pair[1]));
+        })
+    };
+    assert!(run_finds(engine, "L").contains("\nmodel:\n"));
+    assert_eq!(law_shows(engine), None);
+}
+
+thread_local! {
+    /// The file that was run last.
+    static LAST: RefCell<Vec<u8>> = const { RefCell::new(Vec::new()) };
+}
+
+#[test]
+fn an_owner_remembered_from_the_run_before() {
+    // Each file alone is run rightly, so the law alone finds it.
+    let engine: Run = |file, limit, first, second| {
+        let mut result = stand_in::run(file, limit, first, second);
+        let last = LAST.replace(file.to_vec());
+        result.steps += u32::from(last != file && without_owners(&last) == file);
+        result
+    };
+    let text = run_finds(engine, "L");
+    assert!(text.contains("\nengine, without owners:\n") && !text.contains("model"), "{text}");
+}
+
+#[test]
+fn the_right_run_keeps_the_law() {
+    assert_eq!(law_shows(stand_in::run), None);
+    let tried = |text: &str| compare_ownerless(stand_in::run, &Case::new(file_of_text(text), 9, 9, 2));
+    // Accepted with an owner over 0, its term longer than the buffers too; without one; refused.
+    assert_eq!(tried("N (null? (nil L7))"), Ok(true));
+    assert_eq!(tried("N (null? (nil L))"), Ok(false));
+    assert_eq!(tried("L (ms L7 1)"), Ok(false));
+    // The comparison of runs tries it, and counts how often.
+    let plan = Plan { files: 300, seed: 1, start: 1 };
+    let counts = on_large_stack(|| compare_run(stand_in::run, plan)).unwrap_or_else(|shown| panic!("{shown}"));
+    assert!(counts.owners.ownerless > 100, "{}", counts.owners.ownerless);
+    assert!(counts.of_runs().contains(&("run as without owners".to_string(), counts.owners.ownerless)));
 }
 
 #[test]

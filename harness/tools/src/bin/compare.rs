@@ -28,7 +28,8 @@ check        every term of up to 3 words, files at the edges, owners in range an
              owners that are compared, and N random files (200000): number and place
 run          every small recipe, every kind of value that if0 tests, every place of an owner, lumps opened and sealed for
              other owners, edges of files and of what is lent, and N random files (100000): result and every word of both
-             buffers
+             buffers; and each accepted file that has an owner over 0 is run by the engine with owner 0 everywhere, too:
+             the same result, and the same words but for the owners
 price        edges of prices, pulses, items and of what is lent, every choice of faults, every small recipe, edges of
              files, and N random files (100000) under random price tables: result, charges, total and every word of both
              buffers
@@ -52,8 +53,8 @@ stack        the deepest runs of 16,384 words, and the deepest files, run, price
              nodes, a kind, a kind that is none, an operand past its range, a fault in a part, a place past the end or a
              size. Of all but listings and nodes also: owner 0, 1 to 254 or 255 accepted; a refusal 6 or 7 for an owner
              alone, by the rule and by where in the type it stands; a refusal 3 for an owner over 255 by where its type
-             stands; of runs, a lump opened, sealed for another owner, brought over in a list or a function; of nodes, an
-             L with each kind of owner, whole or not
+             stands; of runs, a lump opened, sealed for another owner, brought over in a list or a function, and a run as
+             without owners; of nodes, an L with each kind of owner, whole or not
 
 Status 0: no difference; 1: a difference, shrunk and shown; 2: not understood, or built without the engine.
 ";

@@ -30,6 +30,8 @@ pub struct OwnerCounts {
     over_within: [u64; Within::ALL.len()],
     /// Runs, by `STEPS`.
     steps: [u64; STEPS.len()],
+    /// Runs of recipes with an owner over 0 that were tried beside the run without owners.
+    pub ownerless: u64,
 }
 
 /// Owners in accepted recipes.
@@ -147,7 +149,8 @@ impl OwnerCounts {
 
     /// The table's rows of runs.
     pub fn step_rows(&self) -> Vec<(String, u64)> {
-        STEPS.iter().zip(self.steps).map(|(step, count)| (format!("run that {step}"), count)).collect()
+        let steps = STEPS.iter().zip(self.steps).map(|(step, count)| (format!("run that {step}"), count));
+        steps.chain([("run as without owners".into(), self.ownerless)]).collect()
     }
 
     /// The rows of a comparison of few files.

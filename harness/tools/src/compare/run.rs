@@ -1,8 +1,9 @@
-//! The run compared: result and every word of both buffers, under many limits and capacities, with demand 3's laws and
-//! the law of the counts.
+//! The run compared: result and every word of both buffers, under many limits and capacities, with demand 3's laws, the law of
+//! the counts, and the law that owners change no run.
 
 use super::case::Case;
 use super::lent::at_the_edges;
+use super::ownerless::tried_ownerless;
 use super::plan::{follow, plans};
 use super::seen::{lend, show_both, Seen};
 use super::tested::tested;
@@ -116,7 +117,7 @@ fn small(engine: Run, file: Vec<u8>, counts: &mut Counts) -> Result<(), String> 
     Ok(())
 }
 
-/// One run of the engine beside one of the model. A difference comes back shrunk and shown.
+/// One run of the engine beside one of the model, and beside its own run without owners. A difference comes back shrunk and shown.
 fn compare(engine: Run, case: &Case, counts: &mut Counts) -> Result<model::Run, String> {
     let model = by_model(case);
     counts.runs += 1;
@@ -126,14 +127,14 @@ fn compare(engine: Run, case: &Case, counts: &mut Counts) -> Result<model::Run, 
     }
     counts.owners.file(&case.file, model.result.as_ref().err());
     counts.rules(&model.rules);
-    match seen_of(&model) == by_engine(engine, case) {
-        true => Ok(model),
-        false => {
-            let differs = |case: &Case| seen_of(&by_model(case)) != by_engine(engine, case);
-            let small = case.shrunk(&mut |case| case.is_short() && differs(case));
-            Err(small.show() + &show_both(&seen_of(&by_model(&small)), &by_engine(engine, &small)))
-        }
+    let seen = by_engine(engine, case);
+    if seen_of(&model) != seen {
+        let differs = |case: &Case| seen_of(&by_model(case)) != by_engine(engine, case);
+        let small = case.shrunk(&mut |case| case.is_short() && differs(case));
+        return Err(small.show() + &show_both(&seen_of(&by_model(&small)), &by_engine(engine, &small)));
     }
+    counts.owners.ownerless += u64::from(tried_ownerless(engine, case, &seen)?);
+    Ok(model)
 }
 
 /// The model's run.
@@ -142,7 +143,7 @@ fn by_model(case: &Case) -> model::Run {
 }
 
 /// The engine's run with buffers full of rubbish.
-fn by_engine(engine: Run, case: &Case) -> Seen<RecipeRun> {
+pub fn by_engine(engine: Run, case: &Case) -> Seen<RecipeRun> {
     lend(case, |first, second| engine(&case.file, case.limit, first, second))
 }
 

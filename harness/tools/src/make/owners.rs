@@ -8,6 +8,8 @@ use model::kinds::LUMP;
 use model::Type;
 use std::rc::Rc;
 
+pub use model::owners::{forgotten, without_owners};
+
 /// Owners over the last: the next two, and the last that 16 and 24 bits hold.
 pub const OVER: [u32; 4] = [256, 257, 65_535, 16_777_215];
 
@@ -52,11 +54,6 @@ pub fn change_owner(random: &mut Random, words: &mut [u32]) -> bool {
     let (other, next, over) = (any_owner(random), (words[at] / 256 + 1) % 256, random.pick(&OVER));
     words[at] = lump(random.weighted(&[(60, other), (15, next), (25, over)]));
     true
-}
-
-/// The words with owner 0 for every lump.
-pub fn forgotten(words: &[u32]) -> Vec<u32> {
-    words.iter().map(|&word| if word % 256 == LUMP { LUMP } else { word }).collect()
 }
 
 /// Where a lump stands in the types below.
