@@ -1,11 +1,12 @@
--- Recipes of document 01 worked out by hand in the published rules: nothing here runs `step`. Assumes nothing.
+-- Recipes of documents 01 and 02 worked out by hand in the published rules: nothing here runs `step`. Assumes nothing.
 use mathlib.Core.Path.{ap}
 use native.Mathlib.Omega.{arith}
 use Rattle.calculus.specs.Trees.{N, L, list, _to_, ml, APP, ADD, CONS, var, num, lam, if0, nil, wrong, ms, sm, app, add, cons, fix}
 use Rattle.calculus.specs.Substitution.{shift, ordinary}
 use Rattle.calculus.specs.Reduction.{form}
-use Rattle.calculus.specs.Rules.{hole, in-first, in-second, in-ms, around, lamV, numV, nilV, _⊢_⇒_, app-lambda, fix-lambda, if0-no-number}
-use Rattle.calculus.specs.Rules.{ms-number, ms-cons, ms-no-list, ms-lambda, sm-number, sm-lump, by-rule, Steps, stay, then, Raises, by-wrong}
+use Rattle.calculus.specs.Rules.{hole, in-first, in-second, in-ms, in-sm, around, lamV, numV, nilV, lumpV, _⊢_⇒_, app-lambda, fix-lambda}
+use Rattle.calculus.specs.Rules.{if0-no-number, ms-number, ms-cons, ms-no-list, ms-lambda, sm-number, sm-lump, by-rule, Steps, stay, then}
+use Rattle.calculus.specs.Rules.{Raises, by-wrong}
 use Rattle.calculus.proofs.Contraction.{mark}
 use Rattle.calculus.proofs.Reaching.{rule}
 
@@ -23,6 +24,15 @@ function =
 pub unsealed : Steps 2 (ms N (sm (L 0) (ms (L 0) (num 4)))) (num 4)
 unfolding around
 unsealed = then (by-rule (in-ms N hole) (sm-lump numV)) (then (rule ms-number) stay)
+
+-- ms N (sm L9 ((fn L9 v0) applied to ms L9 (sm L7 (ms L7 4)))): 4, 4 steps.
+pub resealed : Steps 4 (ms N (sm (L 9) (app (lam (L 9) (var 0)) (ms (L 9) (sm (L 7) (ms (L 7) (num 4))))))) (num 4)
+unfolding around shift ordinary
+resealed =
+    then (by-rule (in-ms N (in-sm (L 9) (in-second APP (lam (L 9) (var 0)) lamV (in-ms (L 9) hole)))) (sm-lump numV))
+    (then (by-rule (in-ms N (in-sm (L 9) hole)) (app-lambda (lumpV numV)))
+    (then (by-rule (in-ms N hole) (sm-lump numV))
+    (then (rule ms-number) stay)))
 
 -- fix (fn N v0): itself again.
 pub endless : Steps 1 (fix (lam N (var 0))) (fix (lam N (var 0)))
