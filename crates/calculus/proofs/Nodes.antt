@@ -13,7 +13,7 @@ use native.Mathlib.Omega.{arith}
 use Rattle.calculus.specs.Verdicts.{found, Verdict, refused, passed}
 use Rattle.calculus.specs.Kinds.{Sort, Tree, putTree, Row, rowFor, sortOf, sizeTree}
 use Rattle.calculus.specs.Reading.{Act, opens, refuses, later, acted, walk, kindDue, levelled, nestedDue, taken, nodeSize, nodeAt}
-use Rattle.calculus.specs.Nodes.{TreeInRange, Whole, GivenBack, OneWord, oneWord, alone, ShortWay}
+use Rattle.calculus.specs.Nodes.{TreeInRange, Whole, GivenBack, OneWord, isOneWord, alone, ShortWay}
 use Rattle.calculus.proofs.Verdicts.{not-both, passed-injective}
 use Rattle.calculus.proofs.Walks.{reach, walk-done, walk-reach, later-passed}
 use Rattle.calculus.proofs.Sizes.{tree-length, take-tree}
@@ -118,7 +118,7 @@ given-back ws at =
     by (suc n) e h = absurd (h (node-sound ws at (λ z. omega (arith, e, z))))
 
 -- "the places whose whole node is one word", as an answer t and by trees.
-pub one-word : (ws : List ℕ) (at : ℕ) (t : Bool) → t ≡ oneWord ws at → (t ≡ true) ↔ OneWord ws at
+pub one-word : (ws : List ℕ) (at : ℕ) (t : Bool) → t ≡ isOneWord ws at → (t ≡ true) ↔ OneWord ws at
 one-word ws at t e = ((λ y. there (sym e ∙ y)), (λ n. e ∙ back n))
   where
     words : (n : Whole ws at) → length (nodeAt ws at) ≡ sizeTree (n .sort) (n .tree)
@@ -126,13 +126,13 @@ one-word ws at t e = ((λ y. there (sym e ∙ y)), (λ n. e ∙ back n))
         let g = given-back ws at .whole n in
         omega (arith, ap length g, tree-length (n .sort) (n .tree) [])
 
-    there : oneWord ws at ≡ true → OneWord ws at
+    there : isOneWord ws at ≡ true → OneWord ws at
     there y =
         let one = eqb-true (length (nodeAt ws at)) 1 y in
         let n = node-sound ws at (λ z. omega (arith, one, ap (λ (m : ℕ). length (take m (drop at ws))) z)) in
         (n, sym (words n) ∙ one)
 
-    back : OneWord ws at → oneWord ws at ≡ true
+    back : OneWord ws at → isOneWord ws at ≡ true
     back p = eq-eqb (length (nodeAt ws at)) 1 (words (p .0) ∙ p .1)
 
 -- Behind a part that is due stands at least one word.
@@ -166,7 +166,7 @@ alone-is w ws = by (rowFor (sortOf w) w)
     by none = refl
     by (some r) = by-parts (r .parts)
 
-pub alone-at : (ws : List ℕ) (at : ℕ) → at < length ws → alone (getD ws at 0) ≡ oneWord ws at
+pub alone-at : (ws : List ℕ) (at : ℕ) → at < length ws → alone (getD ws at 0) ≡ isOneWord ws at
 alone-at [] at h = absurd (omega (arith, h))
 alone-at (w ∷ ws) zero h = alone-is w ws ∙ ap (λ (n : ℕ). eqb n 1) (sym (node-length (w ∷ ws) 0))
 alone-at (w ∷ ws) (suc at) h = alone-at ws at (omega (arith, h))

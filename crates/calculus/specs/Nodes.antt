@@ -36,8 +36,8 @@ pub record GivenBack (ws : List ℕ) (at : ℕ) (given : List ℕ) : Type 0 wher
 abbrev pub OneWord : List ℕ → ℕ → Type 0
 OneWord ws at = (n : Whole ws at) × (sizeTree (n .sort) (n .tree) ≡ 1)
 
-abbrev pub oneWord : List ℕ → ℕ → Bool
-oneWord ws at = eqb (length (nodeAt ws at)) 1
+abbrev pub isOneWord : List ℕ → ℕ → Bool
+isOneWord ws at = eqb (length (nodeAt ws at)) 1
 
 -- "Many words there have no parts. The reader of nodes is to give such a word back straight from the constant table": the word's row there, and
 -- nothing else, tells that it stands alone.

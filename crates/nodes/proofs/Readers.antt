@@ -14,7 +14,7 @@ use Rattle.calculus.specs.Verdicts.{found, Verdict, refused, passed, andThen}
 use Rattle.calculus.specs.Trees.{ml, sc}
 use Rattle.calculus.specs.Kinds.{Sort, type, term, Row, table, rowIn, rowFor, sortOf, sortOfKind}
 use Rattle.calculus.specs.Reading.{later, walk, kindDue, levelled, nestedDue, noneLeft, inOrder, taken, nodeSize, nodeAt}
-use Rattle.calculus.specs.Nodes.{oneWord}
+use Rattle.calculus.specs.Nodes.{isOneWord}
 use Rattle.calculus.proofs.Verdicts.{not-both, passed-injective}
 use Rattle.calculus.proofs.Walks.{reach, reach-later, walk-done, walk-step, later-zero, later-passed}
 use Rattle.calculus.proofs.Nesting.{passes-all}
@@ -146,7 +146,7 @@ pub node-part : (ws : List ℕ) (at n : ℕ) → n ≡ nodeSize (take (length ws
 node-part ws at n e = rw (add-sub-cancel-left at n, e, part-to-end ws at)
 
 -- Where the node is one word: the place is within the words, and the part is that word.
-module _ (ws : List ℕ) (at : ℕ) (one : oneWord ws at ≡ true) where
+module _ (ws : List ℕ) (at : ℕ) (one : isOneWord ws at ≡ true) where
   one-size : nodeSize (drop at ws) ≡ 1
   one-size = sym (node-length ws at) ∙ eqb-true (length (nodeAt ws at)) 1 one
 

@@ -12,7 +12,7 @@ use crate::words::SCHEME_VARIABLE;
 use crate::words::SCHEME_WRONG;
 ghost use mathlib.Core.Path.{_≡_};
 ghost use Prim.Native.Nat.{_%_};
-ghost use Rattle.calculus.specs.Nodes.{oneWord, alone};
+ghost use Rattle.calculus.specs.Nodes.{isOneWord, alone};
 ghost use Rattle.nodes.specs.Table.{rowOf, loneRange};
 
 // The operand's ranges of the kinds without parts, read from the table when the engine is compiled: twice the end, and 1 more if it begins at 1.
@@ -67,7 +67,7 @@ fn stands_alone(w: u32) -> bool
 
 // Whether the whole node at a place is one word.
 pub fn alone(words: &[u32], at: usize) -> bool
-    ensures { λ r. ⌜ r ≡ oneWord (now (words .entry)) at ⌝ }
+    ensures { λ r. ⌜ r ≡ isOneWord (now (words .entry)) at ⌝ }
 {
     if words.len() <= at {
         return false;

@@ -5,7 +5,7 @@ use mathlib.Core.Path.{_≡_, sym, _∙_}
 use lib.ListN.{length}
 use native.Mathlib.Omega.{arith}
 use borrow.Author.Needs.{needs}
-use Rattle.calculus.specs.Nodes.{oneWord}
+use Rattle.calculus.specs.Nodes.{isOneWord}
 use Rattle.nodes.proofs.Readers.{inside, one-part}
 use Rattle.nodes.proofs.walks.node.Statement.{statement}
 use Rattle.nodes.proofs.walks.node.Tie as tie
@@ -14,7 +14,7 @@ abbrev start : tie.Then1 → tie.Start
 start c = c .before .before .before
 
 -- The short way answers.
-alone : (c : tie.Then1) → oneWord (start c .args .words .now) (start c .args .at) ≡ true
+alone : (c : tie.Then1) → isOneWord (start c .args .words .now) (start c .args .at) ≡ true
 alone c = sym (c .before .alone .ensures) ∙ c .if1 .taken
 
 within : (c : tie.Then1) → start c .args .at < length (start c .args .words .now)
