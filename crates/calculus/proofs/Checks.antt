@@ -88,10 +88,15 @@ module _ (types terms : List ℕ) (start : ℕ) (x : Recipe) where
     λ h. ordered-iff type types 4 _ x .1 (h .0, ordered-iff (term ml) terms start _ x .1 (h .1, trees-iff (h .0) (h .1) .1 (h .2, (h .3, h .4)))),
   )
 
--- Refusals 2 to 7.
-abbrev pub InOrder : List ℕ → Recipe → Type 0
-InOrder ws x = let τ = x .0 in let e = x .1 in
-    Contains ws τ e × (nestingTy τ ≤ 256) × (nesting e ≤ 256) × InRangeTy τ × InRange e × Scoped [] e × Typed [] e τ
+-- None of refusals 2 to 7.
+pub record InOrder (ws : List ℕ) (x : Recipe) : Type 0 where
+  pub contains : Contains ws (x .0) (x .1)
+  pub nestsTy : nestingTy (x .0) ≤ 256
+  pub nests : nesting (x .1) ≤ 256
+  pub rangedTy : InRangeTy (x .0)
+  pub ranged : InRange (x .1)
+  pub closed : Scoped [] (x .1)
+  pub typed : Typed [] (x .1) (x .0)
 
 pub passes-in-order : (ws : List ℕ) (x : Recipe) → checkWords ws ≡ passed x → InOrder ws x
 unfolding checkWords
@@ -100,14 +105,24 @@ passes-in-order ws x q =
     let j = judged-iff (typeWords ws) (termWords ws) (4 + typeCount ws) x .0 (h .1) in
     let t = j .0 in
     let e = j .1 in
-    subst (InOrder ws) (sym (j .4)) ((h .0, t .spelt, e .spelt), t .nests, e .nests, t .ranged, e .ranged, j .2, j .3)
+    subst (InOrder ws) (sym (j .4))
+    (record {
+      contains = (h .0, t .spelt, e .spelt);
+      nestsTy = t .nests;
+      nests = e .nests;
+      rangedTy = t .ranged;
+      ranged = e .ranged;
+      closed = j .2;
+      typed = j .3;
+    })
 
 in-order-passes : (ws : List ℕ) (x : Recipe) → InOrder ws x → checkWords ws ≡ passed x
 unfolding checkWords
 in-order-passes ws x h =
-    let t : Ordered type (typeWords ws) = record { tree = x .0; spelt = h .0 .1; ranged = h .3; nests = h .1 } in
-    let e : Ordered (term ml) (termWords ws) = record { tree = x .1; spelt = h .0 .2; ranged = h .4; nests = h .2 } in
-    unless-iff (isHeader ws) 2 0 _ x .1 (h .0 .0, judged-iff (typeWords ws) (termWords ws) (4 + typeCount ws) x .1 (t, e, h .5, h .6, refl))
+    let t : Ordered type (typeWords ws) = record { tree = x .0; spelt = h .contains .1; ranged = h .rangedTy; nests = h .nestsTy } in
+    let e : Ordered (term ml) (termWords ws) = record { tree = x .1; spelt = h .contains .2; ranged = h .ranged; nests = h .nests } in
+    let j = judged-iff (typeWords ws) (termWords ws) (4 + typeCount ws) x .1 (t, e, h .closed, h .typed, refl) in
+    unless-iff (isHeader ws) 2 0 _ x .1 (h .contains .0, j)
 
 -- "the check accepts exactly those to which the published typing .. gives the declared type".
 pub check-iff : (bytes : List ℕ) (τ : Ty) (e : Term ml) → (check bytes ≡ passed (τ, e)) ↔ Accepted bytes τ e
@@ -121,19 +136,27 @@ check-iff bytes τ e = (
         least = n .0 .0;
         most = n .0 .1;
         whole = n .1;
-        spelt = contains-iff (wordsOf bytes) τ e .0 (h .0);
-        nestsTy = h .1;
-        nests = h .2;
-        rangedTy = h .3;
-        ranged = h .4;
-        closed = h .5;
-        typed = h .6;
+        spelt = contains-iff (wordsOf bytes) τ e .0 (h .contains);
+        nestsTy = h .nestsTy;
+        nests = h .nests;
+        rangedTy = h .rangedTy;
+        ranged = h .ranged;
+        closed = h .closed;
+        typed = h .typed;
       },
   λ a.
       unless-iff (isSize (length bytes)) 1 0 (checkWords (wordsOf bytes)) (τ, e) .1 (
         size-iff (length bytes) .1 ((a .least, a .most), a .whole),
         in-order-passes (wordsOf bytes) (τ, e)
-            (contains-iff (wordsOf bytes) τ e .1 (a .spelt), a .nestsTy, a .nests, a .rangedTy, a .ranged, a .closed, a .typed),
+            (record {
+              contains = contains-iff (wordsOf bytes) τ e .1 (a .spelt);
+              nestsTy = a .nestsTy;
+              nests = a .nests;
+              rangedTy = a .rangedTy;
+              ranged = a .ranged;
+              closed = a .closed;
+              typed = a .typed;
+            }),
       ),
 )
 

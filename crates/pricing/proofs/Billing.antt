@@ -268,8 +268,8 @@ recipe-in {bytes} {all} {types} {n} m =
     let o = m .opened in
     let i = passes-in-order (wordsOf bytes) (m .recipe) (sym (o .check-is) ∙ m .accepted) in
     record {
-      types-are = rw (o .words-are, o .types-are) (i .0 .1);
-      term-is = record { words-are = rw (o .words-are, o .types-are) (i .0 .2); ranged = i .4; typed = i .6 };
+      types-are = rw (o .words-are, o .types-are) (i .contains .1);
+      term-is = record { words-are = rw (o .words-are, o .types-are) (i .contains .2); ranged = i .ranged; typed = i .typed };
     }
 
 pub recipes : {bytes all : List ℕ} {types n : ℕ} → Admits bytes all types n → Recipes (take n all) types
