@@ -10,6 +10,8 @@ use native.Mathlib.Omega.{arith}
 use Rattle.calculus.specs.Trees.{Ty, N, L, list, _to_, Lang, ml, sc, Static, numbers, lists, functions, Op1, HD, TL, FIX, NULL?, TEST}
 use Rattle.calculus.specs.Trees.{Op2, APP, ADD, SUB, CONS, Term, var, num, lam, op1, op2, if0, nil, wrong, ms, sm, fix}
 use Rattle.calculus.specs.Words.{word, by, testNumber, word1, word2, words, put, putTy, putStatic, size, sizeTy, sizeStatic}
+use Rattle.calculus.specs.Limits.{InRangeTy, InRangeStatic, InRange, nestingTy, nestingStatic, nesting}
+use Rattle.calculus.specs.Scope.{Scoped}
 use Rattle.calculus.specs.Typing.{Entry, of, Lambdas, At, Rule1, Rule2, Typed}
 use Rattle.calculus.specs.Reduction.{isLump, isValue, form}
 use Rattle.calculus.specs.Substitution.{shift, forOwn, ordinary}
@@ -24,7 +26,9 @@ use Rattle.calculus.specs.Classes.{Class, call, conversion, other, nodeC
 use Rattle.calculus.specs.Counting.{counts}
 use Rattle.calculus.specs.Run.{error, Counts, counted, Result, ended}
 use Rattle.calculus.specs.Endings.{InCapacity, Ends, by-value, by-limit, by-error, by-full}
-use Rattle.calculus.specs.Owners.{ownerless, ownerlessStatic, ownerlessTerm, ownerlessWord, ownerlessWords, OwnersRefuseOnly}
+use Rattle.calculus.specs.Accepted.{fileWords, Accepted}
+use Rattle.calculus.specs.Owners.{ownerless, ownerlessStatic, ownerlessTerm, ownerlessWord, ownerlessWords, ownerlessFile}
+use Rattle.calculus.specs.Owners.{Ownerless, OwnersRefuseOnly}
 use Rattle.calculus.proofs.Values.{value-iff}
 use Rattle.calculus.proofs.Contraction.{mark}
 
@@ -40,7 +44,7 @@ sized-static : (l : Lang) (t : Static l) → sizeStatic l (ownerlessStatic l t) 
 sized-static ml t = sized-type t
 sized-static sc t = refl
 
-sized : {l : Lang} (e : Term l) → size (ownerlessTerm e) ≡ size e
+pub sized : {l : Lang} (e : Term l) → size (ownerlessTerm e) ≡ size e
 unfolding ownerlessTerm size
 sized (var i) = refl
 sized (num n) = refl
@@ -52,6 +56,68 @@ sized (nil {l} t) = rw (sized-static l t)
 sized (wrong {l} c t) = rw (sized-static l t)
 sized (ms t a) = rw (sized-type t, sized a)
 sized (sm t a) = rw (sized-type t, sized a)
+
+-- Nesting, ranges and variables.
+nests-type : (t : Ty) → nestingTy (ownerless t) ≡ nestingTy t
+unfolding ownerless nestingTy
+nests-type N = refl
+nests-type (L o) = refl
+nests-type (list t) = ap suc (nests-type t)
+nests-type (t to u) = rw (nests-type t, nests-type u)
+
+nests-static : (l : Lang) (t : Static l) → nestingStatic l (ownerlessStatic l t) ≡ nestingStatic l t
+nests-static ml t = nests-type t
+nests-static sc t = refl
+
+nests : {l : Lang} (e : Term l) → nesting (ownerlessTerm e) ≡ nesting e
+unfolding ownerlessTerm nesting
+nests (var i) = refl
+nests (num n) = refl
+nests (lam {l} t b) = rw (nests-static l t, nests b)
+nests (op1 o a) = rw (nests a)
+nests (op2 o a b) = rw (nests a, nests b)
+nests (if0 a b c) = rw (nests a, nests b, nests c)
+nests (nil {l} t) = rw (nests-static l t)
+nests (wrong {l} c t) = rw (nests-static l t)
+nests (ms t a) = rw (nests-type t, nests a)
+nests (sm t a) = rw (nests-type t, nests a)
+
+ranged-type : (t : Ty) → InRangeTy (ownerless t)
+unfolding ownerless InRangeTy
+ranged-type N = tt
+ranged-type (L o) = omega arith
+ranged-type (list t) = ranged-type t
+ranged-type (t to u) = (ranged-type t, ranged-type u)
+
+ranged-static : (l : Lang) (t : Static l) → InRangeStatic l (ownerlessStatic l t)
+ranged-static ml t = ranged-type t
+ranged-static sc t = tt
+
+ranged-kept : {l : Lang} (e : Term l) → InRange e → InRange (ownerlessTerm e)
+unfolding ownerlessTerm InRange
+ranged-kept (var i) h = h
+ranged-kept (num n) h = h
+ranged-kept (lam {l} t b) h = (ranged-static l t, ranged-kept b (h .1))
+ranged-kept (op1 o a) h = ranged-kept a h
+ranged-kept (op2 o a b) h = (ranged-kept a (h .0), ranged-kept b (h .1))
+ranged-kept (if0 a b c) h = (ranged-kept a (h .0), ranged-kept b (h .1), ranged-kept c (h .2))
+ranged-kept (nil {l} t) h = ranged-static l t
+ranged-kept (wrong {l} c t) h = (h .0, h .1, ranged-static l t)
+ranged-kept (ms t a) h = (ranged-type t, ranged-kept a (h .1))
+ranged-kept (sm t a) h = (ranged-type t, ranged-kept a (h .1))
+
+scoped-kept : {l : Lang} (Γ : List Lang) (e : Term l) → Scoped Γ e → Scoped Γ (ownerlessTerm e)
+unfolding ownerlessTerm
+scoped-kept Γ (var i) h = h
+scoped-kept Γ (num n) h = tt
+scoped-kept Γ (lam {l} t b) h = scoped-kept (l ∷ Γ) b h
+scoped-kept Γ (op1 o a) h = scoped-kept Γ a h
+scoped-kept Γ (op2 o a b) h = (scoped-kept Γ a (h .0), scoped-kept Γ b (h .1))
+scoped-kept Γ (if0 a b c) h = (scoped-kept Γ a (h .0), scoped-kept Γ b (h .1), scoped-kept Γ c (h .2))
+scoped-kept Γ (nil t) h = tt
+scoped-kept Γ (wrong c t) h = tt
+scoped-kept Γ (ms t a) h = scoped-kept Γ a h
+scoped-kept Γ (sm t a) h = scoped-kept Γ a h
 
 -- Types.
 numbers-kept : (l : Lang) → ownerlessStatic l (numbers l) ≡ numbers l
@@ -407,9 +473,32 @@ ends-kept limit room e r (by-full {t = t} {r = x} p h n a o) =
     let q = steps-kept p in
     rw (counted-kept p, left-kept t, ← (sized x)) (by-full (q .made) (q .fits room h) n (step-kept a .0) (omega (arith, o, sized x)))
 
+-- Files.
+file-kept : (τ : Ty) (e : Term ml) → ownerlessFile (fileWords τ e) ≡ fileWords (ownerless τ) (ownerlessTerm e)
+file-kept τ e =
+    led (sym (sized-type τ)) (led refl (led (sym (sized e)) (led (omega (arith, sized-type τ))
+    (words-kept-type τ (words e) ∙ ap (putTy (ownerless τ)) (left-kept e)))))
+
+accepted-kept : (bytes bare : List ℕ) → Ownerless bytes bare → (τ : Ty) (e : Term ml) → Accepted bytes τ e
+    → Accepted bare (ownerless τ) (ownerlessTerm e)
+accepted-kept bytes bare o τ e a =
+    record {
+      least = omega (arith, a .least, o .long);
+      most = omega (arith, a .most, o .long);
+      whole = rw (o .long) (a .whole);
+      spelt = o .spelt ∙ ap ownerlessFile (a .spelt) ∙ file-kept τ e;
+      nestsTy = rw (nests-type τ) (a .nestsTy);
+      nests = rw (nests e) (a .nests);
+      rangedTy = ranged-type τ;
+      ranged = ranged-kept e (a .ranged);
+      closed = scoped-kept [] e (a .closed);
+      typed = typed [] e τ (a .typed);
+    }
+
 pub owners-refuse-only : OwnersRefuseOnly
 owners-refuse-only =
     record {
+      accepted = accepted-kept;
       typed = λ τ e h. typed [] e τ h;
       steps = λ n e r p. steps-kept p .made;
       ends = λ limit room e end code made left wanted h. ends-kept limit room e (ended end code made left wanted) h;

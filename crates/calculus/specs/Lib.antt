@@ -21,8 +21,8 @@ pub mod Run
 pub mod Counting
 pub mod Endings
 pub mod Conversions
-pub mod Owners
 pub mod File
 pub mod Accepted
+pub mod Owners
 pub mod Demands
 pub mod Recipes

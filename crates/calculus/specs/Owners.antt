@@ -5,6 +5,7 @@ use mathlib.Core.List.{List, [], _∷_, _++_}
 use mathlib.Core.Logic.{_↔_}
 use mathlib.Core.Path.{_≡_}
 use lib.Dec.{eqb}
+use lib.ListN.{length, take, drop}
 use Rattle.calculus.specs.Trees.{Ty, N, L, list, _to_, Lang, ml, sc, Static, Term, var, num, lam, op1, op2, if0, nil, wrong, ms, sm, app}
 use Rattle.calculus.specs.Words.{wordsTy}
 use Rattle.calculus.specs.Scope.{Scoped}
@@ -12,6 +13,8 @@ use Rattle.calculus.specs.Typing.{Lambdas, Typed}
 use Rattle.calculus.specs.Rules.{Value, _⊢_⇒_, Steps}
 use Rattle.calculus.specs.Run.{End, Counts, ended}
 use Rattle.calculus.specs.Endings.{Ends}
+use Rattle.calculus.specs.File.{wordsOf}
+use Rattle.calculus.specs.Accepted.{Accepted}
 
 -- The owners in a type, in the order of its words; and the type without them, as it was written before: with owner 0 for each.
 unfoldable pub owners : Ty → List ℕ
@@ -67,9 +70,19 @@ unfoldable pub ownerlessWords : List ℕ → List ℕ
 ownerlessWords [] = []
 ownerlessWords (w ∷ ws) = ownerlessWord w ∷ ownerlessWords ws
 
--- What owners do: they refuse recipes, and change no run. A term that has its type has it without them, makes the same steps, and ends the same
--- under every limit and capacity, with the same counts, but for the owners in the words left.
+-- A file's words without their owners, of which the header's four have none; and a file that is another one without its owners.
+abbrev pub ownerlessFile : List ℕ → List ℕ
+ownerlessFile ws = take 4 ws ++ ownerlessWords (drop 4 ws)
+
+pub record Ownerless (bytes bare : List ℕ) : Type 0 where
+  pub long : length bare ≡ length bytes
+  pub spelt : wordsOf bare ≡ ownerlessFile (wordsOf bytes)
+
+-- What owners do: they refuse recipes, and change no run. A file that is accepted is accepted without them. A term that has its type has it without
+-- them, makes the same steps, and ends the same under every limit and capacity, with the same counts, but for the owners in the words left.
 pub record OwnersRefuseOnly : Type 0 where
+  pub accepted : (bytes bare : List ℕ) → Ownerless bytes bare → (τ : Ty) (e : Term ml) → Accepted bytes τ e
+      → Accepted bare (ownerless τ) (ownerlessTerm e)
   pub typed : (τ : Ty) (e : Term ml) → Typed [] e τ → Typed [] (ownerlessTerm e) (ownerless τ)
   pub steps : (n : ℕ) (e r : Term ml) → Steps n e r → Steps n (ownerlessTerm e) (ownerlessTerm r)
   pub ends : (limit cap : ℕ) (e : Term ml) (end : End) (code : ℕ) (made : Counts) (left : List ℕ) (wanted : ℕ)

@@ -3,3 +3,4 @@ pub mod Leaving
 pub mod Demanding
 pub mod Costing
 pub mod Saving
+pub mod Owning

@@ -1,3 +1,4 @@
 pub mod Demanded
 pub mod Priced
 pub mod Saved
+pub mod Owned

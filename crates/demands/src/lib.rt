@@ -21,8 +21,9 @@ ghost use Rattle.pricing.specs.Answered as pricing;
 ghost use Rattle.demands.specs.Demanded.{Checks, Once, Twice};
 ghost use Rattle.demands.specs.Priced.{PricedOnce, PricedTwice};
 ghost use Rattle.demands.specs.Saved.{handed, SavedOnce, leftOf, writtenOf, SaveRuns};
+ghost use Rattle.demands.specs.Owned.{WithoutOwners};
 
-// Three answers on one file: the check's, and those of two runs.
+// Three answers: a check's, and those of two runs.
 pub struct Answers {
     pub checked: Checked,
     pub earlier: Answer,
@@ -194,6 +195,35 @@ pub fn run_save_run(
         saved: saved,
         later: later,
         whole: whole,
+    }
+}
+
+// The law of owners: this file is run; another, which may be this one without its owners, is checked and run under the same limit.
+pub fn run_ownerless(
+    file: &[u8],
+    limit: u32,
+    first: &mut [u32],
+    second: &mut [u32],
+    bare: &[u8],
+    first_2: &mut [u32],
+    second_2: &mut [u32],
+) -> Answers
+    ensures { λ r. ⌜
+        WithoutOwners
+        (lent (now (file .entry)) limit (now (first .entry)) (now (second .entry)))
+        (returned (r .earlier) (now (first .exit)) (now (second .exit)))
+        (r .checked)
+        (lent (now (bare .entry)) limit (now (first_2 .entry)) (now (second_2 .entry)))
+        (returned (r .later) (now (first_2 .exit)) (now (second_2 .exit)))
+        ⌝ }
+{
+    let checked = check(bare);
+    let earlier = run(file, limit, first, second);
+    let later = run(bare, limit, first_2, second_2);
+    Answers {
+        checked: checked,
+        earlier: earlier,
+        later: later,
     }
 }
 

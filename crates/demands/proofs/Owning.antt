@@ -1,0 +1,77 @@
+-- Owners refuse recipes and change no run, of what `check` and `run` promise. Assumes nothing.
+use Prim.Native.Nat.{ℕ}
+use mathlib.Core.List.{List, [], _∷_}
+use mathlib.Core.Path.{_≡_, refl, sym, ap, _∙_, subst, subst₂}
+use native.Mathlib.Omega.{arith}
+use lib.ListN.{length, take}
+use Rattle.calculus.specs.Trees.{Ty, ml, Term}
+use Rattle.calculus.specs.Verdicts.{Verdict, passed, andThen}
+use Rattle.calculus.specs.Run.{Result, ended}
+use Rattle.calculus.specs.Endings.{Ends}
+use Rattle.calculus.specs.File.{check, operate}
+use Rattle.calculus.specs.Owners.{ownerless, ownerlessTerm, ownerlessWords, Ownerless}
+use Rattle.calculus.proofs.Checks.{operate-iff}
+use Rattle.calculus.proofs.Endings.{ends-iff}
+use Rattle.calculus.proofs.Ownerless.{sized, owners-refuse-only}
+use Rattle.checker.specs.declared.Checked.{Checked}
+use Rattle.checker.specs.Checks.{checked, accepting}
+use Rattle.engine.specs.declared.ends.Report.{Report}
+use Rattle.engine.specs.declared.runs.Answer.the-variants.{Ended}
+use Rattle.engine.specs.Results.{Line, lineOf}
+use Rattle.engine.specs.Answered.{spoken}
+use Rattle.engine.specs.Lent.{Lent, Returned, room}
+use Rattle.engine.proofs.Answering.{passed-by}
+use Rattle.demands.specs.Owned.{SameBare, WithoutOwners}
+use Rattle.demands.proofs.Running.{Promised, ended-by, front}
+use Rattle.demands.proofs.Demanding.{checks}
+
+-- A result without the owners in the words left.
+abbrev bare : Result → Result
+bare r = ended (r .end) (r .code) (r .made) (ownerlessWords (r .left)) (r .wanted)
+
+bare-length : (ws : List ℕ) → length (ownerlessWords ws) ≡ length ws
+unfolding ownerlessWords
+bare-length [] = refl
+bare-length (w ∷ ws) = omega (arith, bare-length ws)
+
+module _ (l m : Lent) (o : Ownerless (l .bytes) (m .bytes)) (i : l .limit ≡ m .limit) (k : room l ≡ room m) where
+  -- The run of the bare file is that of the other, without the owners.
+  bare-run : (r : Result) → operate (l .bytes) (l .limit) (length (l .first)) (length (l .second)) ≡ passed r
+      → operate (m .bytes) (m .limit) (length (m .first)) (length (m .second)) ≡ passed (bare r)
+  bare-run r q =
+      let x = operate-iff (l .bytes) (l .limit) (length (l .first)) (length (l .second)) r .0 q in
+      let e = x .1 in
+      let a = owners-refuse-only .accepted (l .bytes) (m .bytes) o (x .0) e (x .2) in
+      let by-rules = ends-iff (l .limit) (room l) e (x .0) (x .2 .typed) r .1 (sym (x .4)) in
+      let made = owners-refuse-only .ends (l .limit) (room l) e (r .end) (r .code) (r .made) (r .left) (r .wanted) by-rules in
+      let there = subst₂ (λ (n cap : ℕ). Ends n cap (ownerlessTerm e) (bare r)) i k made in
+      let ran = ends-iff (m .limit) (room m) (ownerlessTerm e) (ownerless (x .0)) (a .typed) (bare r) .0 there in
+      operate-iff (m .bytes) (m .limit) (length (m .first)) (length (m .second)) (bare r) .1
+      (ownerless (x .0), ownerlessTerm e, a, omega (arith, sized e, x .3, k), sym ran)
+
+  same-bare : (g h : Returned) → Promised l g → Promised m h → (x : Report) → g .answer ≡ Ended x → SameBare x g h
+  same-bare g h p q x a =
+      let v = operate (l .bytes) (l .limit) (length (l .first)) (length (l .second)) in
+      let r = passed-by v x (ap spoken (sym a) ∙ p .answer-is) in
+      let t = bare-run (r .0) (r .1) in
+      let d = ended-by (h .answer) (lineOf (bare (r .0))) (q .answer-is ∙ ap (λ (v : Verdict Result). andThen v (λ y. passed (lineOf y))) t) in
+      let n : x .left ≡ length (r .0 .left) = ap (λ (y : Line). y .left) (r .2) in
+      let b = bare-length (r .0 .left) in
+      record {
+        report = d .0;
+        ended = d .1;
+        numbers = d .2 ∙ ap (λ (z : ℕ). record { end = r .0 .end; code = r .0 .code; made = r .0 .made; left = z; wanted = r .0 .wanted }) b ∙ sym (r .2);
+        words =
+            ap (λ (z : ℕ). take z (h .first)) (n ∙ sym b) ∙ front m h (bare (r .0)) t q
+            ∙ ap ownerlessWords (sym (front l g (r .0) (r .1) p) ∙ ap (λ (z : ℕ). take z (g .first)) (sym n));
+      }
+
+pub without-owners : (c : Checked) (l m : Lent) (g h : Returned) → checked c ≡ accepting (check (m .bytes)) → Promised l g → Promised m h
+    → WithoutOwners l g c m h
+without-owners c l m g h k p q =
+    record {
+      accepted = λ o x.
+          checks (m .bytes) c k .accepts .1
+          (ownerless (x .0), ownerlessTerm (x .1), owners-refuse-only .accepted (l .bytes) (m .bytes) o (x .0) (x .1) (x .2));
+      same = λ o i j x a. same-bare l m o i j g h p q x a;
+    }
