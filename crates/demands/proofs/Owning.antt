@@ -1,14 +1,13 @@
 -- Owners refuse recipes and change no run, of what `check` and `run` promise. Assumes nothing.
 use Prim.Native.Nat.{ℕ}
 use mathlib.Core.List.{List, [], _∷_}
-use mathlib.Core.Path.{_≡_, refl, sym, ap, _∙_, subst, subst₂}
+use mathlib.Core.Path.{_≡_, refl, sym, ap, _∙_, subst₂}
 use native.Mathlib.Omega.{arith}
 use lib.ListN.{length, take}
-use Rattle.calculus.specs.Trees.{Ty, ml, Term}
 use Rattle.calculus.specs.Verdicts.{Verdict, passed, andThen}
 use Rattle.calculus.specs.Run.{Result, ended}
 use Rattle.calculus.specs.Endings.{Ends}
-use Rattle.calculus.specs.File.{check, operate}
+use Rattle.calculus.specs.File.{check}
 use Rattle.calculus.specs.Owners.{ownerless, ownerlessTerm, ownerlessWords, Ownerless}
 use Rattle.calculus.proofs.Checks.{operate-iff}
 use Rattle.calculus.proofs.Endings.{ends-iff}
@@ -19,7 +18,7 @@ use Rattle.engine.specs.declared.ends.Report.{Report}
 use Rattle.engine.specs.declared.runs.Answer.the-variants.{Ended}
 use Rattle.engine.specs.Results.{Line, lineOf}
 use Rattle.engine.specs.Answered.{spoken}
-use Rattle.engine.specs.Lent.{Lent, Returned, room}
+use Rattle.engine.specs.Lent.{Lent, Returned, room, operated}
 use Rattle.engine.proofs.Answering.{passed-by}
 use Rattle.demands.specs.Owned.{SameBare, WithoutOwners}
 use Rattle.demands.proofs.Running.{Promised, ended-by, front}
@@ -34,10 +33,12 @@ unfolding ownerlessWords
 bare-length [] = refl
 bare-length (w ∷ ws) = omega (arith, bare-length ws)
 
+bare-line : (r : Result) → lineOf (bare r) ≡ lineOf r
+bare-line r = rw (bare-length (r .left))
+
 module _ (l m : Lent) (o : Ownerless (l .bytes) (m .bytes)) (i : l .limit ≡ m .limit) (k : room l ≡ room m) where
   -- The run of the bare file is that of the other, without the owners.
-  bare-run : (r : Result) → operate (l .bytes) (l .limit) (length (l .first)) (length (l .second)) ≡ passed r
-      → operate (m .bytes) (m .limit) (length (m .first)) (length (m .second)) ≡ passed (bare r)
+  bare-run : (r : Result) → operated l ≡ passed r → operated m ≡ passed (bare r)
   bare-run r q =
       let x = operate-iff (l .bytes) (l .limit) (length (l .first)) (length (l .second)) r .0 q in
       let e = x .1 in
@@ -51,18 +52,16 @@ module _ (l m : Lent) (o : Ownerless (l .bytes) (m .bytes)) (i : l .limit ≡ m 
 
   same-bare : (g h : Returned) → Promised l g → Promised m h → (x : Report) → g .answer ≡ Ended x → SameBare x g h
   same-bare g h p q x a =
-      let v = operate (l .bytes) (l .limit) (length (l .first)) (length (l .second)) in
-      let r = passed-by v x (ap spoken (sym a) ∙ p .answer-is) in
+      let r = passed-by (operated l) x (ap spoken (sym a) ∙ p .answer-is) in
       let t = bare-run (r .0) (r .1) in
       let d = ended-by (h .answer) (lineOf (bare (r .0))) (q .answer-is ∙ ap (λ (v : Verdict Result). andThen v (λ y. passed (lineOf y))) t) in
       let n : x .left ≡ length (r .0 .left) = ap (λ (y : Line). y .left) (r .2) in
-      let b = bare-length (r .0 .left) in
       record {
         report = d .0;
         ended = d .1;
-        numbers = d .2 ∙ ap (λ (z : ℕ). record { end = r .0 .end; code = r .0 .code; made = r .0 .made; left = z; wanted = r .0 .wanted }) b ∙ sym (r .2);
+        numbers = d .2 ∙ bare-line (r .0) ∙ sym (r .2);
         words =
-            ap (λ (z : ℕ). take z (h .first)) (n ∙ sym b) ∙ front m h (bare (r .0)) t q
+            ap (λ (z : ℕ). take z (h .first)) (n ∙ sym (bare-length (r .0 .left))) ∙ front m h (bare (r .0)) t q
             ∙ ap ownerlessWords (sym (front l g (r .0) (r .1) p) ∙ ap (λ (z : ℕ). take z (g .first)) (sym n));
       }
 
