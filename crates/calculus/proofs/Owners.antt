@@ -15,50 +15,42 @@ use Rattle.calculus.specs.Reduction.{form, Became, becomes, raises, noth
 use Rattle.calculus.specs.Rules.{Value, lamV, numV, nilV, consV, lumpV, _⊢_⇒_, sm-lump, stay, then}
 use Rattle.calculus.specs.Owners.{owners, ownerless, Owners}
 use Rattle.calculus.proofs.Inference.{one-type}
+use Rattle.calculus.proofs.Types.{kindTy, by-pairs}
 use Rattle.calculus.proofs.Contraction.{rule-iff}
 use Rattle.calculus.proofs.Reaching.{into-ml, rule}
 
--- A number for a type's form, by which two forms are told apart.
-abbrev mark : Ty → ℕ
-mark N = 0
-mark (L o) = 1
-mark (list t) = 2
-mark (t to u) = 3
+kind-kept : (t : Ty) → kindTy (ownerless t) ≡ kindTy t
+unfolding ownerless
+kind-kept N = refl
+kind-kept (L o) = refl
+kind-kept (list t) = refl
+kind-kept (t to u) = refl
 
 -- The owners of one type, and then j, are those of another, and then k.
 told-by-owners : (t u : Ty) (j k : List ℕ) → ownerless t ≡ ownerless u → owners t ++ j ≡ owners u ++ k → (t ≡ u) × (j ≡ k)
 unfolding owners ownerless
-told-by-owners N N j k p q = (refl, q)
-told-by-owners N (L o) j k p q = absurd (omega (arith, ap mark p))
-told-by-owners N (list t) j k p q = absurd (omega (arith, ap mark p))
-told-by-owners N (t to u) j k p q = absurd (omega (arith, ap mark p))
-told-by-owners (L o) N j k p q = absurd (omega (arith, ap mark p))
-told-by-owners (L o) (L u) j k p q = (cc, cc)
-told-by-owners (L o) (list t) j k p q = absurd (omega (arith, ap mark p))
-told-by-owners (L o) (t to u) j k p q = absurd (omega (arith, ap mark p))
-told-by-owners (list s) N j k p q = absurd (omega (arith, ap mark p))
-told-by-owners (list s) (L o) j k p q = absurd (omega (arith, ap mark p))
-told-by-owners (list s) (list t) j k p q = let x = told-by-owners s t j k (cc) q in (ap list (x .0), x .1)
-told-by-owners (list s) (t to u) j k p q = absurd (omega (arith, ap mark p))
-told-by-owners (s to t) N j k p q = absurd (omega (arith, ap mark p))
-told-by-owners (s to t) (L o) j k p q = absurd (omega (arith, ap mark p))
-told-by-owners (s to t) (list u) j k p q = absurd (omega (arith, ap mark p))
-told-by-owners (s to t) (u to v) j k p q =
+told-by-owners =
+    by-pairs (λ t u. (j k : List ℕ) → ownerless t ≡ ownerless u → owners t ++ j ≡ owners u ++ k → (t ≡ u) × (j ≡ k))
+    (λ j k p q. (refl, q))
+    (λ o u j k p q. (cc, cc))
+    (λ t u h j k p q. let x = h j k (cc) q in (ap list (x .0), x .1))
+    (λ s t u v h g j k p q.
     let a = append-assoc (owners s) (owners t) j in
     let b = append-assoc (owners u) (owners v) k in
-    let x = told-by-owners s u (owners t ++ j) (owners v ++ k) (cc) (sym a ∙ q ∙ b) in
-    let y = told-by-owners t v j k (cc) (x .1) in
-    (rw (x .0, y .0), y .1)
+    let x = h (owners t ++ j) (owners v ++ k) (cc) (sym a ∙ q ∙ b) in
+    let y = g j k (cc) (x .1) in
+    (rw (x .0, y .0), y .1))
+    (λ t u n j k p q. absurd (n (sym (kind-kept t) ∙ ap kindTy p ∙ kind-kept u)))
 
 equal : (t u : Ty) → (t ≡ u) ↔ ((ownerless t ≡ ownerless u) × (owners t ≡ owners u))
 equal t u = (λ e. (ap ownerless e, ap owners e), λ h. told-by-owners t u [] [] (h .0) (ap (λ (x : List ℕ). x ++ []) (h .1)) .0)
 
 -- A value of an owner's L.
 value-sealed : (o : ℕ) (v : Term ml) → Typed [] v (L o) → Value ml v → (w : Term sc) × Value sc w × (v ≡ ms (L o) w)
-value-sealed o v h lamV = absurd (omega (arith, ap mark (h .2)))
-value-sealed o v h numV = absurd (omega (arith, ap mark h))
-value-sealed o v h nilV = absurd (omega (arith, ap mark h))
-value-sealed o v h (consV a b) = absurd (omega (arith, ap mark (h .4 .1)))
+value-sealed o v h lamV = absurd (omega (arith, ap kindTy (h .2)))
+value-sealed o v h numV = absurd (omega (arith, ap kindTy h))
+value-sealed o v h nilV = absurd (omega (arith, ap kindTy h))
+value-sealed o v h (consV a b) = absurd (omega (arith, ap kindTy (h .4 .1)))
 value-sealed o v h (lumpV {v = w} a) = (w, a, ap (λ (t : Ty). ms t w) (sym (h .1)))
 
 -- What sm at an owner's L takes.

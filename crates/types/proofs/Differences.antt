@@ -11,10 +11,11 @@ use Rattle.calculus.specs.Words.{word, putTy, sizeTy}
 use Rattle.calculus.specs.Kinds.{type}
 use Rattle.calculus.specs.Inference.{sameType}
 use Rattle.calculus.proofs.Inference.{same-iff}
+use Rattle.calculus.proofs.Types.{by-pairs}
 use Rattle.nodes.specs.Table.{rowOf, shapeNumber}
 use Rattle.nodes.proofs.Shapes.{shape-first}
 use Rattle.types.specs.Comparisons.{firstDifference}
-use Rattle.types.proofs.Pairs.{same-lumps, same-lists, same-functions}
+use Rattle.types.proofs.Pairs.{same-lumps, same-lists, same-functions, other-kinds}
 
 -- Lists that differ in their first words, and lists that do not.
 pub at-first : (x y : List ℕ) → (getD x 0 0 ≡ getD y 0 0 → ⊥) → firstDifference x y ≡ 0
@@ -47,10 +48,6 @@ past-type (t to u) a b =
     let g : firstDifference (putTy u a) (putTy u b) ≡ sizeTy u + firstDifference a b = past-type u a b in
     omega arith
 
-apart : (t u : Ty) (a b c d : List ℕ) → (shapeNumber type t ≡ shapeNumber type u → ⊥)
-    → firstDifference (putTy t a) (putTy u b) ≡ firstDifference (putTy t c) (putTy u d)
-apart t u a b c d n = other-firsts t u a b n ∙ sym (other-firsts t u c d n)
-
 -- Lumps that are not the same differ in their words, by their owners.
 pub other-owners : (o u : ℕ) → sameType ml (L o) (L u) ≡ false → word 2 o ≡ word 2 u → ⊥
 other-owners o u q e = eqb-false o u (sym (same-lumps o u) ∙ q) (omega (arith, e))
@@ -59,35 +56,32 @@ pub other-lumps : (o u : ℕ) (a b : List ℕ) → sameType ml (L o) (L u) ≡ f
 unfolding putTy
 other-lumps o u a b q = at-first (word 2 o ∷ a) (word 2 u ∷ b) (other-owners o u q)
 
+-- Function types that are not the same differ in the argument's words, or behind them.
+functions : (s t u v : Ty) (a b c d : List ℕ) → sameType ml (s to t) (u to v) ≡ false
+    → (sameType ml s u ≡ false
+    → firstDifference (putTy s (putTy t a)) (putTy u (putTy v b)) ≡ firstDifference (putTy s (putTy t c)) (putTy u (putTy v d)))
+    → (sameType ml t v ≡ false → firstDifference (putTy t a) (putTy v b) ≡ firstDifference (putTy t c) (putTy v d))
+    → firstDifference (putTy s (putTy t a)) (putTy u (putTy v b)) ≡ firstDifference (putTy s (putTy t c)) (putTy u (putTy v d))
+functions s t u v a b c d q first second = by (sameType ml s u) refl
+  where
+    by : (e : Bool) → sameType ml s u ≡ e
+        → firstDifference (putTy s (putTy t a)) (putTy u (putTy v b)) ≡ firstDifference (putTy s (putTy t c)) (putTy u (putTy v d))
+    by true p =
+        let n : sameType ml t v ≡ false = ap (λ (e : Bool). e && sameType ml t v) (sym p) ∙ sym (same-functions s t u v) ∙ q in
+        rw (← (same-iff ml s u .0 p))
+        (past-type s (putTy t a) (putTy v b) ∙ ap (λ (n : ℕ). sizeTy s + n) (second n) ∙ sym (past-type s (putTy t c) (putTy v d)))
+    by false p = first p
+
 -- Types that are not the same differ within their own words.
 pub within-types : (t u : Ty) (a b c d : List ℕ) → sameType ml t u ≡ false
     → firstDifference (putTy t a) (putTy u b) ≡ firstDifference (putTy t c) (putTy u d)
 unfolding firstDifference putTy
-within-types N N a b c d q = absurd (false≢true (sym q))
-within-types N (L o) a b c d q = apart N (L o) a b c d (λ e. omega (arith, e))
-within-types N (list u) a b c d q = apart N (list u) a b c d (λ e. omega (arith, e))
-within-types N (u to v) a b c d q = apart N (u to v) a b c d (λ e. omega (arith, e))
-within-types (L o) N a b c d q = apart (L o) N a b c d (λ e. omega (arith, e))
-within-types (L o) (L u) a b c d q = other-lumps o u a b q ∙ sym (other-lumps o u c d q)
-within-types (L o) (list u) a b c d q = apart (L o) (list u) a b c d (λ e. omega (arith, e))
-within-types (L o) (u to v) a b c d q = apart (L o) (u to v) a b c d (λ e. omega (arith, e))
-within-types (list t) N a b c d q = apart (list t) N a b c d (λ e. omega (arith, e))
-within-types (list t) (L o) a b c d q = apart (list t) (L o) a b c d (λ e. omega (arith, e))
-within-types (list t) (list u) a b c d q = ap suc (within-types t u a b c d (sym (same-lists t u) ∙ q))
-within-types (list t) (u to v) a b c d q = apart (list t) (u to v) a b c d (λ e. omega (arith, e))
-within-types (s to t) N a b c d q = apart (s to t) N a b c d (λ e. omega (arith, e))
-within-types (s to t) (L o) a b c d q = apart (s to t) (L o) a b c d (λ e. omega (arith, e))
-within-types (s to t) (list u) a b c d q = apart (s to t) (list u) a b c d (λ e. omega (arith, e))
-within-types (s to t) (u to v) a b c d q =
-    ap suc (by (sameType ml s u) refl (λ h. within-types s u (putTy t a) (putTy v b) (putTy t c) (putTy v d) h) (λ h. within-types t v a b c d h))
-  where
-    by : (e : Bool) → sameType ml s u ≡ e
-        → (sameType ml s u ≡ false
-        → firstDifference (putTy s (putTy t a)) (putTy u (putTy v b)) ≡ firstDifference (putTy s (putTy t c)) (putTy u (putTy v d)))
-        → (sameType ml t v ≡ false → firstDifference (putTy t a) (putTy v b) ≡ firstDifference (putTy t c) (putTy v d))
-        → firstDifference (putTy s (putTy t a)) (putTy u (putTy v b)) ≡ firstDifference (putTy s (putTy t c)) (putTy u (putTy v d))
-    by true p first second =
-        let n : sameType ml t v ≡ false = ap (λ (e : Bool). e && sameType ml t v) (sym p) ∙ sym (same-functions s t u v) ∙ q in
-        rw (← (same-iff ml s u .0 p))
-        (past-type s (putTy t a) (putTy v b) ∙ ap (λ (n : ℕ). sizeTy s + n) (second n) ∙ sym (past-type s (putTy t c) (putTy v d)))
-    by false p first second = first p
+within-types =
+    by-pairs
+    (λ t u.
+    (a b c d : List ℕ) → sameType ml t u ≡ false → firstDifference (putTy t a) (putTy u b) ≡ firstDifference (putTy t c) (putTy u d))
+    (λ a b c d q. absurd (false≢true (sym q)))
+    (λ o u a b c d q. other-lumps o u a b q ∙ sym (other-lumps o u c d q))
+    (λ t u h a b c d q. ap suc (h a b c d (sym (same-lists t u) ∙ q)))
+    (λ s t u v h g a b c d q. ap suc (functions s t u v a b c d q (h (putTy t a) (putTy v b) (putTy t c) (putTy v d)) (g a b c d)))
+    (λ t u n a b c d q. other-firsts t u a b (other-kinds t u n) ∙ sym (other-firsts t u c d (other-kinds t u n)))

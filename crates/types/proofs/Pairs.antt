@@ -1,8 +1,8 @@
 -- Two types: of one form, or not the same; and whether types of one form are the same, by their parts. Assumes nothing.
-use Prim.Native.Nat.{ℕ}
+use Prim.Native.Nat.{ℕ, _+_}
 use mathlib.Core.Bool.{Bool, true, false, _&&_, and-eq-true-iff}
 use mathlib.Core.Logic.{_↔_}
-use mathlib.Core.Path.{_≡_, refl, sym, ap}
+use mathlib.Core.Path.{_≡_, refl, sym, ap, _∙_}
 use borrow.Author.Tests.{eqb-true, eq-eqb}
 use lib.Dec.{eqb}
 use native.Mathlib.Omega.{arith}
@@ -10,6 +10,7 @@ use Rattle.calculus.specs.Trees.{Ty, N, L, list, _to_, ml}
 use Rattle.calculus.specs.Kinds.{type}
 use Rattle.calculus.specs.Inference.{sameType}
 use Rattle.calculus.proofs.Inference.{same-iff}
+use Rattle.calculus.proofs.Types.{kindTy, by-pairs}
 use Rattle.nodes.specs.Table.{shapeNumber}
 
 -- Two tests that hold on one condition are equal.
@@ -51,6 +52,16 @@ same-functions s t u v =
           same-iff ml (s to t) (u to v) .1 (rw (a, b)),
     )
 
+-- Types of two kinds have two shapes.
+pub other-kinds : (t u : Ty) → ¬ (kindTy t ≡ kindTy u) → ¬ (shapeNumber type t ≡ shapeNumber type u)
+other-kinds t u n e = n (omega (arith, e, shape-kind t, shape-kind u))
+  where
+    shape-kind : (t : Ty) → shapeNumber type t ≡ 9 + kindTy t
+    shape-kind N = refl
+    shape-kind (L o) = refl
+    shape-kind (list t) = refl
+    shape-kind (t to u) = refl
+
 -- Types of two shapes are not the same.
 pub other-shapes : (t u : Ty) → (shapeNumber type t ≡ shapeNumber type u → ⊥) → sameType ml t u ≡ false
 other-shapes t u d = by (sameType ml t u) refl
@@ -62,19 +73,10 @@ other-shapes t u d = by (sameType ml t u) refl
 -- Two types of one shape, by the shape.
 pub one-shape : (P : Ty → Ty → Type 0) (h : ℕ) → (h ≡ 10 → P N N) → (h ≡ 11 → (o u : ℕ) → P (L o) (L u)) → (h ≡ 12 → (t u : Ty) → P (list t) (list u))
     → (h ≡ 13 → (s t u v : Ty) → P (s to t) (u to v)) → (t u : Ty) → h ≡ shapeNumber type t → h ≡ shapeNumber type u → P t u
-one-shape P h a b c d N N p q = a p
-one-shape P h a b c d N (L u) p q = absurd (omega arith)
-one-shape P h a b c d N (list u) p q = absurd (omega arith)
-one-shape P h a b c d N (u to v) p q = absurd (omega arith)
-one-shape P h a b c d (L o) N p q = absurd (omega arith)
-one-shape P h a b c d (L o) (L u) p q = b p o u
-one-shape P h a b c d (L o) (list u) p q = absurd (omega arith)
-one-shape P h a b c d (L o) (u to v) p q = absurd (omega arith)
-one-shape P h a b c d (list t) N p q = absurd (omega arith)
-one-shape P h a b c d (list t) (L u) p q = absurd (omega arith)
-one-shape P h a b c d (list t) (list u) p q = c p t u
-one-shape P h a b c d (list t) (u to v) p q = absurd (omega arith)
-one-shape P h a b c d (s to t) N p q = absurd (omega arith)
-one-shape P h a b c d (s to t) (L u) p q = absurd (omega arith)
-one-shape P h a b c d (s to t) (list u) p q = absurd (omega arith)
-one-shape P h a b c d (s to t) (u to v) p q = d p s t u v
+one-shape P h a b c d =
+    by-pairs (λ t u. h ≡ shapeNumber type t → h ≡ shapeNumber type u → P t u)
+    (λ p q. a p)
+    (λ o u p q. b p o u)
+    (λ t u x p q. c p t u)
+    (λ s t u v x y p q. d p s t u v)
+    (λ t u n p q. absurd (other-kinds t u n (sym p ∙ q)))
