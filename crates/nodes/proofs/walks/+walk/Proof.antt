@@ -50,9 +50,14 @@ module _ {t : ℕ} where
   level c = c .before .before .before .before
 
   -- What an answer x about the parts says of the whole.
+  abbrev Whole : Cited t lts.Else4 → Walked → Type 0
+  Whole c x =
+      let a = start (read c) .args in
+      Inner nestedDue (a .words .now) (a .at) (levelled (a .room) (sortsOf (a .due / 5))) (nestedAt (a .words .now) (a .at) (a .due) (a .room)) x
+
   about : (c : Cited t lts.Else4) → let a = start (read c) .args in (x : Walked)
       → walked x ≡ nestedAt (take (length (a .words .now) - 1) (drop 1 (a .words .now))) (a .at + 1) (read c .row-at .result .parts) (a .room - 1)
-      → Inner nestedDue (a .words .now) (a .at) (levelled (a .room) (sortsOf (a .due / 5))) (nestedAt (a .words .now) (a .at) (a .due) (a .room)) x
+      → Whole c x
   about c x e =
       let r = read c in
       let s = start r in
@@ -61,9 +66,7 @@ module _ {t : ℕ} where
       (r .before .before .if2 .left) _ (r .row-at .ensures) (sym (at-else3 .before .is-due .ensures) ∙ not-false _ (at-else3 .if3 .left))
       (c .if4 .left) x e
 
-  parts : (c : Cited t lts.After-walk2) → let a = start (read (level c)) .args in
-      Inner nestedDue (a .words .now) (a .at) (levelled (a .room) (sortsOf (a .due / 5)))
-      (nestedAt (a .words .now) (a .at) (a .due) (a .room)) (c .walk2 .result)
+  parts : (c : Cited t lts.After-walk2) → Whole (level c) (c .walk2 .result)
   parts c = about (level c) (c .walk2 .result) (c .walk2 .ensures)
 
   past : (c : Cited t lts.After-inner) → let a = start (read (level (c .before .before))) .args in
