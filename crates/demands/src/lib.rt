@@ -218,12 +218,12 @@ pub fn run_ownerless(
         ⌝ }
 {
     let checked = check(bare);
-    let earlier = run(file, limit, first, second);
-    let later = run(bare, limit, first_2, second_2);
+    let owned = run(file, limit, first, second);
+    let ownerless = run(bare, limit, first_2, second_2);
     Answers {
         checked: checked,
-        earlier: earlier,
-        later: later,
+        earlier: owned,
+        later: ownerless,
     }
 }
 
