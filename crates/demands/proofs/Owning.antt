@@ -20,48 +20,48 @@ use Rattle.engine.specs.Results.{Line, lineOf}
 use Rattle.engine.specs.Answered.{spoken}
 use Rattle.engine.specs.Lent.{Lent, Returned, room, operated}
 use Rattle.engine.proofs.Answering.{passed-by}
-use Rattle.demands.specs.Owned.{SameBare, WithoutOwners}
-use Rattle.demands.proofs.Running.{Promised, ended-by, front}
+use Rattle.demands.specs.Owned.{SameOwnerless, WithoutOwners}
+use Rattle.demands.proofs.Running.{Promised, ended-by, front, once}
 use Rattle.demands.proofs.Demanding.{checks}
 
 -- A result without the owners in the words left.
-abbrev bare : Result → Result
-bare r = ended (r .end) (r .code) (r .made) (ownerlessWords (r .left)) (r .wanted)
+abbrev ownerlessly : Result → Result
+ownerlessly r = ended (r .end) (r .code) (r .made) (ownerlessWords (r .left)) (r .wanted)
 
-bare-length : (ws : List ℕ) → length (ownerlessWords ws) ≡ length ws
+left-length : (ws : List ℕ) → length (ownerlessWords ws) ≡ length ws
 unfolding ownerlessWords
-bare-length [] = refl
-bare-length (w ∷ ws) = omega (arith, bare-length ws)
+left-length [] = refl
+left-length (w ∷ ws) = omega (arith, left-length ws)
 
-bare-line : (r : Result) → lineOf (bare r) ≡ lineOf r
-bare-line r = rw (bare-length (r .left))
+same-line : (r : Result) → lineOf (ownerlessly r) ≡ lineOf r
+same-line r = rw (left-length (r .left))
 
 module _ (l m : Lent) (o : Ownerless (l .bytes) (m .bytes)) (i : l .limit ≡ m .limit) (k : room l ≡ room m) where
-  -- The run of the bare file is that of the other, without the owners.
-  bare-run : (r : Result) → operated l ≡ passed r → operated m ≡ passed (bare r)
-  bare-run r q =
+  -- The run of the file without owners is that of the other, without the owners in the words left.
+  ownerless-run : (r : Result) → operated l ≡ passed r → operated m ≡ passed (ownerlessly r)
+  ownerless-run r q =
       let x = operate-iff (l .bytes) (l .limit) (length (l .first)) (length (l .second)) r .0 q in
       let e = x .1 in
       let a = owners-refuse-only .accepted (l .bytes) (m .bytes) o (x .0) e (x .2) in
       let by-rules = ends-iff (l .limit) (room l) e (x .0) (x .2 .typed) r .1 (sym (x .4)) in
       let made = owners-refuse-only .ends (l .limit) (room l) e (r .end) (r .code) (r .made) (r .left) (r .wanted) by-rules in
-      let there = subst₂ (λ (n cap : ℕ). Ends n cap (ownerlessTerm e) (bare r)) i k made in
-      let ran = ends-iff (m .limit) (room m) (ownerlessTerm e) (ownerless (x .0)) (a .typed) (bare r) .0 there in
-      operate-iff (m .bytes) (m .limit) (length (m .first)) (length (m .second)) (bare r) .1
+      let there = subst₂ (λ (n cap : ℕ). Ends n cap (ownerlessTerm e) (ownerlessly r)) i k made in
+      let ran = ends-iff (m .limit) (room m) (ownerlessTerm e) (ownerless (x .0)) (a .typed) (ownerlessly r) .0 there in
+      operate-iff (m .bytes) (m .limit) (length (m .first)) (length (m .second)) (ownerlessly r) .1
       (ownerless (x .0), ownerlessTerm e, a, omega (arith, sized e, x .3, k), sym ran)
 
-  same-bare : (g h : Returned) → Promised l g → Promised m h → (x : Report) → g .answer ≡ Ended x → SameBare x g h
-  same-bare g h p q x a =
+  same-ownerless : (g h : Returned) → Promised l g → Promised m h → (x : Report) → g .answer ≡ Ended x → SameOwnerless x g h
+  same-ownerless g h p q x a =
       let r = passed-by (operated l) x (ap spoken (sym a) ∙ p .answer-is) in
-      let t = bare-run (r .0) (r .1) in
-      let d = ended-by (h .answer) (lineOf (bare (r .0))) (q .answer-is ∙ ap (λ (v : Verdict Result). andThen v (λ y. passed (lineOf y))) t) in
+      let t = ownerless-run (r .0) (r .1) in
+      let d = ended-by (h .answer) (lineOf (ownerlessly (r .0))) (q .answer-is ∙ ap (λ (v : Verdict Result). andThen v (λ y. passed (lineOf y))) t) in
       let n : x .left ≡ length (r .0 .left) = ap (λ (y : Line). y .left) (r .2) in
       record {
         report = d .0;
         ended = d .1;
-        numbers = d .2 ∙ bare-line (r .0) ∙ sym (r .2);
+        numbers = d .2 ∙ same-line (r .0) ∙ sym (r .2);
         words =
-            ap (λ (z : ℕ). take z (h .first)) (n ∙ sym (bare-length (r .0 .left))) ∙ front m h (bare (r .0)) t q
+            ap (λ (z : ℕ). take z (h .first)) (n ∙ sym (left-length (r .0 .left))) ∙ front m h (ownerlessly (r .0)) t q
             ∙ ap ownerlessWords (sym (front l g (r .0) (r .1) p) ∙ ap (λ (z : ℕ). take z (g .first)) (sym n));
       }
 
@@ -69,8 +69,15 @@ pub without-owners : (c : Checked) (l m : Lent) (g h : Returned) → checked c �
     → WithoutOwners l g c m h
 without-owners c l m g h k p q =
     record {
+      first = once l g p;
+      second = once m h q;
+      accepts = checks (m .bytes) c k .accepts;
       accepted = λ o x.
           checks (m .bytes) c k .accepts .1
           (ownerless (x .0), ownerlessTerm (x .1), owners-refuse-only .accepted (l .bytes) (m .bytes) o (x .0) (x .1) (x .2));
-      same = λ o i j x a. same-bare l m o i j g h p q x a;
+      same = λ o i j x a. same-ownerless l m o i j g h p q x a;
+      over = λ o j a.
+          let x = once l g p .exact .over .0 a in
+          let e = owners-refuse-only .accepted (l .bytes) (m .bytes) o (x .0) (x .1) (x .2) in
+          once m h q .exact .over .1 (ownerless (x .0), ownerlessTerm (x .1), e, omega (arith, sized (x .1), x .3, j));
     }
