@@ -8,8 +8,9 @@ use lib.Seq.{take-all}
 use Rattle.writing.specs.Wrote.{Wrote}
 use Rattle.writing.proofs.Stores.{then, wrote-as}
 use Rattle.text.specs.Decimal.{decimal}
+use Rattle.text.specs.Characters.{blank}
 use Rattle.text.proofs.Decimals.{decimal-length}
-use Rattle.lister.specs.Listing.{blank, field, fields, wordsLine}
+use Rattle.lister.specs.Listing.{field, fields, wordsLine}
 
 -- A number of 32 bits has at most ten digits.
 pub digits-few : (n : ℕ) → n < 4294967296 → length (decimal n) ≤ 10

@@ -14,8 +14,8 @@ use Rattle.calculus.proofs.Padding.{padded-take, padded-length}
 use Rattle.engine.specs.Results.{lineOf, numberOfEnd}
 use Rattle.exports.specs.Numbers.{runNumbers}
 use Rattle.exports.specs.declared.runs.RecipeRun.{RecipeRun}
-use Rattle.text.specs.Characters.{characters}
-use Rattle.lister.specs.Listing.{lineFeed, wordsLine, endName, textOf, listing}
+use Rattle.text.specs.Characters.{lineFeed, characters}
+use Rattle.lister.specs.Listing.{wordsLine, endName, textOf, listing}
 use Rattle.lister.specs.Numbered.{nameOf, refusedLine, endedLine, textBy}
 
 -- The name of an end, by its number.

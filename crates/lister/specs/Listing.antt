@@ -9,14 +9,7 @@ use Rattle.calculus.specs.Verdicts.{Verdict, refused, passed}
 use Rattle.calculus.specs.Run.{End, valued, spent, error, full, Result}
 use Rattle.calculus.specs.File.{bytesOf, fileOf, operate}
 use Rattle.text.specs.Decimal.{decimal}
-use Rattle.text.specs.Characters.{characters}
-
--- A blank, and the end of a line.
-abbrev pub blank : ℕ
-blank = 32
-
-abbrev pub lineFeed : ℕ
-lineFeed = 10
+use Rattle.text.specs.Characters.{blank, lineFeed, characters}
 
 -- A number in decimal, a blank before it; and so each of some numbers.
 unfoldable pub field : ℕ → List ℕ

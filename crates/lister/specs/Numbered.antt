@@ -4,8 +4,8 @@ use mathlib.Core.Bool.{cond}
 use mathlib.Core.List.{List, [], _∷_, _++_}
 use lib.Dec.{eqb}
 use Rattle.exports.specs.declared.runs.RecipeRun.{RecipeRun}
-use Rattle.text.specs.Characters.{characters}
-use Rattle.lister.specs.Listing.{lineFeed, line, wordsLine}
+use Rattle.text.specs.Characters.{lineFeed, characters}
+use Rattle.lister.specs.Listing.{line, wordsLine}
 
 -- The name of an end, by its number.
 abbrev pub nameOf : ℕ → List ℕ

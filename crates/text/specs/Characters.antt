@@ -12,3 +12,10 @@ codes s i (suc n) = code (charAt s i) ∷ codes s (suc i) n
 -- The bytes of a text of ASCII characters.
 abbrev pub characters : String → List ℕ
 characters s = codes s 0 (len s)
+
+-- A blank, and the end of a line.
+abbrev pub blank : ℕ
+blank = 32
+
+abbrev pub lineFeed : ℕ
+lineFeed = 10
