@@ -58,6 +58,8 @@ lines-more charges ns i h =
     let l : 0 + length (take i ns) ≡ i = omega (arith, length-take-le i ns (omega arith)) in
     rw (add-one i, take-suc ns i 0 h)
     (subst
-    (λ (j : ℕ). pumpLines charges 0 (take i ns) ++ pumpLine (suc j) (getD ns i 0) (getD charges j 0) ≡ pumpLines charges 0 (take i ns ++ getD ns i 0 ∷ []))
+    (λ (j : ℕ).
+    pumpLines charges 0 (take i ns) ++ pumpLine (suc j) (getD ns i 0) (getD charges j 0)
+    ≡ pumpLines charges 0 (take i ns ++ getD ns i 0 ∷ []))
     l
     (lines-append charges 0 (take i ns) (getD ns i 0)))

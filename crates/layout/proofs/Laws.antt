@@ -225,7 +225,8 @@ module _ (charges : List ℕ) (c : (i : ℕ) → getD charges i 0 ≤ 4294967295
       let here = pumpLine (suc i) n (getD charges i 0) in
       let at : i + 0 ≡ i = omega arith in
       let pump : i + 1 ≡ suc i = omega arith in
-      ap (take 41) (append-assoc here (pumpLines charges (suc i) ns) rest) ∙ take-at here (pumpLines charges (suc i) ns ++ rest) 41 (first-long i n ns w)
+      ap (take 41) (append-assoc here (pumpLines charges (suc i) ns) rest)
+      ∙ take-at here (pumpLines charges (suc i) ns ++ rest) 41 (first-long i n ns w)
       ∙ rw (at, pump)
   line-at i (suc k) (n ∷ ns) rest w h =
       let here = pumpLine (suc i) n (getD charges i 0) in

@@ -8,7 +8,7 @@ use native.Mathlib.Omega.{arith}
 use lib.ListN.{length}
 use borrow.Author.Tests.{le-leb, lt-leb}
 use Rattle.calculus.specs.Trees.{Ty, N, list, ml, Term}
-use Rattle.calculus.specs.Words.{size}
+use Rattle.calculus.specs.Words.{words, size}
 use Rattle.calculus.specs.Verdicts.{Verdict, refused, passed}
 use Rattle.calculus.specs.Limits.{InRange}
 use Rattle.calculus.specs.Typing.{Typed}
@@ -25,8 +25,8 @@ use Rattle.engine.specs.Results.{numberOfEnd}
 use Rattle.charges.specs.Prices.{Prices, allWithin}
 use Rattle.charges.specs.Laws.{Within}
 use Rattle.charges.proofs.Laws.{tested}
-use Rattle.pricing.specs.Items.{itemsIn}
-use Rattle.pricing.specs.Pricing.{Bill, bill, billed, pricing}
+use Rattle.pricing.specs.Items.{listOf, itemsIn}
+use Rattle.pricing.specs.Pricing.{Bill, chargedFor, bill, billed, pricing}
 use Rattle.pricing.specs.Laws.{Way, overpriced, unaccepted, of-another-type, too-large, run-of, ValueOf, Gives}
 use Rattle.pricing.specs.Laws.{Costs, nothing, refused-10, charges-of}
 use Rattle.pricing.specs.Laws.{Exactly, OwnRun, Grows}
@@ -128,6 +128,26 @@ module _ (prices : Prices) (bytes : List ℕ) (limit first second : ℕ) where
       by (of-another-type w τ e a h) g = absurd (not-both 9 0 b (sym g ∙ q))
       by (too-large w e a h) g = absurd (not-both 8 0 b (sym g ∙ q))
       by (run-of w e a h) g = (e, w, a, h, run-of-costs (run limit (capacity first second) uncounted e) verdict q g)
+
+  -- At a value it leaves a list of at most nine numbers, each in range, and the bill is theirs.
+  pub billed-items : (b : Bill) → verdict ≡ passed b → b .run .end ≡ valued
+      → (ns : List ℕ) × (b .run .left ≡ words (listOf ns)) × InRange (listOf ns) × (itemsIn (b .run .left) ≡ ns) × (length ns ≤ 9)
+      × (b ≡ chargedFor prices (b .run) ns)
+  billed-items b q v =
+      let y = billed-run b q in
+      let l = run-listed limit (capacity first second) (y .0) (y .2 .ranged) (y .2 .typed) (ap (λ (r : Result). r .end) (sym (y .4)) ∙ v) in
+      let left : b .run .left ≡ words (listOf (l .0)) = ap (λ (r : Result). r .left) (y .4) ∙ l .1 in
+      let items = ap itemsIn left ∙ items-in (l .0) (l .2) in
+      let is : verdict ≡ bill prices (b .run) valued =
+      run-is prices bytes limit first second (y .0) (y .1) (y .2) (y .3) ∙ ap (λ (r : Result). bill prices r (r .end)) (sym (y .4))
+      ∙ ap (bill prices (b .run)) v in
+      let few = by (l .0) items (sym is ∙ q) (decLe (length (l .0)) 9) in
+      (l .0, left, l .2, items, few .0, few .1)
+    where
+      by : (ns : List ℕ) → itemsIn (b .run .left) ≡ ns → bill prices (b .run) valued ≡ passed b → Dec (length ns ≤ 9)
+          → (length ns ≤ 9) × (b ≡ chargedFor prices (b .run) ns)
+      by ns e h (yes k) = (k, sym (passed-injective (chargedFor prices (b .run) ns) b (sym (rw (e, le-leb (length ns) 9 k)) ∙ h)))
+      by ns e h (no k) = absurd (not-both 10 0 b (sym (rw (e, lt-leb (length ns) 9 (omega (arith, k)))) ∙ h))
 
   pub items-run : verdict ≡ refused 10 0 → (e : Term ml) × Within prices × Accepted bytes (list N) e × (size e ≤ capacity first second)
       × (run limit (capacity first second) uncounted e .end ≡ valued)

@@ -54,7 +54,7 @@ pub fn numbered(u: Unpriced) -> Numbers
 }
 
 // No charge.
-fn none() -> Charges
+pub fn none() -> Charges
     ensures { λ r. ⌜ r ≡ noCharges ⌝ }
 {
     Charges {

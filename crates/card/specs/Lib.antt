@@ -1,0 +1,4 @@
+pub mod Carding
+pub mod Refusals
+pub mod Answered
+pub mod Parts
