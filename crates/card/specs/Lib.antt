@@ -2,3 +2,4 @@ pub mod Carding
 pub mod Refusals
 pub mod Answered
 pub mod Parts
+pub mod Laws

@@ -102,10 +102,24 @@ unfolding total
 total-fits [] h = omega arith
 total-fits (c ∷ cs) h = omega (arith, h 0, total-fits cs (λ i. h (suc i)))
 
+-- Of as many items, and no charge behind them.
+items-fit : (prices : Prices) (ns : List ℕ) → Within prices → ((i : ℕ) → getD ns i 0 ≤ 4294967295)
+    → total (charges prices ns) ≤ length ns * 4294967295000
+unfolding charges total
+items-fit [] ns w h = omega arith
+items-fit (row ∷ rows) [] w h = omega (arith, items-fit rows [] (λ p. w (suc p)) h)
+items-fit (row ∷ rows) (n ∷ ns) w h =
+    omega (
+      arith,
+      charge-fits n (getD row (band n) 0) (h 0) (w 0 (band n)),
+      items-fit rows ns (λ p. w (suc p)) (λ i. h (suc i)),
+    )
+
 pub widths : Widths
 widths =
     record {
       charges-fit = charges-fit;
       total-fits = λ prices ns n w h.
           omega (arith, n, charges-length prices ns, total-fits (charges prices ns) (λ i. charges-fit prices ns i w h));
+      items-fit = λ prices ns n w h. omega (arith, n, items-fit prices ns w h);
     }

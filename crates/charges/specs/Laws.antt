@@ -31,9 +31,11 @@ pub record Tested : Type 0 where
   pub all-within : (prices : Prices) → (allWithin prices ≡ true) ↔ Within prices
   pub one-over : (prices : Prices) → (allWithin prices ≡ false) ↔ Overpriced prices
 
--- The widest numbers, for counts of up to 4,294,967,295 pulses: 13 digits for a charge, 14 for a total of nine.
+-- The widest numbers, for counts of up to 4,294,967,295 pulses: 13 digits for a charge, 14 for a total of nine prices or of nine items.
 pub record Widths : Type 0 where
   pub charges-fit : (prices : Prices) (ns : List ℕ) (pump : ℕ) → Within prices → ((i : ℕ) → getD ns i 0 ≤ 4294967295)
       → getD (charges prices ns) pump 0 ≤ 4294967295000
   pub total-fits : (prices : Prices) (ns : List ℕ) → length prices ≤ 9 → Within prices → ((i : ℕ) → getD ns i 0 ≤ 4294967295)
+      → total (charges prices ns) ≤ 38654705655000
+  pub items-fit : (prices : Prices) (ns : List ℕ) → length ns ≤ 9 → Within prices → ((i : ℕ) → getD ns i 0 ≤ 4294967295)
       → total (charges prices ns) ≤ 38654705655000

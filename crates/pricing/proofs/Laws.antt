@@ -20,7 +20,7 @@ use Rattle.calculus.proofs.Checks.{check-iff, operate-iff}
 use Rattle.calculus.proofs.Growth.{run-more}
 use Rattle.calculus.proofs.Refusing.{Numbered, number-in-table}
 use Rattle.calculus.proofs.Inference.{same-iff}
-use Rattle.calculus.proofs.Verdicts.{not-both, passed-injective}
+use Rattle.calculus.proofs.Verdicts.{not-both, passed-injective, refused-injective}
 use Rattle.engine.specs.Results.{numberOfEnd}
 use Rattle.charges.specs.Prices.{Prices, allWithin}
 use Rattle.charges.specs.Laws.{Within}
@@ -168,6 +168,25 @@ module _ (prices : Prices) (bytes : List ℕ) (limit first second : ℕ) where
       by (of-another-type w τ e a h) g = absurd (omega (arith, other 9 0 g))
       by (too-large w e a h) g = absurd (omega (arith, other 8 0 g))
       by (run-of w e a h) g = (e, w, a, h, valued-costs (run limit (capacity first second) uncounted e) verdict q g)
+
+  -- No refusal of pricing has a larger number than 11.
+  pub pricing-number : (n p : ℕ) → verdict ≡ refused n p → n ≤ 11
+  pricing-number n p q = by (way prices bytes (capacity first second)) (gives prices bytes limit first second (way prices bytes (capacity first second)))
+    where
+      is : (m k : ℕ) → verdict ≡ refused m k → n ≡ m
+      is m k g = refused-injective (sym q ∙ g) .0
+
+      of-costs : (r : Result) (v : Verdict Bill) → verdict ≡ v → Costs prices r v → n ≤ 11
+      of-costs r v h (nothing k) = absurd (not-both n p _ (sym q ∙ h))
+      of-costs r v h (refused-10 ns y k) = omega (arith, is 10 0 h)
+      of-costs r v h (charges-of ns y k) = absurd (not-both n p _ (sym q ∙ h))
+
+      by : (w : Way prices bytes (capacity first second)) → Gives limit w verdict → n ≤ 11
+      by (overpriced h) g = omega (arith, is 11 0 g)
+      by (unaccepted w m k c) g = omega (arith, is m k g, subst Numbered c (number-in-table bytes))
+      by (of-another-type w τ e a h) g = omega (arith, is 9 0 g)
+      by (too-large w e a h) g = omega (arith, is 8 0 g)
+      by (run-of w e a h) g = of-costs _ verdict refl g
 
 pub own-run : OwnRun
 own-run =
