@@ -84,7 +84,9 @@ module _ (prices : Prices) (bytes : List ℕ) (limit first second : ℕ) where
       value-of = record { ends = v; is = listed .1 }
 
       by-length : (room : ℕ) → Dec (cardBytes ns ≤ room) → Lays b room (laidIn room b)
-      by-length room (yes k) = rw (text-is, le-leb (length (card ns (b .charges) (b .total))) room (omega (arith, long, k))) (card-of ns value-of fitting k)
+      by-length room (yes k) =
+          rw (text-is, le-leb (length (card ns (b .charges) (b .total))) room (omega (arith, long, k)))
+          (card-of ns value-of fitting k)
       by-length room (no k) =
           rw (text-is, lt-leb (length (card ns (b .charges) (b .total))) room (omega (arith, long, k)))
           (refused-14 ns value-of fitting (omega (arith, k)))
@@ -140,7 +142,8 @@ module _ (prices : Prices) (bytes : List ℕ) (limit first second room : ℕ) wh
           over : Dec (length (cardOf b) ≤ room) → room < length (cardOf b)
           over (no k) = omega (arith, k)
           over (yes k) =
-              absurd (not-both 14 0 (record { bill = b; text = cardOf b }) (sym q ∙ carding-is prices bytes limit first second room (passed b) e ∙ rw (le-leb (length (cardOf b)) room k)))
+              absurd (not-both 14 0 (record { bill = b; text = cardOf b })
+              (sym q ∙ carding-is prices bytes limit first second room (passed b) e ∙ rw (le-leb (length (cardOf b)) room k)))
 
 -- A card is short.
 few-bytes : (b : Bill) (room : ℕ) (v : Verdict Card) (c : Card) → Lays b room v → v ≡ passed c → length (c .text) ≤ 410

@@ -10,7 +10,7 @@ use Rattle.calculus.specs.File.{Recipe}
 use Rattle.calculus.proofs.Bounds.{operate-bounded}
 use Rattle.calculus.proofs.Refusing.{PlaceWithin}
 use Rattle.engine.specs.declared.ends.Report.{Report}
-use Rattle.engine.specs.Results.{Line, lineOf}
+use Rattle.engine.specs.Results.{Line, lineOf, told}
 use Rattle.charges.specs.Prices.{Prices}
 use Rattle.charges.specs.declared.Charges.{Charges}
 use Rattle.pricing.specs.Pricing.{Bill, pricing}
@@ -26,6 +26,10 @@ use Rattle.exports.specs.declared.runs.RecipeRun.{RecipeRun}
 use Rattle.exports.specs.declared.prices.RecipePriced.{RecipePriced}
 use Rattle.exports.specs.Numbers.{endedNumbers, runNumbers, packedNumbers, pricedNumbers}
 use Rattle.exports.proofs.Packing.{check-within}
+
+pub lines-within : (v : Verdict Bill) → PlaceWithin 4096 v → PlaceWithin 4096 (andThen (ran v) (λ y. passed (lineOf y)))
+lines-within (refused r p) h = h
+lines-within (passed y) h = tt
 
 module _ (prices : Prices) (bytes : List ℕ) (limit n m : ℕ) where
   abbrev verdict : Verdict Bill
@@ -44,25 +48,25 @@ module _ (prices : Prices) (bytes : List ℕ) (limit n m : ℕ) where
   gives-within (too-large w e a h) g = subst (PlaceWithin 4096) (sym g) (omega arith)
   gives-within (run-of w e a h) g = costs-within _ verdict g
 
-  lines-within : (v : Verdict Bill) → PlaceWithin 4096 v → PlaceWithin 4096 (andThen (ran v) (λ y. passed (lineOf y)))
-  lines-within (refused r p) h = h
-  lines-within (passed y) h = tt
+  pub price-within : PlaceWithin 4096 verdict
+  price-within = let w = exactly .way prices bytes (capacity n m) in gives-within w (exactly .gives prices bytes limit n m w)
+
+  -- The words left and wanted that a report of a bill's run tells.
+  pub bill-words : (b : Bill) → verdict ≡ passed b → (x : Report) → told x ≡ lineOf (b .run) → (x .left ≤ 16384) × (x .wanted ≤ 268435456)
+  bill-words b q x e =
+      let l : x .left ≡ length (b .run .left) = ap (λ (z : Line). z .left) e in
+      let w : x .wanted ≡ b .run .wanted = ap (λ (z : Line). z .wanted) e in
+      let k = operate-bounded bytes limit n m (b .run) (own-run .own prices bytes limit n m b q) in
+      (omega (arith, l, k .0), omega (arith, w, k .1))
 
   module _ (o : Outcome) (h : spoken o ≡ andThen (ran verdict) (λ y. passed (lineOf y))) where
     -- The place of a refusal.
     pub price-place : (u : Unpriced) → o ≡ Refused u → placeOf u ≤ 4096
-    price-place u q =
-        let w = exactly .way prices bytes (capacity n m) in
-        subst (PlaceWithin 4096) (sym (sym (ap spoken q) ∙ h)) (lines-within verdict (gives-within w (exactly .gives prices bytes limit n m w)))
+    price-place u q = subst (PlaceWithin 4096) (sym (sym (ap spoken q) ∙ h)) (lines-within verdict price-within)
 
     -- The words left and the words wanted.
     pub price-words : (x : Report) → o ≡ Ended x → (x .left ≤ 16384) × (x .wanted ≤ 268435456)
-    price-words x q =
-        let y = billed-by verdict x (sym (ap spoken q) ∙ h) in
-        let l : x .left ≡ length (y .0 .run .left) = ap (λ (z : Line). z .left) (y .2) in
-        let w : x .wanted ≡ y .0 .run .wanted = ap (λ (z : Line). z .wanted) (y .2) in
-        let b = operate-bounded bytes limit n m (y .0 .run) (own-run .own prices bytes limit n m (y .0) (y .1)) in
-        (omega (arith, l, b .0), omega (arith, w, b .1))
+    price-words x q = let y = billed-by verdict x (sym (ap spoken q) ∙ h) in bill-words (y .0) (y .1) x (y .2)
 
     -- Either case of an answer.
     module _ {c : Charges} {r : RecipeRun} {x : RecipePriced} (k : c ≡ chargesOf verdict) (p : x ≡ packedNumbers r c) where

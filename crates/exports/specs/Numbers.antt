@@ -11,10 +11,13 @@ use Rattle.charges.specs.Prices.{Prices}
 use Rattle.charges.specs.declared.Charges.{Charges}
 use Rattle.pricing.specs.Pricing.{Bill}
 use Rattle.pricing.specs.Answered.{chargesOf, ran, priced}
+use Rattle.card.specs.Carding.{Card}
+use Rattle.card.specs.Answered.{billOf, textOf, CardLent, carded}
 use Rattle.saving.specs.Saving.{saving}
 use Rattle.saving.specs.Answered.{lengthOf, writtenBy}
 use Rattle.exports.specs.declared.runs.RecipeRun.{RecipeRun}
 use Rattle.exports.specs.declared.prices.RecipePriced.{RecipePriced}
+use Rattle.exports.specs.declared.cards.RecipeCard.{RecipeCard}
 use Rattle.exports.specs.declared.saves.RecipeSaved.{RecipeSaved}
 
 -- 0 for accepted, else the refusal's number + 256 × its place.
@@ -74,6 +77,25 @@ pricedFirstOf prices l = firstAfter (length (l .first)) (ran (priced prices l))
 
 abbrev pub pricedSecondOf : Prices → Lent → List ℕ
 pricedSecondOf prices l = secondAfter (length (l .second)) (ran (priced prices l))
+
+-- The numbers of a card of what is lent: the pricing's, and how many bytes the card has; and what it leaves in the three buffers.
+abbrev pub carriedNumbers : RecipeRun → Charges → ℕ → RecipeCard
+carriedNumbers run charges bytes = record { priced = packedNumbers run charges; bytes = bytes }
+
+abbrev pub cardNumbers : Verdict Card → RecipeCard
+cardNumbers v = record { priced = pricedNumbers (billOf v); bytes = length (textOf v) }
+
+abbrev pub cardNumbersOf : Prices → CardLent → RecipeCard
+cardNumbersOf prices l = cardNumbers (carded prices l)
+
+abbrev pub cardFirstOf : Prices → CardLent → List ℕ
+cardFirstOf prices l = firstAfter (length (l .run .first)) (ran (billOf (carded prices l)))
+
+abbrev pub cardSecondOf : Prices → CardLent → List ℕ
+cardSecondOf prices l = secondAfter (length (l .run .second)) (ran (billOf (carded prices l)))
+
+abbrev pub cardBytesOf : Prices → CardLent → List ℕ
+cardBytesOf prices l = padded (length (l .card)) (textOf (carded prices l))
 
 -- The numbers of a save: those of a refusal, or how many bytes the file has; and what it leaves in a buffer of so many bytes.
 abbrev pub savedNumbers : Verdict ℕ → RecipeSaved

@@ -1,5 +1,6 @@
 // The functions that a C program calls; include/recipe.h declares them.
 
+pub mod cards;
 pub mod prices;
 pub mod readers;
 pub mod runs;

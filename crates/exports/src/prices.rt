@@ -28,7 +28,7 @@ fn refused_by(u: Unpriced) -> RecipeRun
     refused(numbered(u))
 }
 
-fn packed(run: RecipeRun, charges: Charges) -> RecipePriced
+pub fn packed(run: RecipeRun, charges: Charges) -> RecipePriced
     ensures { λ x. ⌜ x ≡ packedNumbers run charges ⌝ }
 {
     let charge = charges.charge;

@@ -171,7 +171,9 @@ module _ (prices : Prices) (bytes : List ℕ) (limit first second : ℕ) where
 
   -- No refusal of pricing has a larger number than 11.
   pub pricing-number : (n p : ℕ) → verdict ≡ refused n p → n ≤ 11
-  pricing-number n p q = by (way prices bytes (capacity first second)) (gives prices bytes limit first second (way prices bytes (capacity first second)))
+  pricing-number n p q =
+      let w = way prices bytes (capacity first second) in
+      by w (gives prices bytes limit first second w)
     where
       is : (m k : ℕ) → verdict ≡ refused m k → n ≡ m
       is m k g = refused-injective (sym q ∙ g) .0
