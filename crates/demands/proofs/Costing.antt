@@ -46,7 +46,7 @@ use Rattle.demands.proofs.Running.{Promised, reduces-of}
 use Rattle.demands.proofs.Demanding as demanding
 
 -- Every refusal of pricing is one of the eleven.
-numbered : (x : Unpriced) → (1 ≤ numberOf x) × (numberOf x ≤ 11)
+pub numbered : (x : Unpriced) → (1 ≤ numberOf x) × (numberOf x ≤ 11)
 numbered u.Prices = (omega arith, omega arith)
 numbered (u.Recipe r) = let n = running.numbered r in (n .0, omega (arith, n .1))
 numbered u.Declared = (omega arith, omega arith)
@@ -105,10 +105,10 @@ abbrev ended-as : Report → Returned → engine.Returned
 ended-as x g = engine.returned (answer.Ended x) (g .first) (g .second)
 
 -- A run has one result.
-result-is : {limit cap : ℕ} {e : Term ml} (τ : Ty) → Typed [] e τ → (x : Ending limit cap e) → spec.run limit cap spec.uncounted e ≡ x .result
+pub result-is : {limit cap : ℕ} {e : Term ml} (τ : Ty) → Typed [] e τ → (x : Ending limit cap e) → spec.run limit cap spec.uncounted e ≡ x .result
 result-is {limit} {cap} {e} τ t x = x .only _ (ends-iff limit cap e τ t _ .1 refl)
 
-same-result : {limit cap : ℕ} {e : Term ml} → Typed [] e (list N) → (x y : Ending limit cap e) → x .result ≡ y .result
+pub same-result : {limit cap : ℕ} {e : Term ml} → Typed [] e (list N) → (x y : Ending limit cap e) → x .result ≡ y .result
 same-result t x y = sym (result-is (list N) t x) ∙ result-is (list N) t y
 
 module _ (prices : Prices) (l : Lent) (g : Returned) (h : Pricing prices l g) where

@@ -4,3 +4,4 @@ pub mod Demanding
 pub mod Costing
 pub mod Saving
 pub mod Owning
+pub mod Carding

@@ -1,6 +1,8 @@
 // The demands as contracts of code that calls the public operations. Each is proved from what these promise and from nothing else of them: if one
 // promised less, no proof here would stand.
 
+use card::Carded;
+use card::card;
 use charges::Prices;
 use checker::Checked;
 use checker::check;
@@ -18,8 +20,10 @@ ghost use mathlib.Core.Path.{_≡_};
 ghost use Rattle.calculus.specs.Nodes.{GivenBack, OneWord};
 ghost use Rattle.engine.specs.Lent.{lent, returned};
 ghost use Rattle.pricing.specs.Answered as pricing;
+ghost use Rattle.card.specs.Answered.{cardLent, cardReturned};
 ghost use Rattle.demands.specs.Demanded.{Checks, Once, Twice};
 ghost use Rattle.demands.specs.Priced.{PricedOnce, PricedTwice};
+ghost use Rattle.demands.specs.Carded.{CardedOnce, CardedTwice};
 ghost use Rattle.demands.specs.Saved.{handed, SavedOnce, leftOf, writtenOf, SaveRuns};
 ghost use Rattle.demands.specs.Owned.{WithoutOwners};
 
@@ -121,6 +125,59 @@ pub fn price_twice(
     let earlier = price(prices, file, limit, first, second);
     let later = price(prices, file, limit_2, first_2, second_2);
     PricedAnswers {
+        earlier: earlier,
+        later: later,
+    }
+}
+
+// The answers of two cards.
+pub struct CardedAnswers {
+    pub earlier: Carded,
+    pub later: Carded,
+}
+
+// Demands 1 and 2 of the card: of these prices, this file, this limit and these three buffers.
+pub fn card_once(
+    prices: Prices,
+    file: &[u8],
+    limit: u32,
+    first: &mut [u32],
+    second: &mut [u32],
+    text: &mut [u8],
+) -> Carded
+    ensures { λ x. ⌜
+        CardedOnce prices
+        (cardLent (lent (now (file .entry)) limit (now (first .entry)) (now (second .entry))) (now (text .entry)))
+        (cardReturned x (now (first .exit)) (now (second .exit)) (now (text .exit)))
+        ⌝ }
+{
+    card(prices, file, limit, first, second, text)
+}
+
+// Demand 3's growth, for two cards of this file.
+pub fn card_twice(
+    prices: Prices,
+    file: &[u8],
+    limit: u32,
+    first: &mut [u32],
+    second: &mut [u32],
+    text: &mut [u8],
+    limit_2: u32,
+    first_2: &mut [u32],
+    second_2: &mut [u32],
+    text_2: &mut [u8],
+) -> CardedAnswers
+    ensures { λ r. ⌜
+        CardedTwice prices
+        (cardLent (lent (now (file .entry)) limit (now (first .entry)) (now (second .entry))) (now (text .entry)))
+        (cardReturned (r .earlier) (now (first .exit)) (now (second .exit)) (now (text .exit)))
+        (cardLent (lent (now (file .entry)) limit_2 (now (first_2 .entry)) (now (second_2 .entry))) (now (text_2 .entry)))
+        (cardReturned (r .later) (now (first_2 .exit)) (now (second_2 .exit)) (now (text_2 .exit)))
+        ⌝ }
+{
+    let earlier = card(prices, file, limit, first, second, text);
+    let later = card(prices, file, limit_2, first_2, second_2, text_2);
+    CardedAnswers {
         earlier: earlier,
         later: later,
     }
