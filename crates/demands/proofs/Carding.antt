@@ -223,7 +223,8 @@ module _ (prices : Prices) (l : CardLent) where
           (own-run .own prices (l .run .bytes) (l .run .limit) (length (l .run .first)) (length (l .run .second)) (made .bill) bill-is) in
           let first = h .first-is ∙ ap (λ (v : Verdict Card). firstAfter (length (l .run .first)) (ran (billOf v))) made-is in
           ap (take (x .left)) first
-          ∙ padded-take (length (l .run .first)) (x .left) (made .bill .run .left) (omega (arith, b .0)) (ap (λ (z : Line). z .left) (ended-by x q .2))
+          ∙ padded-take (length (l .run .first)) (x .left) (made .bill .run .left) (omega (arith, b .0))
+          (ap (λ (z : Line). z .left) (ended-by x q .2))
 
       module _ (text : List ℕ) (t : made .text ≡ text) where
         bytes-are : g .answer .bytes ≡ length text
@@ -232,7 +233,8 @@ module _ (prices : Prices) (l : CardLent) where
         card-is : g .card ≡ padded (length (l .card)) text
         card-is = h .card-is ∙ ap (λ (v : Verdict Card). padded (length (l .card)) (textOf v)) made-is ∙ ap (padded (length (l .card))) t
 
-      by-columns : (ns charges : List ℕ) (total : ℕ) → Fits ns charges total → made .text ≡ layout.card ns charges total → cardBytes ns ≤ length (l .card)
+      by-columns : (ns charges : List ℕ) (total : ℕ) → Fits ns charges total → made .text ≡ layout.card ns charges total
+          → cardBytes ns ≤ length (l .card)
           → ByColumns ns (record { charge = charges; total = total }) (take (g .answer .bytes) (g .card))
       by-columns ns charges total f t k =
           let text = layout.card ns charges total in
