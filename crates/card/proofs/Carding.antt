@@ -14,10 +14,10 @@ use Rattle.calculus.proofs.Padding.{padded-take, padded-length}
 use Rattle.calculus.proofs.Verdicts.{not-both}
 use Rattle.engine.specs.Buffered.{Settled}
 use Rattle.engine.specs.Lent.{Lent}
-use Rattle.engine.specs.Results.{Line, lineOf, endOf, told, endNumber}
-use Rattle.engine.specs.declared.ends.End.{End}
-use Rattle.engine.specs.declared.ends.End.the-variants.{Value, Spent, Error, Full}
-use Rattle.engine.specs.declared.ends.Report.{Report}
+use Rattle.ends.specs.Results.{Line, lineOf, endOf, told, endNumber}
+use Rattle.ends.specs.declared.End.{End}
+use Rattle.ends.specs.declared.End.the-variants.{Value, Spent, Error, Full}
+use Rattle.ends.specs.declared.Report.{Report}
 use Rattle.charges.specs.Prices.{Prices}
 use Rattle.charges.specs.declared.Charges.{Charges}
 use Rattle.pricing.specs.Items.{itemsIn}

@@ -13,7 +13,7 @@ use Rattle.calculus.specs.Limits.{InRange, InRangeTy}
 use Rattle.calculus.specs.Verdicts.{Verdict, refused, passed, andThen}
 use Rattle.calculus.specs.Run.{End, valued, spent, error, full, Final, capacity}
 use Rattle.calculus.proofs.Verdicts.{not-both, passed-injective, refused-injective, unless-iff}
-use Rattle.engine.specs.Results.{numberOfEnd}
+use Rattle.ends.specs.Results.{numberOfEnd}
 use Rattle.charges.specs.Prices.{Prices}
 use Rattle.charges.specs.Laws.{Within}
 use Rattle.charges.proofs.Laws.{widths}

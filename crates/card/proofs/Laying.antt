@@ -8,10 +8,10 @@ use Rattle.calculus.specs.Words.{words}
 use Rattle.calculus.specs.File.{padded}
 use Rattle.calculus.proofs.Padding.{padded-take, padded-length}
 use Rattle.engine.specs.Buffered.{Settled}
-use Rattle.engine.specs.Results.{endNumber}
-use Rattle.engine.specs.declared.ends.End.{End}
-use Rattle.engine.specs.declared.ends.End.the-variants.{Value}
-use Rattle.engine.specs.declared.ends.Report.{Report}
+use Rattle.ends.specs.Results.{endNumber}
+use Rattle.ends.specs.declared.End.{End}
+use Rattle.ends.specs.declared.End.the-variants.{Value}
+use Rattle.ends.specs.declared.Report.{Report}
 use Rattle.charges.specs.declared.Charges.{Charges}
 use Rattle.pricing.specs.Items.{listOf}
 use Rattle.pricing.specs.Answered.{noCharges}

@@ -6,7 +6,7 @@ use lib.ListN.{length}
 use Rattle.calculus.specs.Verdicts.{Verdict, refused, passed, andThen}
 use Rattle.calculus.specs.File.{padded, firstAfter, secondAfter}
 use Rattle.engine.specs.Lent.{Lent}
-use Rattle.engine.specs.Results.{Line, lineOf, told}
+use Rattle.ends.specs.Results.{Line, lineOf, told}
 use Rattle.charges.specs.Prices.{Prices}
 use Rattle.charges.specs.declared.Charges.{Charges}
 use Rattle.pricing.specs.Pricing.{Bill}

@@ -5,8 +5,8 @@ use mathlib.Core.Path.{_≡_}
 use lib.ListN.{length, take}
 use Rattle.calculus.specs.Words.{words}
 use Rattle.calculus.specs.File.{padded}
-use Rattle.engine.specs.declared.ends.End.the-variants.{Value}
-use Rattle.engine.specs.declared.ends.Report.{Report}
+use Rattle.ends.specs.declared.End.the-variants.{Value}
+use Rattle.ends.specs.declared.Report.{Report}
 use Rattle.charges.specs.declared.Charges.{Charges}
 use Rattle.engine.specs.Buffered.{Settled}
 use Rattle.pricing.specs.Items.{listOf}

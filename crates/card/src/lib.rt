@@ -2,9 +2,9 @@
 
 use charges::Charges;
 use charges::Prices;
+use ends::End;
+use ends::Report;
 use engine::buffers::keep;
-use engine::ends::End;
-use engine::ends::Report;
 use layout::lay_out;
 use nodes::refusals::Numbers;
 use nodes::refusals::plain;

@@ -16,8 +16,8 @@ use Rattle.calculus.proofs.Bounds.{operate-bounded}
 use Rattle.calculus.proofs.Endings.{ending}
 use Rattle.calculus.proofs.Padding.{padded-none, padded-take}
 use Rattle.calculus.proofs.Verdicts.{not-both, passed-injective, refused-injective}
-use Rattle.engine.specs.declared.ends.Report.{Report}
-use Rattle.engine.specs.Results.{Line, lineOf, endOf, told}
+use Rattle.ends.specs.declared.Report.{Report}
+use Rattle.ends.specs.Results.{Line, lineOf, endOf, told}
 use Rattle.engine.specs.Lent.{room}
 use Rattle.charges.specs.Prices.{Prices}
 use Rattle.charges.specs.Laws.{Within}

@@ -20,9 +20,9 @@ use Rattle.calculus.proofs.Endings.{ends-iff, ending}
 use Rattle.calculus.proofs.Refusing.{Numbered, number-in-table}
 use Rattle.nodes.specs.declared.refusals.Refusal.the-variants.{Capacity}
 use Rattle.calculus.proofs.Padding.{padded-none}
-use Rattle.engine.specs.declared.ends.Report.{Report}
+use Rattle.ends.specs.declared.Report.{Report}
 use Rattle.engine.specs.declared.runs.Answer.the-variants as answer
-use Rattle.engine.specs.Results.{Line, lineOf, endOf, told}
+use Rattle.ends.specs.Results.{Line, lineOf, endOf, told}
 use Rattle.engine.specs.Lent.{Lent, room}
 use Rattle.engine.specs.Lent as engine
 use Rattle.charges.specs.Prices.{Prices}

@@ -12,9 +12,9 @@ use Rattle.calculus.specs.Accepted.{Accepted}
 use Rattle.calculus.proofs.Checks.{accepted-once, operate-iff}
 use Rattle.calculus.proofs.Endings.{ends-iff}
 use Rattle.calculus.proofs.Demands.{typed-safe}
-use Rattle.engine.specs.declared.ends.Report.{Report}
+use Rattle.ends.specs.declared.Report.{Report}
 use Rattle.engine.specs.declared.runs.Answer.the-variants.{Ended}
-use Rattle.engine.specs.Results.{Line, endOf}
+use Rattle.ends.specs.Results.{Line, endOf}
 use Rattle.engine.specs.Answered.{spoken}
 use Rattle.engine.specs.Lent.{Lent, Returned, room}
 use Rattle.engine.proofs.Answering.{passed-by}

@@ -14,9 +14,9 @@ use Rattle.calculus.proofs.Endings.{ends-iff}
 use Rattle.calculus.proofs.Ownerless.{sized, owners-refuse-only}
 use Rattle.checker.specs.declared.Checked.{Checked}
 use Rattle.checker.specs.Checks.{checked, accepting}
-use Rattle.engine.specs.declared.ends.Report.{Report}
+use Rattle.ends.specs.declared.Report.{Report}
 use Rattle.engine.specs.declared.runs.Answer.the-variants.{Ended}
-use Rattle.engine.specs.Results.{Line, lineOf}
+use Rattle.ends.specs.Results.{Line, lineOf}
 use Rattle.engine.specs.Answered.{spoken}
 use Rattle.engine.specs.Lent.{Lent, Returned, room, operated}
 use Rattle.engine.proofs.Answering.{passed-by}

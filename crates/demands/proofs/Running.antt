@@ -25,10 +25,10 @@ use Rattle.nodes.specs.declared.refusals.Refusal.{Refusal}
 use Rattle.nodes.specs.declared.refusals.Refusal.the-variants as r
 use Rattle.nodes.specs.Refusals.{numberOf, placeOf, refusal}
 use Rattle.calculus.proofs.Padding.{padded-none, padded-take}
-use Rattle.engine.specs.declared.ends.Report.{Report}
+use Rattle.ends.specs.declared.Report.{Report}
 use Rattle.engine.specs.declared.runs.Answer.{Answer}
 use Rattle.engine.specs.declared.runs.Answer.the-variants.{Refused, Ended}
-use Rattle.engine.specs.Results.{Line, lineOf, endOf, told}
+use Rattle.ends.specs.Results.{Line, lineOf, endOf, told}
 use Rattle.engine.specs.Answered.{spoken, Answered}
 use Rattle.engine.proofs.Answering.{passed-by}
 use Rattle.demands.specs.Demanded.{Finishes, refuses, ends, Reduces, Fitting, Over, RefusedBy, Exact, Once, Same}

@@ -23,7 +23,7 @@ use Rattle.calculus.proofs.Padding.{padded-none, padded-take, padded-drop, padd
 use Rattle.counts.specs.Counting.{countsOf}
 use Rattle.engine.specs.declared.runs.Answer.{Answer}
 use Rattle.engine.specs.declared.runs.Answer.the-variants as answer
-use Rattle.engine.specs.Results.{Line, lineOf, told}
+use Rattle.ends.specs.Results.{Line, lineOf, told}
 use Rattle.engine.specs.Answered as engine
 use Rattle.engine.specs.Lent.{Lent, Returned, lent, room}
 use Rattle.engine.proofs.Answering as answering

@@ -11,8 +11,8 @@ use Rattle.calculus.specs.Accepted.{Accepted}
 use Rattle.calculus.specs.Run.{valued, Final}
 use Rattle.calculus.specs.Endings.{Ending}
 use Rattle.calculus.specs.File.{padded}
-use Rattle.engine.specs.declared.ends.Report.{Report}
-use Rattle.engine.specs.Results.{endOf, told}
+use Rattle.ends.specs.declared.Report.{Report}
+use Rattle.ends.specs.Results.{endOf, told}
 use Rattle.engine.specs.Lent.{room}
 use Rattle.charges.specs.Prices.{Prices}
 use Rattle.charges.specs.Laws.{Within}

@@ -19,10 +19,10 @@ use Rattle.nodes.specs.declared.refusals.Refusal.the-variants.{Capacity}
 use Rattle.nodes.specs.Refusals.{numberOf, placeOf, refusal}
 use Rattle.checker.specs.declared.Checked.{Checked}
 use Rattle.checker.specs.declared.Checked.the-variants as checked
-use Rattle.engine.specs.declared.ends.Report.{Report}
+use Rattle.ends.specs.declared.Report.{Report}
 use Rattle.engine.specs.declared.runs.Answer.the-variants.{Refused, Ended}
 use Rattle.counts.specs.Counting.{countsOf}
-use Rattle.engine.specs.Results.{lineOf, endOf, told}
+use Rattle.ends.specs.Results.{lineOf, endOf, told}
 use Rattle.engine.specs.Lent.{Lent, Returned, room}
 
 -- Demand 1: "finishes: with one of the eight refusals in document 01, both buffers then all zero, or with one of its four ends".

@@ -6,9 +6,9 @@ use Rattle.calculus.specs.Owners.{ownerlessWords, Ownerless}
 use Rattle.nodes.specs.declared.refusals.Refusal.the-variants.{Capacity}
 use Rattle.checker.specs.declared.Checked.{Checked}
 use Rattle.checker.specs.declared.Checked.the-variants.{Accepted}
-use Rattle.engine.specs.declared.ends.Report.{Report}
+use Rattle.ends.specs.declared.Report.{Report}
 use Rattle.engine.specs.declared.runs.Answer.the-variants.{Refused, Ended}
-use Rattle.engine.specs.Results.{told}
+use Rattle.ends.specs.Results.{told}
 use Rattle.engine.specs.Lent.{Lent, Returned, room}
 use Rattle.demands.specs.Demanded.{RecipeOf, Once}
 

@@ -11,9 +11,9 @@ use Rattle.calculus.specs.Accepted.{Accepted}
 use Rattle.calculus.specs.Run.{valued, Final}
 use Rattle.calculus.specs.Endings.{Ending}
 use Rattle.nodes.specs.declared.refusals.Refusal.the-variants.{Capacity}
-use Rattle.engine.specs.declared.ends.Report.{Report}
+use Rattle.ends.specs.declared.Report.{Report}
 use Rattle.engine.specs.declared.runs.Answer.the-variants as answer
-use Rattle.engine.specs.Results.{endOf, told}
+use Rattle.ends.specs.Results.{endOf, told}
 use Rattle.engine.specs.Lent.{Lent, room}
 use Rattle.engine.specs.Lent as engine
 use Rattle.charges.specs.Prices.{Prices}

@@ -14,10 +14,10 @@ use Rattle.calculus.specs.Endings.{Ending}
 use Rattle.calculus.specs.File.{bytesOf, fileOf, judged}
 use Rattle.calculus.specs.Accepted.{Accepted}
 use Rattle.counts.specs.Counting.{countsOf}
-use Rattle.engine.specs.declared.ends.Report.{Report}
+use Rattle.ends.specs.declared.Report.{Report}
 use Rattle.engine.specs.declared.runs.Answer.{Answer}
 use Rattle.engine.specs.declared.runs.Answer.the-variants as answer
-use Rattle.engine.specs.Results.{Line, endOf, told}
+use Rattle.ends.specs.Results.{Line, endOf, told}
 use Rattle.engine.specs.Lent.{Lent, Returned, room}
 use Rattle.saving.specs.Saving.{fileBytes}
 use Rattle.saving.specs.Refusals.{numberOf, placeOf}

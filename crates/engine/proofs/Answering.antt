@@ -19,13 +19,13 @@ use Rattle.nodes.specs.declared.refusals.Refusal.{Refusal}
 use Rattle.nodes.specs.Refusals.{numberOf, placeOf, refusal}
 use Rattle.writing.specs.Wrote.{Wrote}
 use Rattle.checker.proofs.Admitting.{term-at, Admits}
-use Rattle.engine.specs.declared.ends.Report.{Report}
+use Rattle.ends.specs.declared.Report.{Report}
 use Rattle.engine.specs.declared.runs.Answer.{Answer}
 use Rattle.engine.specs.declared.runs.Answer.the-variants as a
 use Rattle.engine.specs.Buffered.{Settled}
 use Rattle.calculus.specs.File.{padded}
 use Rattle.engine.specs.Ran.{Reduced}
-use Rattle.engine.specs.Results.{lineOf, told}
+use Rattle.ends.specs.Results.{lineOf, told}
 use Rattle.engine.specs.Answered.{Answered, Begun}
 
 -- A refusal, with both buffers all zero.

@@ -24,15 +24,15 @@ use Rattle.reducer.specs.Standing.{root, Standing}
 use Rattle.reducer.specs.Placed.{beginning}
 use Rattle.reducer.specs.Moves.{Few}
 use Rattle.counts.specs.declared.Counts.{Counts}
-use Rattle.engine.specs.declared.ends.Report.{Report}
-use Rattle.engine.specs.declared.ends.Choice.the-variants.{Stop, Go}
+use Rattle.ends.specs.declared.Report.{Report}
+use Rattle.ends.specs.declared.Choice.the-variants.{Stop, Go}
 use Rattle.engine.specs.declared.reductions.Halt.{Halt}
 use Rattle.calculus.specs.File.{padded}
 use Rattle.engine.specs.Buffered.{Room, held, Settled}
-use Rattle.engine.specs.Decided.{decide}
+use Rattle.ends.specs.Decided.{decide}
 use Rattle.engine.specs.Ran.{Good, Advanced, Ran, Reduced}
 use Rattle.counts.specs.Counting.{countsOf, counted, UpTo}
-use Rattle.engine.specs.Results.{lineOf, told}
+use Rattle.ends.specs.Results.{lineOf, told}
 use Rattle.engine.proofs.Bridge.{moved}
 use Rattle.engine.proofs.Moving.{Moved, run-by, stops, goes, go-fits, end-short}
 

@@ -19,13 +19,13 @@ use Rattle.reducer.specs.declared.steps.Move.{Move}
 use Rattle.reducer.specs.declared.steps.Move.the-variants as m
 use Rattle.reducer.specs.Standing.{Standing}
 use Rattle.counts.specs.declared.Counts.{Counts}
-use Rattle.engine.specs.declared.ends.End.{End}
-use Rattle.engine.specs.declared.ends.End.the-variants as ends
-use Rattle.engine.specs.declared.ends.Report.{Report}
-use Rattle.engine.specs.declared.ends.Choice.the-variants.{Stop, Go}
-use Rattle.engine.specs.Decided.{stop, goOn, decide}
+use Rattle.ends.specs.declared.End.{End}
+use Rattle.ends.specs.declared.End.the-variants as ends
+use Rattle.ends.specs.declared.Report.{Report}
+use Rattle.ends.specs.declared.Choice.the-variants.{Stop, Go}
+use Rattle.ends.specs.Decided.{stop, goOn, decide}
 use Rattle.counts.specs.Counting.{countsOf, counted}
-use Rattle.engine.specs.Results.{lineOf, endOf, told}
+use Rattle.ends.specs.Results.{lineOf, endOf, told}
 
 -- A step to the next term u: the reduced node's word is of the class, the term is put into the buffer b, which is b′ then, and the next walk may
 -- begin where it is said to.

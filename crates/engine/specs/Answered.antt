@@ -13,7 +13,7 @@ use Rattle.engine.specs.declared.runs.Answer.{Answer}
 use Rattle.engine.specs.declared.runs.Answer.the-variants.{Refused, Ended}
 use Rattle.engine.specs.Lent.{Lent, Returned, operated}
 use Rattle.engine.specs.Ran.{Good}
-use Rattle.engine.specs.Results.{Line, lineOf, told}
+use Rattle.ends.specs.Results.{Line, lineOf, told}
 
 -- The number and place of a refusal, or the numbers of a result, that an answer stands for.
 abbrev pub spoken : Answer → Verdict Line

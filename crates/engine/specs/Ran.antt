@@ -12,9 +12,9 @@ use Rattle.calculus.specs.Run as spec
 use Rattle.reducer.specs.declared.turns.From.{From}
 use Rattle.reducer.specs.declared.steps.Move.{Move}
 use Rattle.reducer.specs.Moves.{Few, OneStep}
-use Rattle.engine.specs.declared.ends.Report.{Report}
+use Rattle.ends.specs.declared.Report.{Report}
 use Rattle.engine.specs.declared.reductions.Halt.{Halt}
-use Rattle.engine.specs.Results.{lineOf, told}
+use Rattle.ends.specs.Results.{lineOf, told}
 use Rattle.engine.specs.Buffered.{held, Settled}
 
 -- A term that the engine reduces: in range, and of some type.

@@ -1,6 +1,5 @@
 // The engine: a file is read, checked and run to an end.
 
 pub mod buffers;
-pub mod ends;
 pub mod reductions;
 pub mod runs;

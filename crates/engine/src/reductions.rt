@@ -1,9 +1,9 @@
 // The loop: a term is reduced, step by step, until its run ends. The two buffers hold the term by turns, and a flag says whether the first has it.
 
-use crate::ends::Choice;
-use crate::ends::Report;
-use crate::ends::decide;
 use counts::Counts;
+use ends::Choice;
+use ends::Report;
+use ends::decide;
 use nodes::kinds::Kinds;
 use reducer::steps::Move;
 use reducer::steps::step;
@@ -90,7 +90,7 @@ pub fn reduce(first: &mut [u32], second: &mut [u32], count: usize, limit: u32) -
         ⌝ }
 {
     let table = nodes::kinds::KINDS;
-    let cap = crate::ends::capacity(first.len(), second.len());
+    let cap = ends::capacity(first.len(), second.len());
     let halt = run_term(&table, first, second, count, cap, limit);
     let report = halt.report;
     crate::buffers::settle(halt.front, first, second, report.left);

@@ -1,9 +1,9 @@
 // A run of a file: read, checked, and reduced to an end.
 
 use crate::buffers::keep;
-use crate::ends::Report;
 use crate::reductions::reduce;
 use checker::admit;
+use ends::Report;
 use file::Opened;
 use nodes::refusals::Refusal;
 ghost use Prim.Native.Nat.{_≤_};
@@ -31,7 +31,7 @@ pub fn begin(terms: &[u32], limit: u32, first: &mut [u32], second: &mut [u32]) -
     ensures { λ x. ⌜ Begun limit (now (terms .entry)) x (now (first .entry)) (now (second .entry)) (now (first .exit)) (now (second .exit)) ⌝ }
 {
     let count = terms.len();
-    if crate::ends::capacity(first.len(), second.len()) < count {
+    if ends::capacity(first.len(), second.len()) < count {
         return refused(Refusal::Capacity, first, second);
     }
     writing::copy(terms, first, 0);

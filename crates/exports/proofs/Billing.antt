@@ -9,8 +9,8 @@ use Rattle.calculus.specs.Run.{Result, capacity}
 use Rattle.calculus.specs.File.{Recipe}
 use Rattle.calculus.proofs.Bounds.{operate-bounded}
 use Rattle.calculus.proofs.Refusing.{PlaceWithin}
-use Rattle.engine.specs.declared.ends.Report.{Report}
-use Rattle.engine.specs.Results.{Line, lineOf, told}
+use Rattle.ends.specs.declared.Report.{Report}
+use Rattle.ends.specs.Results.{Line, lineOf, told}
 use Rattle.charges.specs.Prices.{Prices}
 use Rattle.charges.specs.declared.Charges.{Charges}
 use Rattle.pricing.specs.Pricing.{Bill, pricing}

@@ -9,8 +9,8 @@ use lib.ListN.{length}
 use Rattle.calculus.specs.Verdicts.{Verdict, refused, passed, andThen, unless}
 use Rattle.calculus.proofs.Refusing.{PlaceWithin}
 use Rattle.calculus.proofs.Verdicts.{not-both, passed-injective}
-use Rattle.engine.specs.declared.ends.Report.{Report}
-use Rattle.engine.specs.Results.{lineOf, told}
+use Rattle.ends.specs.declared.Report.{Report}
+use Rattle.ends.specs.Results.{lineOf, told}
 use Rattle.charges.specs.Prices.{Prices}
 use Rattle.pricing.specs.Pricing.{Bill, pricing}
 use Rattle.pricing.specs.Answered.{ran}

@@ -6,9 +6,9 @@ use Rattle.calculus.specs.Verdicts.{Verdict}
 use Rattle.nodes.specs.declared.refusals.Numbers.{Numbers}
 use Rattle.nodes.specs.declared.refusals.Refusal.{Refusal}
 use Rattle.nodes.specs.Refusals.{refusal}
-use Rattle.engine.specs.Results.{Line}
+use Rattle.ends.specs.Results.{Line}
 use Rattle.engine.specs.Answered.{spoken}
-use Rattle.engine.specs.declared.ends.Report.{Report}
+use Rattle.ends.specs.declared.Report.{Report}
 use Rattle.engine.specs.declared.runs.Answer.{Answer}
 use Rattle.engine.specs.declared.runs.Answer.the-variants.{Refused, Ended}
 use Rattle.exports.specs.declared.runs.RecipeRun.{RecipeRun}

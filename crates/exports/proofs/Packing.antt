@@ -20,10 +20,10 @@ use Rattle.nodes.specs.Refusals.{numberOf, placeOf}
 use Rattle.checker.specs.Checks.{checked, accepting}
 use Rattle.checker.specs.declared.Checked.{Checked}
 use Rattle.checker.specs.declared.Checked.the-variants.{Refused, Accepted}
-use Rattle.engine.specs.declared.ends.Report.{Report}
+use Rattle.ends.specs.declared.Report.{Report}
 use Rattle.engine.specs.declared.runs.Answer.{Answer}
 use Rattle.engine.specs.declared.runs.Answer.the-variants as answer
-use Rattle.engine.specs.Results.{Line, lineOf, told}
+use Rattle.ends.specs.Results.{Line, lineOf, told}
 use Rattle.engine.specs.Answered.{spoken}
 use Rattle.exports.specs.Numbers.{checkNumber}
 

@@ -4,9 +4,9 @@ use mathlib.Core.List.{List}
 use lib.ListN.{length}
 use Rattle.calculus.specs.Verdicts.{Verdict, refused, passed, andThen}
 use Rattle.calculus.specs.File.{firstAfter, secondAfter, padded}
-use Rattle.engine.specs.Results.{numberOfEnd, Line, lineOf, told}
+use Rattle.ends.specs.Results.{numberOfEnd, Line, lineOf, told}
 use Rattle.engine.specs.Lent.{Lent, operated}
-use Rattle.engine.specs.declared.ends.Report.{Report}
+use Rattle.ends.specs.declared.Report.{Report}
 use Rattle.charges.specs.Prices.{Prices}
 use Rattle.charges.specs.declared.Charges.{Charges}
 use Rattle.pricing.specs.Pricing.{Bill}

@@ -1,6 +1,6 @@
 // A run for a C program. A place is at most 4,096, the words left are at most 16,384, and those wanted at most their square.
 
-use engine::ends::Report;
+use ends::Report;
 use engine::runs::Answer;
 use engine::runs::run;
 use nodes::refusals::Numbers;
@@ -68,7 +68,7 @@ pub fn ended(x: Report) -> RecipeRun
     RecipeRun {
         refusal: 0,
         place: 0,
-        end: engine::ends::number(e),
+        end: ends::number(e),
         code: x.code,
         steps: made.steps,
         left: narrow(x.left),

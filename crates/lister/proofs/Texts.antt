@@ -11,7 +11,7 @@ use Rattle.calculus.specs.File.{operate, leftBy, firstAfter}
 use Rattle.calculus.proofs.Refusing.{operate-number}
 use Rattle.calculus.proofs.Bounds.{operate-bounded}
 use Rattle.calculus.proofs.Padding.{padded-take, padded-length}
-use Rattle.engine.specs.Results.{lineOf, numberOfEnd}
+use Rattle.ends.specs.Results.{lineOf, numberOfEnd}
 use Rattle.exports.specs.Numbers.{runNumbers}
 use Rattle.exports.specs.declared.runs.RecipeRun.{RecipeRun}
 use Rattle.text.specs.Characters.{lineFeed, characters}

@@ -23,12 +23,12 @@ use Rattle.calculus.proofs.Padding.{padded-take}
 use Rattle.checker.proofs.Admitting.{Admits}
 use Rattle.nodes.specs.declared.refusals.Refusal.{Refusal}
 use Rattle.nodes.specs.Refusals as nodes
-use Rattle.engine.specs.declared.ends.Report.{Report}
+use Rattle.ends.specs.declared.Report.{Report}
 use Rattle.engine.specs.declared.runs.Answer.{Answer}
 use Rattle.engine.specs.declared.runs.Answer.the-variants as a
 use Rattle.engine.specs.Answered.{Begun}
 use Rattle.engine.specs.Ran.{Good}
-use Rattle.engine.specs.Results.{Line, lineOf, endOf, told}
+use Rattle.ends.specs.Results.{Line, lineOf, endOf, told}
 use Rattle.engine.proofs.Answering.{passed-by, refused-by, term-within}
 use Rattle.charges.specs.Prices.{Prices, charges, allWithin}
 use Rattle.charges.specs.Charged.{charged}

@@ -21,7 +21,7 @@ use Rattle.calculus.proofs.Growth.{run-more}
 use Rattle.calculus.proofs.Refusing.{Numbered, number-in-table}
 use Rattle.calculus.proofs.Inference.{same-iff}
 use Rattle.calculus.proofs.Verdicts.{not-both, passed-injective, refused-injective}
-use Rattle.engine.specs.Results.{numberOfEnd}
+use Rattle.ends.specs.Results.{numberOfEnd}
 use Rattle.charges.specs.Prices.{Prices, allWithin}
 use Rattle.charges.specs.Laws.{Within}
 use Rattle.charges.proofs.Laws.{tested}

@@ -15,7 +15,7 @@ use Rattle.calculus.proofs.Agreement.{value-step-iff}
 use Rattle.calculus.proofs.Runs.{lastTerm, Ran, at-value, at-limit, at-error, at-full, at-stuck, by-step, run-ran}
 use Rattle.calculus.proofs.Sizes.{tree-length}
 use Rattle.calculus.proofs.Continuing.{leftAt, run-left, run-fine, run-short}
-use Rattle.engine.specs.Results.{numberOfEnd}
+use Rattle.ends.specs.Results.{numberOfEnd}
 use Rattle.pricing.specs.Items.{listOf, items}
 use Rattle.pricing.proofs.Listing.{lists}
 

@@ -7,7 +7,7 @@ use Rattle.calculus.specs.Verdicts.{Verdict, refused, passed, andThen}
 use Rattle.calculus.specs.Run.{Result}
 use Rattle.calculus.specs.File.{firstAfter, secondAfter}
 use Rattle.engine.specs.Lent.{Lent}
-use Rattle.engine.specs.Results.{Line, lineOf, told}
+use Rattle.ends.specs.Results.{Line, lineOf, told}
 use Rattle.charges.specs.Prices.{Prices}
 use Rattle.charges.specs.declared.Charges.{Charges}
 use Rattle.pricing.specs.Pricing.{Bill, pricing}

@@ -13,8 +13,8 @@ use Rattle.calculus.specs.Inference.{sameType}
 use Rattle.calculus.specs.Run.{valued, Result, capacity}
 use Rattle.calculus.specs.File.{runIn, padded}
 use Rattle.writing.specs.Wrote.{Wrote}
-use Rattle.engine.specs.declared.ends.Report.{Report}
-use Rattle.engine.specs.Results.{lineOf, told}
+use Rattle.ends.specs.declared.Report.{Report}
+use Rattle.ends.specs.Results.{lineOf, told}
 use Rattle.charges.specs.Prices.{Prices}
 use Rattle.pricing.specs.Items.{listOf}
 use Rattle.pricing.specs.Pricing.{bill, billed}

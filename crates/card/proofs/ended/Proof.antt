@@ -1,7 +1,7 @@
 -- `card::ended` meets its contract, end by end. Assumes nothing.
 use borrow.Author.Needs.{needs}
 use native.Mathlib.Omega.{arith}
-use Rattle.engine.specs.declared.ends.End.the-variants.{Spent, Error, Full}
+use Rattle.ends.specs.declared.End.the-variants.{Spent, Error, Full}
 use Rattle.card.proofs.Laying.{no-value}
 use Rattle.card.proofs.ended.Statement.{statement}
 use Rattle.card.proofs.ended.Tie as tie

@@ -2,7 +2,7 @@
 use mathlib.Core.Path.{refl, ap}
 use borrow.Author.Needs.{needs}
 use Rattle.calculus.specs.Run.{spent, error, full}
-use Rattle.engine.specs.Results.{endOf}
+use Rattle.ends.specs.Results.{endOf}
 use Rattle.pricing.proofs.Billing.{at-value, no-value}
 use Rattle.pricing.proofs.ended.Statement.{statement}
 use Rattle.pricing.proofs.ended.Tie as tie

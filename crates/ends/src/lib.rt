@@ -8,9 +8,9 @@ use reducer::steps::Change;
 use reducer::steps::Move;
 ghost use mathlib.Core.Path.{_≡_};
 ghost use Rattle.calculus.specs.Run.{capacity};
-ghost use Rattle.engine.specs.Results.{endNumber};
+ghost use Rattle.ends.specs.Results.{endNumber};
 ghost use Rattle.counts.specs.Counting.{UpTo};
-ghost use Rattle.engine.specs.Decided.{stop, raise, go, decide};
+ghost use Rattle.ends.specs.Decided.{stop, raise, go, decide};
 
 pub enum End {
     Value,

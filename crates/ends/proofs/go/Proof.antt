@@ -1,13 +1,13 @@
--- `engine::ends::go` meets its contract. Assumes nothing.
+-- `ends::go` meets its contract. Assumes nothing.
 use borrow.Author.Needs.{needs}
 use borrow.Author.Tests.{eq-eqb, ne-eqb, le-leb, lt-leb}
 use mathlib.Core.Path.{sym, ap, _∙_}
 use native.Mathlib.Omega.{arith}
 use Rattle.calculus.specs.Classes.{Class}
 use Rattle.counts.specs.Counting.{counted}
-use Rattle.engine.specs.declared.ends.Choice.the-variants.{Go}
-use Rattle.engine.proofs.ends.go.Statement.{statement}
-use Rattle.engine.proofs.ends.go.Tie as tie
+use Rattle.ends.specs.declared.Choice.the-variants.{Go}
+use Rattle.ends.proofs.go.Statement.{statement}
+use Rattle.ends.proofs.go.Tie as tie
 
 stop-requires : tie.Need-stop-requires
 stop-requires c κs = search needs

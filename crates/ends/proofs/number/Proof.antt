@@ -1,7 +1,7 @@
--- `engine::ends::number` meets its contract, case by case. Assumes nothing.
+-- `ends::number` meets its contract, case by case. Assumes nothing.
 use borrow.Author.Needs.{needs}
-use Rattle.engine.proofs.ends.number.Statement.{statement}
-use Rattle.engine.proofs.ends.number.Tie as tie
+use Rattle.ends.proofs.number.Statement.{statement}
+use Rattle.ends.proofs.number.Tie as tie
 
 pub number-spec : {M : Type 1} → statement M
 number-spec =

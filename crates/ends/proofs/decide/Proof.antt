@@ -1,7 +1,7 @@
--- `engine::ends::decide` meets its contract. Assumes nothing.
+-- `ends::decide` meets its contract. Assumes nothing.
 use borrow.Author.Needs.{needs}
-use Rattle.engine.proofs.ends.decide.Statement.{statement}
-use Rattle.engine.proofs.ends.decide.Tie as tie
+use Rattle.ends.proofs.decide.Statement.{statement}
+use Rattle.ends.proofs.decide.Tie as tie
 
 enum-told : tie.Need-enum-told
 enum-told c = search needs

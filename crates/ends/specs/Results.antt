@@ -2,9 +2,9 @@
 use Prim.Native.Nat.{ℕ}
 use lib.ListN.{length}
 use Rattle.calculus.specs.Run as spec
-use Rattle.engine.specs.declared.ends.End.{End}
-use Rattle.engine.specs.declared.ends.End.the-variants.{Value, Spent, Error, Full}
-use Rattle.engine.specs.declared.ends.Report.{Report}
+use Rattle.ends.specs.declared.End.{End}
+use Rattle.ends.specs.declared.End.the-variants.{Value, Spent, Error, Full}
+use Rattle.ends.specs.declared.Report.{Report}
 use Rattle.counts.specs.Counting.{countsOf}
 
 -- "The result: end, code, steps made, words left, words wanted", as numbers; "The result gains three counts: calls, conversions, others".

@@ -1,12 +1,12 @@
--- `engine::ends::raise` meets its contract. Assumes nothing.
+-- `ends::raise` meets its contract. Assumes nothing.
 use borrow.Author.Needs.{needs}
 use borrow.Author.Tests.{eq-eqb, ne-eqb}
 use mathlib.Core.Path.{ap, _∙_}
 use Rattle.counts.specs.declared.Counts.{Counts}
-use Rattle.engine.specs.declared.ends.End.the-variants.{Error}
-use Rattle.engine.specs.Decided.{stop}
-use Rattle.engine.proofs.ends.raise.Statement.{statement}
-use Rattle.engine.proofs.ends.raise.Tie as tie
+use Rattle.ends.specs.declared.End.the-variants.{Error}
+use Rattle.ends.specs.Decided.{stop}
+use Rattle.ends.proofs.raise.Statement.{statement}
+use Rattle.ends.proofs.raise.Tie as tie
 
 stop-requires : tie.Need-stop-requires
 stop-requires c κs = search needs

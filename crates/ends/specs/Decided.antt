@@ -7,10 +7,10 @@ use Rattle.reducer.specs.declared.steps.Change.{Change}
 use Rattle.reducer.specs.declared.steps.Move.{Move}
 use Rattle.reducer.specs.declared.steps.Move.the-variants as m
 use Rattle.counts.specs.declared.Counts.{Counts}
-use Rattle.engine.specs.declared.ends.End.{End}
-use Rattle.engine.specs.declared.ends.End.the-variants as e
-use Rattle.engine.specs.declared.ends.Choice.{Choice}
-use Rattle.engine.specs.declared.ends.Choice.the-variants.{Stop, Go}
+use Rattle.ends.specs.declared.End.{End}
+use Rattle.ends.specs.declared.End.the-variants as e
+use Rattle.ends.specs.declared.Choice.{Choice}
+use Rattle.ends.specs.declared.Choice.the-variants.{Stop, Go}
 use Rattle.counts.specs.Counting.{counted}
 
 abbrev pub stop : End → ℕ → Counts → ℕ → ℕ → Choice
