@@ -1,9 +1,9 @@
 -- `demands::price_twice` meets its contract, by what `price` promises. Assumes nothing.
 use borrow.Author.Needs.{needs}
 use mathlib.Core.Path.{refl}
-use Rattle.demands.proofs.Costing.{priced-twice}
-use Rattle.demands.proofs.price_twice.Statement.{statement}
-use Rattle.demands.proofs.price_twice.Tie as tie
+use Rattle.demands_of_cans.proofs.Costing.{priced-twice}
+use Rattle.demands_of_cans.proofs.price_twice.Statement.{statement}
+use Rattle.demands_of_cans.proofs.price_twice.Tie as tie
 
 returns : tie.Need-returns
 returns c =

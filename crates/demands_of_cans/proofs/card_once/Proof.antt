@@ -1,8 +1,8 @@
 -- `demands::card_once` meets its contract, by what `card` promises. Assumes nothing.
 use borrow.Author.Needs.{needs}
-use Rattle.demands.proofs.Carding.{carded-once}
-use Rattle.demands.proofs.card_once.Statement.{statement}
-use Rattle.demands.proofs.card_once.Tie as tie
+use Rattle.demands_of_cans.proofs.Carding.{carded-once}
+use Rattle.demands_of_cans.proofs.card_once.Statement.{statement}
+use Rattle.demands_of_cans.proofs.card_once.Tie as tie
 
 returns : tie.Need-returns
 returns c = carded-once _ _ _ (c .before .before .before .before .before .before .card .ensures)

@@ -1,9 +1,9 @@
 -- `demands::card_twice` meets its contract, by what `card` promises. Assumes nothing.
 use borrow.Author.Needs.{needs}
 use mathlib.Core.Path.{refl}
-use Rattle.demands.proofs.Carding.{carded-twice}
-use Rattle.demands.proofs.card_twice.Statement.{statement}
-use Rattle.demands.proofs.card_twice.Tie as tie
+use Rattle.demands_of_cans.proofs.Carding.{carded-twice}
+use Rattle.demands_of_cans.proofs.card_twice.Statement.{statement}
+use Rattle.demands_of_cans.proofs.card_twice.Tie as tie
 
 returns : tie.Need-returns
 returns c =

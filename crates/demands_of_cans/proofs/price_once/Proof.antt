@@ -1,8 +1,8 @@
 -- `demands::price_once` meets its contract, by what `price` promises. Assumes nothing.
 use borrow.Author.Needs.{needs}
-use Rattle.demands.proofs.Costing.{priced-once}
-use Rattle.demands.proofs.price_once.Statement.{statement}
-use Rattle.demands.proofs.price_once.Tie as tie
+use Rattle.demands_of_cans.proofs.Costing.{priced-once}
+use Rattle.demands_of_cans.proofs.price_once.Statement.{statement}
+use Rattle.demands_of_cans.proofs.price_once.Tie as tie
 
 returns : tie.Need-returns
 returns c = priced-once _ _ _ (c .before .before .before .before .price .ensures)

@@ -32,7 +32,7 @@ use Rattle.card.specs.declared.Uncarded.{Uncarded}
 use Rattle.card.specs.declared.Uncarded.the-variants.{Can, Short}
 use Rattle.card.specs.declared.Outcome.{Outcome}
 use Rattle.card.specs.declared.Outcome.the-variants.{Refused, Ended}
-use Rattle.demands.specs.Priced.{PricedOnce}
+use Rattle.demands_of_cans.specs.Priced.{PricedOnce}
 
 -- How a card came out.
 abbrev pub outcome : CardReturned → Outcome

@@ -39,11 +39,11 @@ use Rattle.pricing.specs.declared.Outcome.the-variants.{Refused, Ended}
 use Rattle.pricing.proofs.Listing.{lists-once}
 use Rattle.pricing.proofs.Billing.{billed-by}
 use Rattle.pricing.proofs.Laws.{exactly, own-run, grows}
-use Rattle.demands.specs.Priced.{outcome, Finishes, refuses, ends, RefusedBy, OwnRun, Costs, nothing, too-many, charges, Answers, OtherType}
-use Rattle.demands.specs.Priced.{TooMany, PricedOnce, SamePrice, PricedTwice}
+use Rattle.demands_of_cans.specs.Priced.{outcome, Finishes, refuses, ends, RefusedBy, OwnRun, Costs, nothing, too-many, charges, Answers}
+use Rattle.demands_of_cans.specs.Priced.{OtherType, TooMany, PricedOnce, SamePrice, PricedTwice}
 use Rattle.demands.proofs.Running as running
 use Rattle.demands.proofs.Running.{Promised, reduces-of}
 use Rattle.demands.proofs.Demanding as demanding
 
 -- Every refusal of pricing is one of the eleven.
 pub numbered : (x : Unpriced) → (1 ≤ numberOf x) × (numberOf x ≤ 11)

@@ -8,10 +8,10 @@ use lib.ListN.{length, take}
 use lib.Seq.{length-take-le}
 use Rattle.engine.specs.Lent.{lent, returned}
 use Rattle.saving.specs.Answered.{Saves}
 use Rattle.demands.proofs.Running.{Promised}
-use Rattle.demands.proofs.Saving.{save-runs, left-within, written-within}
-use Rattle.demands.proofs.run_save_run.Statement.{statement}
-use Rattle.demands.proofs.run_save_run.Tie as tie
+use Rattle.demands_of_saves.proofs.Saving.{save-runs, left-within, written-within}
+use Rattle.demands_of_saves.proofs.run_save_run.Statement.{statement}
+use Rattle.demands_of_saves.proofs.run_save_run.Tie as tie
 
 -- The words that are lent on to the save.
 module _ (c : tie.After-left) where

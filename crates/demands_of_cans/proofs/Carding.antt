@@ -46,12 +46,12 @@ use Rattle.card.specs.declared.Uncarded.the-variants.{Can, Short}
 use Rattle.card.specs.declared.Outcome as card
 use Rattle.card.specs.declared.Outcome.the-variants.{Refused, Ended}
 use Rattle.card.proofs.Laws.{exactly, billed-card, card-grows}
-use Rattle.demands.specs.Priced.{PricedOnce}
-use Rattle.demands.specs.Carded as demanded
-use Rattle.demands.specs.Carded.{outcome, Finishes, asCard, pricedPart, TooShort, ByColumns, Written, CardedOnce, SameCard, CardedTwice}
+use Rattle.demands_of_cans.specs.Priced.{PricedOnce}
+use Rattle.demands_of_cans.specs.Carded as demanded
+use Rattle.demands_of_cans.specs.Carded.{outcome, Finishes, asCard, pricedPart, TooShort, ByColumns, Written, CardedOnce, SameCard, CardedTwice}
 use Rattle.demands.proofs.Running as running
-use Rattle.demands.proofs.Costing as costing
-use Rattle.demands.proofs.Costing.{priced-once, result-is}
+use Rattle.demands_of_cans.proofs.Costing as costing
+use Rattle.demands_of_cans.proofs.Costing.{priced-once, result-is}
 
 -- Every refusal of a card is one of pricing's eleven, or 14.
 numbered : (u : Uncarded) → (1 ≤ numberOf u) × ((numberOf u ≤ 11) ⊎ (numberOf u ≡ 14))

@@ -40,10 +40,10 @@ use Rattle.saving.proofs.Bytes.{file-bytes}
 use Rattle.saving.proofs.Saving.{refused-by, passed-by}
 use Rattle.saving.proofs.Laws.{exactly}
 use Rattle.saving.proofs.Going.{goes-on}
-use Rattle.demands.specs.Saved.{Handed, handed, bytesDue, Finishes, refuses, writes, RefusedBy, Savable, SavedOnce, Paused, leftOf, writtenOf}
-use Rattle.demands.specs.Saved.{ReadBack, after, AsOne, SaveRuns}
+use Rattle.demands_of_saves.specs.Saved.{Handed, handed, bytesDue, Finishes, refuses, writes, RefusedBy, Savable, SavedOnce, Paused, leftOf}
+use Rattle.demands_of_saves.specs.Saved.{writtenOf, ReadBack, after, AsOne, SaveRuns}
 use Rattle.demands.proofs.Running as running
 use Rattle.demands.proofs.Running.{Promised, ended-by, front}
 
 -- A run depends on its buffers by their capacity alone.
 run-as : (bs cs : List ℕ) (k j a b c d : ℕ) → bs ≡ cs → k ≡ j → spec.capacity a b ≡ spec.capacity c d → operate bs k a b ≡ operate cs j c d
