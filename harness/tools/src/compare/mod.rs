@@ -1,6 +1,7 @@
-//! The comparison of the engine with the model: the check, the run, the pricing, the save, the reader of nodes, the listing, and
-//! what is printed of them.
+//! The comparison of the engine with the model: the check, the run, the pricing, the card, the save, the reader of nodes, the
+//! listing, and what is printed of them.
 
+pub mod card;
 mod case;
 mod check;
 mod counts;
@@ -22,6 +23,7 @@ mod tested;
 
 use crate::progress::Progress;
 
+pub use card::{compare_card, CardCounts, CardingEngine};
 pub use case::Case;
 pub use check::compare_check;
 pub use counts::{missing, table, Counts};

@@ -1,6 +1,7 @@
 //! What the tests of the program `recipe` share: its parts called in this process, the model in the engine's place.
 #![allow(dead_code)]
 
+pub mod carding;
 pub mod pricing;
 pub mod saving;
 
