@@ -148,7 +148,7 @@ fn every_command_refusal_end_and_class_is_on_the_page() {
     for class in ["call", "conversion", "other"] {
         assert!(examples.iter().any(|example| example.printed.contains(&format!(" ({class})\n"))), "{class}");
     }
-    for command in ["make", "show", "check", "run", "step", "price", "outline"] {
+    for command in ["make", "show", "check", "run", "step", "price", "card", "outline"] {
         assert!(examples.iter().any(|example| example.command.contains(&format!("recipe {command}"))), "{command}");
     }
 }

@@ -59,7 +59,7 @@ fn show_explains_damage() {
 
 #[test]
 fn help_and_faults() {
-    for command in ["make", "show", "check", "run", "step", "price", "outline"] {
+    for command in ["make", "show", "check", "run", "step", "price", "card", "outline"] {
         let (status, printed, _) = seen(&[command, "--help"], b"");
         assert!(status == 0 && printed.starts_with(&format!("usage: recipe {command}")), "{printed}");
     }
@@ -103,7 +103,7 @@ fn a_step_by_step_that_nobody_reads_on_ends() {
 #[cfg(not(feature = "check"))]
 #[test]
 fn without_the_engine() {
-    for command in ["check", "run", "step", "price", "outline"] {
+    for command in ["check", "run", "step", "price", "card", "outline"] {
         let (status, _, said) = seen(&[command], b"N 1");
         assert!(status == 2 && said.contains("built without the engine"), "{said}");
     }

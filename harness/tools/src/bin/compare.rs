@@ -7,9 +7,9 @@ use std::path::Path;
 use std::process::ExitCode;
 use tools::args::Args;
 use tools::compare::{
-    compare_card, compare_check, compare_list, compare_node, compare_price, compare_priced_stack, compare_run,
-    compare_save, compare_saved_stack, compare_stack, missing, table, CardingEngine, Counts, NodeReaders, Plan,
-    SavingEngine,
+    compare_card, compare_carded_stack, compare_check, compare_list, compare_node, compare_price, compare_priced_stack,
+    compare_run, compare_save, compare_saved_stack, compare_stack, missing, table, CardingEngine, Counts, NodeReaders,
+    Plan, SavingEngine,
 };
 use tools::engine::{
     linked_card, linked_check, linked_node, linked_node_walked, linked_price, linked_run, linked_save,
@@ -51,7 +51,8 @@ node         every kind with telling operands and parts, every 3 words of an alp
              recipe_node, and by the same without the short way for words without parts
 list         files at the edges, two long recipes, and those of N random files (3000) that end soon: every byte that the
              listing program, target/bin/listing, prints of each
-stack        the deepest runs of 16,384 words, and the deepest files, run, priced and saved on a stack of K KiB (2048)
+stack        the deepest runs of 16,384 words, and the deepest files, run, priced with a card and without, and saved on a stack
+             of K KiB (2048)
 --seed S     random files depend on the seed (1) and their index alone
 --start I    begin with random file I; the files that are the same every time are left out unless I is 0
 --all-reached  fail if a rule, an end, a class of steps before an end (call, conversion, other) or a refusal was never
@@ -174,10 +175,15 @@ fn list(args: Args) -> Result<(), Fault> {
 fn stack(mut args: Args) -> Result<(), Fault> {
     let kib = args.number("--kib", 2_048).map_err(Fault::Usage)?;
     args.finish().map_err(Fault::Usage)?;
-    let linked = linked_run().zip(linked_price()).zip(linked_save());
-    let ((run, price), save) = linked.ok_or(without("run"))?;
+    let linked = linked_run().zip(linked_price()).zip(linked_card()).zip(linked_save());
+    let (((run, price), card), save) = linked.ok_or(without("run"))?;
     let bytes = kib as usize * 1024;
-    let told = [compare_stack(run, bytes), compare_priced_stack(price, bytes), compare_saved_stack(save, bytes)];
+    let told = [
+        compare_stack(run, bytes),
+        compare_priced_stack(price, bytes),
+        compare_carded_stack(card, bytes),
+        compare_saved_stack(save, bytes),
+    ];
     for lines in told {
         lines.map_err(difference)?.into_iter().for_each(say);
     }

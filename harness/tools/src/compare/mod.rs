@@ -34,7 +34,7 @@ pub use price::{compare_price, PriceCounts};
 pub use report::show_file;
 pub use run::compare_run;
 pub use save::{compare_save, SaveCounts, SavingEngine};
-pub use stack::{compare_priced_stack, compare_saved_stack, compare_stack};
+pub use stack::{compare_carded_stack, compare_priced_stack, compare_saved_stack, compare_stack};
 
 /// How many random files, which ones, and whether everything must have been reached.
 #[derive(Clone, Copy)]
