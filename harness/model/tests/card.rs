@@ -1,7 +1,6 @@
 //! The batch card: lines, columns, ends and refusals, each card written by hand from document 02's request U7.
 
-mod common;
-use common::*;
+use crate::common::*;
 use model::card::laid_out;
 use model::file::{bytes_of, file};
 use model::price::PUMPS;

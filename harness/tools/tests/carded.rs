@@ -1,7 +1,6 @@
 //! Planted errors in the lines of a card, and in the bytes behind it, are found and shrunk to a small can.
 
-mod common;
-use common::carding::*;
+use crate::common::carding::*;
 use model::on_large_stack;
 use std::mem::{offset_of, size_of};
 use tools::compare::card::edges;

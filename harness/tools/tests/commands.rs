@@ -1,8 +1,7 @@
 //! The commands of `recipe`, each with what document 01 says of its input; `recipe price`, `recipe card`,
 //! `recipe outline` and `--save` have tests of their own.
 
-mod common;
-use common::{printed, typed, typed_into};
+use crate::common::{printed, typed, typed_into};
 use model::check::read_recipe;
 use model::file::bytes_of;
 use std::io::{Error, ErrorKind, Write};

@@ -1,8 +1,7 @@
 //! `recipe card`: cards written by hand from document 02, every end without one, every refusal, 14 in short buffers; and the
 //! card of the can in recipes/.
 
-mod common;
-use common::{printed, typed, typed_into, Unread};
+use crate::common::{printed, typed, typed_into, Unread};
 use std::path::{Path, PathBuf};
 
 /// A file of recipes/.

@@ -1,7 +1,6 @@
 //! Planted errors in refusal 14, its order, the ends without a card, and what they leave are found.
 
-mod common;
-use common::carding::*;
+use crate::common::carding::*;
 use model::on_large_stack;
 use tools::compare::card::faults;
 use tools::compare::CardingEngine;

@@ -3,6 +3,7 @@
 
 use super::deepest::{deepest, deepest_cans, deepest_saves, Known, KnownSave};
 use crate::engine::{Card, Price, RecipeCard, RecipePriced, RecipePrices, Run, Save};
+use crate::parallel::for_each;
 use model::file::{file, MOST_BYTES};
 use model::run::MOST_WORDS;
 use model::stack::on_stack;
@@ -14,7 +15,7 @@ pub fn compare_stack(engine: Run, bytes: usize) -> Result<Vec<String>, String> {
         let operation = |first: &mut [u32], second: &mut [u32]| engine(&known.file, u32::MAX, first, second);
         compare(known, known.answer, bytes, operation)
     };
-    deepest().iter().map(run).collect()
+    for_each(&deepest(), run).into_iter().collect()
 }
 
 /// The same with a pricing of those that can be priced.
@@ -25,7 +26,7 @@ pub fn compare_priced_stack(engine: Price, bytes: usize) -> Result<Vec<String>, 
         let answer = RecipePriced { run: known.answer, ..RecipePriced::default() };
         compare(known, answer, bytes, operation).map(|told| format!("priced: {told}"))
     };
-    deepest_cans().iter().map(price).collect()
+    for_each(&deepest_cans(), price).into_iter().collect()
 }
 
 /// The same with a card, which none of these cans has, since none comes to a value.
@@ -40,7 +41,7 @@ pub fn compare_carded_stack(engine: Card, bytes: usize) -> Result<Vec<String>, S
         let answer = (RecipeCard { priced, bytes: 0 }, [0; 410]);
         compare(known, answer, bytes, operation).map(|told| format!("card: {told}"))
     };
-    deepest_cans().iter().map(card).collect()
+    for_each(&deepest_cans(), card).into_iter().collect()
 }
 
 /// The same with a save of words that nest as deep as a file does, or deeper.
