@@ -159,6 +159,17 @@ fn price() {
 
 #[cfg(feature = "run")]
 #[test]
+fn card() {
+    let recipes = concat!(env!("CARGO_MANIFEST_DIR"), "/../../recipes");
+    let [can, prices, due] = ["can.bin", "shop.prices", "can.card"].map(|name| format!("{recipes}/{name}"));
+    let due = std::fs::read_to_string(due).expect("the card written by hand");
+    assert_eq!(seen(&["card", &can, "--prices", &prices], b""), (0, due, "".into()));
+    let short = "refused 14: the buffer is shorter than the card\n  the card has 205 bytes, the buffer 204 bytes\n";
+    assert_eq!(seen(&["card", &can, "--prices", &prices, "--bytes", "204"], b""), (1, "".into(), short.into()));
+}
+
+#[cfg(feature = "run")]
+#[test]
 fn save_and_go_on() {
     let out = std::env::temp_dir().join(format!("saved-by-the-program-{}", std::process::id()));
     let name = out.display().to_string();

@@ -26,12 +26,6 @@ pub struct Kept {
     pub within: bool,
 }
 
-/// What is wrong with a card: it is not the model's, or it is and breaks a law.
-enum Fault {
-    Differs,
-    Breaks(String),
-}
-
 impl CardCase {
     /// The same in a card buffer of another length.
     pub fn in_room(&self, room: usize) -> CardCase {
@@ -42,13 +36,13 @@ impl CardCase {
     pub fn compare(&self, engine: CardingEngine, counts: &mut CardCounts) -> Result<Carded, String> {
         let model = self.by_model();
         counts.count(self, &model);
-        match self.fault(&model, engine) {
-            None => Ok(model),
-            Some(Fault::Differs) => Err(self.shrunk(&|case| case.differs(engine)).shown(engine, "")),
-            Some(Fault::Breaks(law)) => {
-                Err(self.shrunk(&|case| case.breaks_a_law(engine)).shown(engine, &format!("a law: {law}\n")))
-            }
+        let kept = self.by_engine(engine);
+        let differs = kept != kept_by(&model);
+        if !differs && self.law_broken(&kept, engine).is_none() {
+            return Ok(model);
         }
+        let fault = if differs { CardCase::differs } else { CardCase::breaks_a_law };
+        Err(self.shrunk(&|case| fault(case, engine)).shown(engine))
     }
 
     /// What the model answers.
@@ -67,13 +61,9 @@ impl CardCase {
         Kept { words, within: card.is_within(), card: card.part().to_vec() }
     }
 
-    /// What is wrong with the engine's card, if anything is.
-    fn fault(&self, model: &Carded, engine: CardingEngine) -> Option<Fault> {
-        let kept = self.by_engine(engine);
-        match kept == kept_by(model) {
-            false => Some(Fault::Differs),
-            true => laws::broken(&kept, &self.priced.by_engine(engine.price)).map(Fault::Breaks),
-        }
+    /// The law that the engine's card breaks, if it breaks one.
+    fn law_broken(&self, kept: &Kept, engine: CardingEngine) -> Option<String> {
+        laws::broken(kept, &self.priced.by_engine(engine.price))
     }
 
     /// Whether the two differ; a run that may take very long is not tried.
@@ -83,8 +73,7 @@ impl CardCase {
 
     /// Whether the engine breaks a law; a run that may take very long is not tried.
     pub fn breaks_a_law(&self, engine: CardingEngine) -> bool {
-        let lent = &self.priced.lent;
-        lent.is_short() && laws::broken(&self.by_engine(engine), &self.priced.by_engine(engine.price)).is_some()
+        self.priced.lent.is_short() && self.law_broken(&self.by_engine(engine), engine).is_some()
     }
 
     /// A smaller case that has the property, too. With an item less the card is shorter, and its buffer with it, or not.
@@ -106,10 +95,11 @@ impl CardCase {
         format!("{}card buffer of {} bytes\n", self.priced.show(), self.room)
     }
 
-    /// The case, what both sides answer and leave, and the law that is broken, if it is one.
-    fn shown(&self, engine: CardingEngine, law: &str) -> String {
-        let model = kept_by(&self.by_model());
-        format!("{}model:\n{model}engine:\n{}{law}", self.show(), self.by_engine(engine))
+    /// The case, what both sides answer and leave, and the law that the engine breaks, if it breaks one.
+    fn shown(&self, engine: CardingEngine) -> String {
+        let (model, kept) = (kept_by(&self.by_model()), self.by_engine(engine));
+        let law = self.law_broken(&kept, engine).map_or(String::new(), |law| format!("a law: {law}\n"));
+        format!("{}model:\n{model}engine:\n{kept}{law}", self.show())
     }
 }
 
