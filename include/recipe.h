@@ -1,13 +1,14 @@
-/* The recipe engine, for the controller's engineer: check a recipe file, run it, price the can that it fills, save a run
- * that has not come to its end, to go on with it later, and ask for the nodes of a formula, to draw its outline.
+/* The recipe engine, for the controller's engineer: check a recipe file, run it, price the can that it fills, lay out the
+ * card that is pinned to it, save a run that has not come to its end, to go on with it later, and ask for the nodes of a
+ * formula, to draw its outline.
  *
- * The five functions take any bytes, any words, any prices, any limit, any place and any buffers, down to length 0, and
+ * The six functions take any bytes, any words, any prices, any limit, any place and any buffers, down to length 0, and
  * always come back. They keep nothing between calls, allocate nothing and call nothing of yours, so they may be used from
  * several threads at once.
  *
  * Pointers. A pointer must not be null, also where its length is 0: hand over the address of any object then. The file, the
- * prices, the words to be saved and those asked about are only read. The two buffers of a run and the one of a save are
- * written; they must overlap neither each other nor what is read. What is only read may overlap.
+ * prices, the words to be saved and those asked about are only read. The two buffers of a run, the one of a card and the
+ * one of a save are written; they must overlap neither each other nor what is read. What is only read may overlap.
  *
  * Stack. See RECIPE_STACK_BYTES, and recipe_node for its own.
  *
@@ -48,15 +49,16 @@ extern "C" {
  *   5  a variable without a lambda of its own language [that variable's word]
  *   6  the term has no type; also where two types in it are equal but for an owner
  *   7  the term's type is not the declared one, if only by an owner
- *   8  the term has more words than the capacity (recipe_run and recipe_price)
- *   9  the declared type is not {N}, a list of numbers (recipe_price alone, as are the next two)
+ *   8  the term has more words than the capacity (recipe_run, recipe_price and recipe_card)
+ *   9  the declared type is not {N}, a list of numbers (recipe_price and recipe_card alone, as are the next two)
  *  10  the value has more than nine items
  *  11  a price is over 1,000,000 cents for 1,000 pulses
  *  12  the file would have more than 16,384 bytes (recipe_save alone, as is the next)
  *  13  the buffer is shorter than the file
+ *  14  the buffer is shorter than the card (recipe_card alone)
  *
  * Where several fit, the first in this order is given: 11, before the file is read; 1; 2; 3 and 4, by whichever word comes
- * first; 5; 6; 7; 9; 8; and when the run has come to a value, 10.
+ * first; 5; 6; 7; 9; 8; and when the run has come to a value, 10 and then 14.
  *
  * recipe_save is handed words, not a file, and gives, in this order: 12, from the two lengths alone; 3 and 4, by whichever
  * word comes first, the declared type's before the term's; 5; 6; 7; 13. Places are those in the file to be written: the
@@ -74,7 +76,8 @@ enum {
     RECIPE_ITEMS = 10,
     RECIPE_PRICES = 11,
     RECIPE_FILE_TOO_LONG = 12,
-    RECIPE_BUFFER_TOO_SHORT = 13
+    RECIPE_BUFFER_TOO_SHORT = 13,
+    RECIPE_CARD_BUFFER_TOO_SHORT = 14
 };
 
 /* Checks a file. 0: accepted; else the refusal's number + 256 * its place. */
@@ -144,6 +147,34 @@ typedef struct {
  * 10, which comes when the run has ended, all words of both are 0 and no steps are told. */
 RecipePriced recipe_price(const RecipePrices *prices, const uint8_t *file, size_t file_len, uint32_t limit,
                           uint32_t *first, size_t first_len, uint32_t *second, size_t second_len);
+
+/* The bytes of a card's line, 40 columns and a line feed; and the most that a card has, a line for each pump and the last. A
+ * buffer of RECIPE_CARD_BYTES serves every card. */
+#define RECIPE_CARD_LINE 41u
+#define RECIPE_CARD_BYTES 410u
+
+/* What recipe_card tells. */
+typedef struct {
+    RecipePriced priced; /* the pricing, as recipe_price tells it; or the refusal, and then all amounts are 0 */
+    uint32_t bytes;      /* the length of the card; 0 where none is written */
+} RecipeCard;
+
+/* Prices a can as recipe_price does, with the same capacity and buffers, and lays out the batch card of the value: one line
+ * for each item, in order, and a last line, each of exactly 40 columns and a line feed. Columns are counted from 1:
+ *
+ *   a pump's line  its number ends in column 2, the pulses in column 16, the charge in cents in column 32
+ *   the last line  TOTAL in columns 1 to 5; the total in cents ends in column 32
+ *
+ * Numbers are in decimal, without a zero before them; all else is blank. An empty list has the last line alone. The text is
+ * ASCII and no C string: `bytes` says where it ends, and only a buffer that is longer has a zero behind it.
+ *
+ * The card stands first in `card`, and every byte behind it is 0; whatever the buffer held does not matter. Where the run
+ * ends as spent, error or full there is no charge and no card: `bytes` is 0, all of `card` is 0, and all else is as
+ * recipe_price tells and leaves it, however short the buffer is. After every refusal all of `card` is 0, too, and all words
+ * of both other buffers; also after 14, which comes when the run has ended, and then no steps are told. */
+RecipeCard recipe_card(const RecipePrices *prices, const uint8_t *file, size_t file_len, uint32_t limit,
+                       uint32_t *first, size_t first_len, uint32_t *second, size_t second_len,
+                       uint8_t *card, size_t card_len);
 
 /* What recipe_save tells. */
 typedef struct {

@@ -1,47 +1,14 @@
 /* An example for the controller's engineer: prices the can of one recipe file by a shop's price file, and prints the charge
  * of each pump and the total. */
-#include "recipe.h"
+#include "prices.h"
 
-#include <ctype.h>
 #include <inttypes.h>
 #include <stdio.h>
 
 enum { STEPS = 1000000, WORDS = 4096 };
 
-static RecipePrices prices;
 static uint8_t file[RECIPE_FILE_BYTES + 1];
 static uint32_t first[WORDS], second[WORDS];
-
-/* Passes over blanks, line ends and comments, which run from # to the end of their line. */
-static void pass(FILE *stream)
-{
-    int letter = getc(stream);
-    while (isspace(letter) || letter == '#') {
-        if (letter == '#')
-            while (letter != '\n' && letter != EOF)
-                letter = getc(stream);
-        else
-            letter = getc(stream);
-    }
-    ungetc(letter, stream);
-}
-
-/* Reads 27 numbers of at most nine digits, pump by pump. 0: these and nothing else are not there. */
-static int read_prices(const char *name)
-{
-    FILE *stream = fopen(name, "r");
-    if (stream == NULL)
-        return 0;
-    int read = 0;
-    for (int i = 0; i < RECIPE_PUMPS * RECIPE_BANDS; i++) {
-        pass(stream);
-        read += fscanf(stream, "%9" SCNu32, &prices.cents[i / RECIPE_BANDS][i % RECIPE_BANDS]) == 1;
-    }
-    pass(stream);
-    int whole = read == RECIPE_PUMPS * RECIPE_BANDS && getc(stream) == EOF;
-    fclose(stream);
-    return whole;
-}
 
 int main(int count, char **names)
 {

@@ -1,7 +1,7 @@
 #!/bin/sh
 # Builds the panel's program and compares what it prints with outputs written by hand from documents 01 and 02.
-# With the argument `run` the panel's outline and the examples that run a recipe, price a can and save a run are tried too. The
-# archive must have been built before.
+# With the argument `run` the panel's outline and the examples that run a recipe, price a can, print its card and save a run
+# are tried too. The archive must have been built before.
 set -eu
 cd "$(dirname "$0")/.."
 archive=target/staticlib/libexports.a
@@ -74,7 +74,24 @@ same() {
     words 1 4 6 5 1 30 1 38 39 289 545 >if0-nil
     # What wrapped is after three steps: ms N (app (fn v0) 7).
     words 1 4 6 5 1 30 1 35 34 32 1825 >lunch-due
-    rm -f lunch larger again unsaved
+    rm -f lunch larger again unsaved printed
+    # The cards of nine-items by prices, of no-items, and of one item, (cons 7 nil); each line has 40 columns.
+    cat >nine-card <<'card'
+ 1          9999            1000        
+ 2         10000            2010        
+ 3         99999           30100        
+ 4        100000           40200        
+ 5             0               0        
+ 6             1               1        
+ 7           999             700        
+ 8          1000             800        
+ 9      16777215        15133048        
+TOTAL                   15207859        
+card
+    printf 'TOTAL                          0        \n' >no-card
+    { words 2 4 4 6 3 1; items 7; words 24 1; } >one-item
+    # 7 x 100 thousandths of a cent.
+    printf ' 1             7               1        \nTOTAL                          1        \n' >one-card
     # Every kind: a function from lists to lumps, and a term of 43 words.
     words 4 4 43 8 4 3 1 2 18 1 23 28 27 24 2 26 25 16 1809 19 20 784 21 22 4294967057 76829 1 30 3 1 \
         34 38 43 299 555 811 39 35 36 4294967072 1825 37 40 41 32 42 33 16777004 45 2 17 >kinds
@@ -193,6 +210,35 @@ total: 15207859 cents" ./price nine-items prices
     same price-over-first 1 "refused 11, place 0" ./price empty over
     same price-short 2 "usage: price FILE PRICES
 PRICES has nine rows of three prices: cents for 1,000 pulses." ./price no-items short
+
+    (cd ../.. && ${CC:-cc} $flags -o "$out/card" panel/card.c "$archive")
+    # Every byte, the last line feed too: `same` alone would not see that.
+    card() {
+        name=$1 expected=$2
+        shift 2
+        ./card "$@" >printed || failed=1
+        same "$name" 0 "" cmp printed "$expected"
+    }
+    card card-can ../../recipes/can.card ../../recipes/can.bin ../../recipes/shop.prices
+    card card-nine nine-card nine-items prices
+    card card-none no-card no-items prices
+    card card-one one-card one-item prices
+    # Two lines have 82 bytes.
+    card card-just one-card one-item prices 82
+    same card-short 1 "refused 14, place 0" ./card one-item prices 81
+    same card-no-bytes 1 "refused 14, place 0" ./card no-items prices 0
+    same card-nine-short 1 "refused 14, place 0" ./card nine-items prices 409
+    same card-error 0 "error after 2 steps: no card" ./card tl-nil prices
+    same card-error-no-bytes 0 "error after 2 steps: no card" ./card tl-nil prices 0
+    same card-kind 1 "refused 3, place 5" ./card kind prices 0
+    same card-not-numbers 1 "refused 9, place 0" ./card add prices 0
+    same card-items 1 "refused 10, place 0" ./card ten-items prices 0
+    same card-over 1 "refused 11, place 0" ./card empty over 0
+    card_usage="usage: card FILE PRICES [BYTES]
+PRICES has nine rows of three prices: cents for 1,000 pulses. BYTES are lent for the card."
+    same card-prices 2 "$card_usage" ./card no-items short
+    same card-unread 2 "$card_usage" ./card none prices
+    same card-usage 2 "$card_usage" ./card no-items
 
     (cd ../.. && ${CC:-cc} $flags -o "$out/save" panel/save.c "$archive")
     same save-spent 0 "spent, code 0, 3 steps, 6 words left, 0 wanted

@@ -1,12 +1,13 @@
 //! Recipes on trees, written from documents 01 and 02 alone and apart from the engine.
 //!
-//! `check` answers a file with a recipe or a refusal; `run` reduces it to one of the four ends; `price` prices the value;
-//! `save` makes what is left into a file again. Trees nest as deep as they have words: call all four within
-//! `on_large_stack`. `nodes` finds the whole node at a place of any words, without trees.
+//! `check` answers a file with a recipe or a refusal; `run` reduces it to one of the four ends; `price` prices the value, and
+//! `card` lays the price out; `save` makes what is left into a file again. Trees nest as deep as they have words: call all five
+//! within `on_large_stack`. `nodes` finds the whole node at a place of any words, without trees.
 
 #![forbid(unsafe_code)]
 
 pub mod build;
+pub mod card;
 pub mod check;
 pub mod class;
 pub mod earlier;
@@ -31,6 +32,7 @@ pub mod typing;
 pub mod untyped;
 pub mod values;
 
+pub use card::{card, Carded};
 pub use check::{check, Recipe, Refusal};
 pub use class::{Class, ClassCounts};
 pub use price::{price, Charges, Priced, Prices};

@@ -1,8 +1,7 @@
 //! Where the steps went: each kind of node counted by hand from document 02's request U1, and the reading of it that a
 //! step is counted by the node whose turn it is, not by what becomes of it.
 
-mod common;
-use common::*;
+use crate::common::*;
 use model::file::file;
 use model::laws::try_counts;
 use model::{check, on_large_stack, End, Ended};

@@ -1,8 +1,7 @@
 //! The reduction of the releases before document 02's request U4, and files that they saved, worked out by hand from document
 //! 01 as it was, and from U4.
 
-mod common;
-use common::*;
+use crate::common::*;
 use model::earlier::before_u4;
 use model::file::file;
 use model::run::run_by;

@@ -1,7 +1,6 @@
 //! Worst cases that document 01 allows: deep terms, large types, large next terms.
 
-mod common;
-use common::*;
+use crate::common::*;
 use model::file::file;
 use model::node::ml_words;
 use model::read::read_ml;

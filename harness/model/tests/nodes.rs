@@ -1,8 +1,7 @@
 //! The reader of nodes by hand: "that very part of the caller's words, from its first word to its last, or the empty part where
 //! no whole node starts there".
 
-mod common;
-use common::*;
+use crate::common::*;
 use model::nodes::{is_one_word, node_at, size_at, Not, Whole, Why};
 
 /// The words of the node at each place, and at the two places behind them.

@@ -1,7 +1,6 @@
 //! Lumps with owners, by hand from document 02's request U6: "The operand of L becomes an owner, 0 to 255."
 
-mod common;
-use common::*;
+use crate::common::*;
 use model::build::{l, list, ml, n, sc, to};
 use model::file::file;
 use model::laws::{alike_but_owners, try_lumps, try_ownerless};
@@ -271,12 +270,12 @@ fn the_law_sees_a_run_that_owners_change() {
     // Another answer: a step more, one as a call, a word more, more wanted, another end and code.
     assert!(![
         alike(|owned| owned.result = Err(model::Refusal::new(8, 0))),
-        alike(|owned| owned.result = common::ended(End::Value, 0, 2, 3, 0, [0, 0, 1])),
-        alike(|owned| owned.result = common::ended(End::Value, 0, 1, 3, 0, [1, 0, 0])),
-        alike(|owned| owned.result = common::ended(End::Value, 0, 1, 4, 0, [0, 0, 1])),
-        alike(|owned| owned.result = common::ended(End::Value, 0, 1, 3, 1, [0, 0, 1])),
-        alike(|owned| owned.result = common::ended(End::Spent, 0, 1, 3, 0, [0, 0, 1])),
-        alike(|owned| owned.result = common::ended(End::Value, 3, 1, 3, 0, [0, 0, 1])),
+        alike(|owned| owned.result = crate::common::ended(End::Value, 0, 2, 3, 0, [0, 0, 1])),
+        alike(|owned| owned.result = crate::common::ended(End::Value, 0, 1, 3, 0, [1, 0, 0])),
+        alike(|owned| owned.result = crate::common::ended(End::Value, 0, 1, 4, 0, [0, 0, 1])),
+        alike(|owned| owned.result = crate::common::ended(End::Value, 0, 1, 3, 1, [0, 0, 1])),
+        alike(|owned| owned.result = crate::common::ended(End::Spent, 0, 1, 3, 0, [0, 0, 1])),
+        alike(|owned| owned.result = crate::common::ended(End::Value, 3, 1, 3, 0, [0, 0, 1])),
     ]
     .contains(&true));
     // Other words: the owner beside its L, behind the words left, in the second buffer.

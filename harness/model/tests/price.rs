@@ -1,7 +1,6 @@
 //! The price of a can: bands, charges, ends and refusals worked out by hand from document 02's request U2.
 
-mod common;
-use common::*;
+use crate::common::*;
 use model::file::{bytes_of, file};
 use model::price::{band, charge};
 use model::{on_large_stack, price, run, Charges, End, Ended, Priced, Prices, Refusal};

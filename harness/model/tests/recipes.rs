@@ -1,8 +1,7 @@
 //! Document 01's "Recipes tried by hand", words and results written by hand from the document, and where the steps went
 //! by hand from document 02: calls, conversions, others.
 
-mod common;
-use common::*;
+use crate::common::*;
 use model::End;
 
 #[test]

@@ -1,7 +1,6 @@
 //! Document 01's table of refusals, each small input and the order among them, written by hand.
 
-mod common;
-use common::*;
+use crate::common::*;
 use model::file::{bytes_of, file};
 use model::{run, Refusal};
 

@@ -1,7 +1,6 @@
 //! Each rule of document 01, and of document 02's request U4, on a small term, the next term's words written by hand.
 
-mod common;
-use common::*;
+use crate::common::*;
 use model::End;
 
 /// One step takes the first term to the second.

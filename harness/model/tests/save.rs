@@ -1,7 +1,6 @@
 //! Save and go on: files, refusals and their places, and runs that go on, worked out by hand from document 02's request U3.
 
-mod common;
-use common::*;
+use crate::common::*;
 use model::file::{bytes_of, file};
 use model::laws::{try_going_on, WentOn};
 use model::{on_large_stack, save, End, Refusal, Saved};

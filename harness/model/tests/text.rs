@@ -1,7 +1,6 @@
 //! The text form: printed and read back, and faults with their positions.
 
-mod common;
-use common::*;
+use crate::common::*;
 use model::node::Node;
 use model::read::{read_ml, read_type};
 use model::text::{describe, flat, parse_recipe, pretty};

@@ -1,7 +1,6 @@
 //! The node that a missing type is laid to, by hand.
 
-mod common;
-use common::*;
+use crate::common::*;
 use model::node::Node;
 use model::read::read_ml;
 use model::untyped::untyped;

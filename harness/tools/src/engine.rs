@@ -35,6 +35,14 @@ pub struct RecipePriced {
     pub charge: [u64; 9],
 }
 
+/// A card's answer as the engine gives it: the pricing, and the length of the card, 0 where none is written.
+#[repr(C)]
+#[derive(Clone, Copy, Debug, Default, PartialEq, Eq)]
+pub struct RecipeCard {
+    pub priced: RecipePriced,
+    pub bytes: u32,
+}
+
 /// A save's answer as the engine gives it: refusal 0 if the file is written, and its length.
 #[repr(C)]
 #[derive(Clone, Copy, Debug, Default, PartialEq, Eq)]
@@ -52,6 +60,9 @@ pub type Run = fn(&[u8], u32, &mut [u32], &mut [u32]) -> RecipeRun;
 
 /// The pricing of a file by a price table, under a limit with two lent buffers.
 pub type Price = fn(&RecipePrices, &[u8], u32, &mut [u32], &mut [u32]) -> RecipePriced;
+
+/// The same with the batch card in a third lent buffer.
+pub type Card = fn(&RecipePrices, &[u8], u32, &mut [u32], &mut [u32], &mut [u8]) -> RecipeCard;
 
 /// The save of a declared type's words and a term's in a lent buffer.
 pub type Save = fn(&[u32], &[u32], &mut [u8]) -> RecipeSaved;
@@ -87,6 +98,19 @@ mod linked {
                 second: *mut u32,
                 second_len: usize,
             ) -> super::super::RecipePriced;
+            #[cfg(feature = "run")]
+            pub fn recipe_card(
+                prices: *const super::super::RecipePrices,
+                file: *const u8,
+                file_len: usize,
+                limit: u32,
+                first: *mut u32,
+                first_len: usize,
+                second: *mut u32,
+                second_len: usize,
+                card: *mut u8,
+                card_len: usize,
+            ) -> super::super::RecipeCard;
             #[cfg(feature = "run")]
             pub fn recipe_save(
                 declared: *const u32,
@@ -132,6 +156,23 @@ mod linked {
     }
 
     #[cfg(feature = "run")]
+    pub fn card(
+        prices: &super::RecipePrices,
+        file: &[u8],
+        limit: u32,
+        first: &mut [u32],
+        second: &mut [u32],
+        card: &mut [u8],
+    ) -> super::RecipeCard {
+        let (from, from_len) = (file.as_ptr(), file.len());
+        let (first, first_len) = (first.as_mut_ptr(), first.len());
+        let (second, second_len) = (second.as_mut_ptr(), second.len());
+        let (card, card_len) = (card.as_mut_ptr(), card.len());
+        // Safe: the prices are a reference; pointers and lengths are those of slices, the three that are written being apart.
+        unsafe { c::recipe_card(prices, from, from_len, limit, first, first_len, second, second_len, card, card_len) }
+    }
+
+    #[cfg(feature = "run")]
     pub fn save(declared: &[u32], term: &[u32], out: &mut [u8]) -> super::RecipeSaved {
         let (declared, declared_len) = (declared.as_ptr(), declared.len());
         let (out, out_len) = (out.as_mut_ptr(), out.len());
@@ -172,6 +213,14 @@ pub fn linked_run() -> Option<Run> {
 pub fn linked_price() -> Option<Price> {
     #[cfg(feature = "run")]
     return Some(linked::price);
+    #[cfg(not(feature = "run"))]
+    None
+}
+
+/// The engine's card, if it is linked.
+pub fn linked_card() -> Option<Card> {
+    #[cfg(feature = "run")]
+    return Some(linked::card);
     #[cfg(not(feature = "run"))]
     None
 }

@@ -8,6 +8,7 @@ pub mod engine;
 pub mod make;
 pub mod old_engine;
 pub mod output;
+pub mod parallel;
 pub mod progress;
 pub mod random;
 pub mod recipe;

@@ -1,10 +1,10 @@
-//! The model in the engine's place: its check, its run, its pricing, its save and its reader of nodes with the engine's own
-//! signatures.
+//! The model in the engine's place: its check, its run, its pricing, its card, its save and its reader of nodes with the
+//! engine's own signatures.
 
-use crate::engine::{RecipePriced, RecipePrices, RecipeRun, RecipeSaved};
+use crate::engine::{RecipeCard, RecipePriced, RecipePrices, RecipeRun, RecipeSaved};
 use model::check::answer;
 use model::step::{Reduction, Turn};
-use model::{Charges, Class, Ended, Priced, Refusal};
+use model::{Carded, Charges, Class, Ended, Priced, Refusal};
 
 /// The model's check: 0 for accepted, else number + 256 x place.
 pub fn check(file: &[u8]) -> u64 {
@@ -50,6 +50,27 @@ pub fn told_priced(priced: &Priced) -> RecipePriced {
         None => (0, [0; 9]),
     };
     RecipePriced { run: told(&priced.run.result), total, charge }
+}
+
+/// The model's card in three lent buffers.
+pub fn card(
+    prices: &RecipePrices,
+    file: &[u8],
+    limit: u32,
+    first: &mut [u32],
+    second: &mut [u32],
+    card: &mut [u8],
+) -> RecipeCard {
+    let carded = model::card(&prices.cents, file, limit, (first.len(), second.len()), card.len());
+    first.copy_from_slice(&carded.priced.run.first);
+    second.copy_from_slice(&carded.priced.run.second);
+    card.copy_from_slice(&carded.card);
+    told_card(&carded)
+}
+
+/// A card as the engine tells it.
+pub fn told_card(carded: &Carded) -> RecipeCard {
+    RecipeCard { priced: told_priced(&carded.priced), bytes: carded.bytes as u32 }
 }
 
 /// The model's save in a lent buffer.

@@ -58,13 +58,15 @@ fn tables_fit_120_columns() {
 }
 
 #[test]
-fn a_can_has_the_time_of_a_run_and_of_a_pricing_and_their_ratio() {
-    let can = Priced { name: "can".into(), steps: 9, lent: 64, run: Some(2e-6), price: Some(3e-6) };
-    assert_eq!(figures(&can.row()), ["9", "64", "2000", "3000", "1.50"]);
+fn a_can_has_the_times_of_a_run_of_a_pricing_and_of_a_card_and_their_ratios() {
+    let (run, price, card) = (Some(2e-6), Some(3e-6), Some(3.6e-6));
+    let can = Priced { name: "can".into(), steps: 9, lent: 64, run, price, card };
+    assert_eq!(figures(&can.row()), ["9", "64", "2000", "3000", "3600", "1.50", "1.20"]);
     assert_eq!(prices::head().len(), can.row().len());
-    let unknown = Priced { run: None, price: None, ..can };
-    assert_eq!(figures(&unknown.row()), ["9", "64", "-", "-", "-"]);
-    let long = Priced { name: "x".repeat(34), steps: 20_000, lent: 16_384, run: Some(9.0), price: Some(9.0) };
+    let unknown = Priced { run: None, price: None, card: None, ..can };
+    assert_eq!(figures(&unknown.row()), ["9", "64", "-", "-", "-", "-", "-"]);
+    let (name, most) = ("x".repeat(34), Some(9.0));
+    let long = Priced { name, steps: 20_000, lent: 16_384, run: most, price: most, card: most };
     assert!(long.row().len() <= 120 && prices::head().len() <= 120);
 }
 

@@ -1,7 +1,6 @@
 //! Planted errors in charges and totals are found, and shrunk to a small can.
 
-mod common;
-use common::pricing::*;
+use crate::common::pricing::*;
 use model::on_large_stack;
 use model::price::band;
 use std::mem::{offset_of, size_of};

@@ -1,8 +1,7 @@
-//! The commands of `recipe`, each with what document 01 says of its input; `recipe price`, `recipe outline` and `--save`
-//! have tests of their own.
+//! The commands of `recipe`, each with what document 01 says of its input; `recipe price`, `recipe card`,
+//! `recipe outline` and `--save` have tests of their own.
 
-mod common;
-use common::{printed, typed, typed_into};
+use crate::common::{printed, typed, typed_into};
 use model::check::read_recipe;
 use model::file::bytes_of;
 use std::io::{Error, ErrorKind, Write};
@@ -150,20 +149,20 @@ fn make_of_what_show_prints_is_the_same_file() {
 
 #[test]
 fn each_command_has_help() {
-    for command in ["make", "show", "check", "run", "step", "price", "outline"] {
+    for command in ["make", "show", "check", "run", "step", "price", "card", "outline"] {
         let (status, help, said) = printed(&[command, "--help"], b"");
         assert!(status == 0 && said.is_empty() && help.starts_with(&format!("usage: recipe {command} ")), "{help}");
     }
     assert!(printed(&["--help"], b"")
         .1
-        .starts_with("usage: recipe make | show | check | run | step | price | outline "));
+        .starts_with("usage: recipe make | show | check | run | step | price | card | outline "));
 }
 
 #[test]
 fn faults_go_to_standard_error_with_status_2() {
     let cases: [(&[&str], &str); 11] = [
-        (&[], "make, show, check, run, step, price or outline is due; see --help"),
-        (&["bake"], "make, show, check, run, step, price or outline is due; see --help"),
+        (&[], "make, show, check, run, step, price, card or outline is due; see --help"),
+        (&["bake"], "make, show, check, run, step, price, card or outline is due; see --help"),
         (&["show", "--loud"], "--loud is not understood"),
         (&["run", "-", "more"], "more is not understood"),
         (&["run", "--limit"], "--limit needs a number"),

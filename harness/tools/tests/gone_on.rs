@@ -1,7 +1,6 @@
 //! Planted errors in runs that are saved and go on are found and shrunk to a small recipe.
 
-mod common;
-use common::saving::*;
+use crate::common::saving::*;
 use model::on_large_stack;
 use tools::compare::{compare_saved_stack, SavingEngine};
 use tools::engine::{RecipeRun, RecipeSaved, Run, Save};

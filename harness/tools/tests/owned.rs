@@ -1,9 +1,8 @@
 //! Planted errors in what the engine makes of the owners of lumps: each is found, and shrunk to a few words. The makers of owners
 //! make what they promise.
 
-mod common;
-use common::pricing;
-use common::saving;
+use crate::common::pricing;
+use crate::common::saving;
 use model::check::read_recipe;
 use model::file::{bytes_of, regions, words_of};
 use model::node::{Node, Tree};

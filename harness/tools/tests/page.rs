@@ -128,7 +128,7 @@ fn every_command_refusal_end_and_class_is_on_the_page() {
     let page = page();
     let examples = examples(&page);
     let shown = |start: &str| examples.iter().any(|example| example.printed.starts_with(start));
-    for number in 1..=13 {
+    for number in 1..=14 {
         assert!(page.contains(&format!("\n### {number}: ")), "refusal {number}");
         // The program lends a buffer that serves every file.
         assert!(number == 13 || shown(&format!("refused {number}: ")), "refusal {number}");
@@ -139,6 +139,8 @@ fn every_command_refusal_end_and_class_is_on_the_page() {
     let lasts = [
         "\ntotal                                      1370\n",
         "\nno charge: the run did not end in a value\n",
+        "\nTOTAL                       1370        \n",
+        "\nno card: only a can with a charge has one\n",
         "\nsaved in lunch.bin, 60 bytes; to go on: recipe run lunch.bin\n",
         "\nnothing is saved: the run has come to its value\n",
     ];
@@ -148,7 +150,7 @@ fn every_command_refusal_end_and_class_is_on_the_page() {
     for class in ["call", "conversion", "other"] {
         assert!(examples.iter().any(|example| example.printed.contains(&format!(" ({class})\n"))), "{class}");
     }
-    for command in ["make", "show", "check", "run", "step", "price", "outline"] {
+    for command in ["make", "show", "check", "run", "step", "price", "card", "outline"] {
         assert!(examples.iter().any(|example| example.command.contains(&format!("recipe {command}"))), "{command}");
     }
 }

@@ -2,8 +2,10 @@
 
 use model::{on_large_stack, run, End};
 use std::path::Path;
-use tools::compare::{compare_check, compare_list, compare_priced_stack, compare_run, compare_stack, missing, Plan};
-use tools::engine::{Check, Price, RecipePriced, RecipeRun, Run};
+use tools::compare::{
+    compare_carded_stack, compare_check, compare_list, compare_priced_stack, compare_run, compare_stack, missing, Plan,
+};
+use tools::engine::{Card, Check, Price, RecipeCard, RecipePriced, RecipeRun, Run};
 use tools::stand_in::{check as right_check, run as right_run};
 
 const PLAN: Plan = Plan { files: 3_000, seed: 1, start: 0 };
@@ -93,18 +95,29 @@ fn deep_ends_are_known_beforehand() {
     assert!(compare_stack(engine, 64 << 20).is_err());
 }
 
+/// The run of tl nested 16,378 deep around the fix, as it is known beforehand.
+fn nested_tl(first: &mut [u32]) -> RecipeRun {
+    first[..16_378].fill(27);
+    first[16_378..].copy_from_slice(&[20, 18, 3, 1, 27, 16]);
+    let (steps, left, wanted) = (16_378, 16_384, 16_385);
+    RecipeRun { end: 3, steps, left, wanted, calls: steps, ..RecipeRun::default() }
+}
+
 #[test]
 fn a_deep_run_that_is_full_and_charged() {
-    // tl nested 16,378 deep around the fix: all as it is known beforehand but for the total.
-    let engine: Price = |_, _, _, first, _| {
-        first[..16_378].fill(27);
-        first[16_378..].copy_from_slice(&[20, 18, 3, 1, 27, 16]);
-        let (steps, left, wanted) = (16_378, 16_384, 16_385);
-        let run = RecipeRun { end: 3, steps, left, wanted, calls: steps, ..RecipeRun::default() };
-        RecipePriced { run, total: 1, ..RecipePriced::default() }
-    };
+    let engine: Price = |_, _, _, first, _| RecipePriced { run: nested_tl(first), total: 1, ..RecipePriced::default() };
     let shown = compare_priced_stack(engine, 64 << 20).expect_err("a difference");
     assert!(shown.starts_with("tl nested: ") && shown.contains("total: 0") && shown.contains("total: 1"), "{shown}");
+}
+
+#[test]
+fn a_deep_run_that_is_full_and_leaves_the_card_as_it_was() {
+    let engine: Card = |_, _, _, first, _, _| {
+        let priced = RecipePriced { run: nested_tl(first), ..RecipePriced::default() };
+        RecipeCard { priced, bytes: 0 }
+    };
+    let shown = compare_carded_stack(engine, 64 << 20).expect_err("a difference");
+    assert!(shown.starts_with("tl nested: ") && shown.contains("[0, 0") && shown.contains("[7, 7"), "{shown}");
 }
 
 #[test]

@@ -59,7 +59,7 @@ fn show_explains_damage() {
 
 #[test]
 fn help_and_faults() {
-    for command in ["make", "show", "check", "run", "step", "price", "outline"] {
+    for command in ["make", "show", "check", "run", "step", "price", "card", "outline"] {
         let (status, printed, _) = seen(&[command, "--help"], b"");
         assert!(status == 0 && printed.starts_with(&format!("usage: recipe {command}")), "{printed}");
     }
@@ -103,7 +103,7 @@ fn a_step_by_step_that_nobody_reads_on_ends() {
 #[cfg(not(feature = "check"))]
 #[test]
 fn without_the_engine() {
-    for command in ["check", "run", "step", "price", "outline"] {
+    for command in ["check", "run", "step", "price", "card", "outline"] {
         let (status, _, said) = seen(&[command], b"N 1");
         assert!(status == 2 && said.contains("built without the engine"), "{said}");
     }
@@ -155,6 +155,17 @@ fn price() {
     let can = b"{N} (cons 10000 (cons 1 (nil N)))";
     assert_eq!(seen(&["price", "--prices", prices], can), (0, lines.join("\n") + "\n", "".into()));
     assert_eq!(seen(&["price", "--prices", prices], b"N 5").0, 1);
+}
+
+#[cfg(feature = "run")]
+#[test]
+fn card() {
+    let recipes = concat!(env!("CARGO_MANIFEST_DIR"), "/../../recipes");
+    let [can, prices, due] = ["can.bin", "shop.prices", "can.card"].map(|name| format!("{recipes}/{name}"));
+    let due = std::fs::read_to_string(due).expect("the card written by hand");
+    assert_eq!(seen(&["card", &can, "--prices", &prices], b""), (0, due, "".into()));
+    let short = "refused 14: the buffer is shorter than the card\n  the card has 205 bytes, the buffer 204 bytes\n";
+    assert_eq!(seen(&["card", &can, "--prices", &prices, "--bytes", "204"], b""), (1, "".into(), short.into()));
 }
 
 #[cfg(feature = "run")]

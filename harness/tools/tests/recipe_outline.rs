@@ -1,7 +1,6 @@
 //! `recipe outline`, each outline written by hand from document 01's table of kinds.
 
-mod common;
-use common::{printed, typed_into, Unread};
+use crate::common::{printed, typed_into, Unread};
 use model::file::bytes_of;
 
 /// The lines, each ended.

@@ -1,7 +1,6 @@
 //! The program `recipe` and the owners of lumps: texts and files written by hand from document 02's request U6.
 
-mod common;
-use common::{printed, typed};
+use crate::common::{printed, typed};
 use model::file::bytes_of;
 
 /// The word of L with an owner.

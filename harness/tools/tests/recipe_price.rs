@@ -1,7 +1,6 @@
 //! `recipe price`: charges worked out by hand from document 02, every end, every refusal, and every fault of a price file.
 
-mod common;
-use common::printed;
+use crate::common::printed;
 use std::path::PathBuf;
 use std::sync::atomic::{AtomicU32, Ordering};
 

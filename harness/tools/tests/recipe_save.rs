@@ -1,7 +1,6 @@
 //! `recipe run --save`: files, what is said of them, and refusals, worked out by hand from documents 01 and 02.
 
-mod common;
-use common::{printed, typed_into, typed_with, Unread};
+use crate::common::{printed, typed_into, typed_with, Unread};
 use model::file::bytes_of;
 use std::path::PathBuf;
 use std::sync::atomic::{AtomicU32, Ordering};

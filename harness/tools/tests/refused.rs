@@ -1,7 +1,6 @@
 //! Planted errors in the refusals of pricing, their order and what they leave are found.
 
-mod common;
-use common::pricing::*;
+use crate::common::pricing::*;
 use model::on_large_stack;
 use tools::compare::price::{edges, faults};
 use tools::engine::{Price, RecipePriced, RecipePrices};

@@ -1,8 +1,7 @@
 //! Planted errors in the file that a save writes, and in what it leaves, are found and shrunk; the model itself shows no
 //! difference.
 
-mod common;
-use common::saving::*;
+use crate::common::saving::*;
 use model::on_large_stack;
 use std::cell::RefCell;
 use std::mem::size_of;

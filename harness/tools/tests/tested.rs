@@ -1,8 +1,7 @@
 //! Planted errors in what becomes of an if0 are found, and shrunk to a small recipe: by the comparison of runs, and of files
 //! saved before U4 by that of saves.
 
-mod common;
-use common::saving::{shown, RIGHT};
+use crate::common::saving::{shown, RIGHT};
 use model::earlier::before_u4;
 use model::node::Tree;
 use model::rules::Rule;

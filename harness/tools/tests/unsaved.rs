@@ -1,7 +1,6 @@
 //! Planted errors in the refusals of a save, their places and their order are found and shrunk.
 
-mod common;
-use common::saving::*;
+use crate::common::saving::*;
 use model::check::read_words;
 use model::on_large_stack;
 use tools::compare::save::{edges, faults};

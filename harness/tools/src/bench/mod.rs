@@ -60,8 +60,9 @@ the engine takes less time, engine/copy over 1 that it takes more.
 
 /// What the figures of cans priced are.
 const PRICES: &str = "\
-price: cans of nine items. run: recipe_run. price: recipe_price of the same file. Both are whole calls, with reading,
-check and clearing, in two buffers of just the words needed (lent). price/run over 1 says that the pricing takes longer.
+price: cans of nine items. run: recipe_run. price: recipe_price of the same file. card: recipe_card of the same, in a
+third buffer of 410 bytes. All are whole calls, with reading, check and clearing, in two buffers of just the words
+needed (lent). price/run over 1 says that the pricing takes longer, card/price over 1 that the card does.
 ";
 
 /// What the figures of files saved are.

@@ -14,7 +14,7 @@ usage: bench [check | run | growth | price | save | node]
 check    the check of growing files: engine and checker on trees
 run      recipes run: a step of the engine and of the reducer on trees, a plain copy of the same words
 growth   how a step's time grows with the words of the term
-price    cans priced: a whole pricing of the engine against a whole run
+price    cans priced: a whole pricing of the engine against a whole run, and a whole card against the pricing
 save     files saved: a whole save of the engine against the check of the file that it writes
 node     nodes asked for at every place of a term, and at those of one word: before the short way and with it
 All six where none is named. Build with --release and --features run; without the engine its columns are dashes.

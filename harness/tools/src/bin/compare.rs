@@ -1,5 +1,5 @@
-//! Compares the engine with the model: `compare check`, `compare run`, `compare price`, `compare save`, `compare node`,
-//! `compare list`, `compare stack`.
+//! Compares the engine with the model: `compare check`, `compare run`, `compare price`, `compare card`, `compare save`,
+//! `compare node`, `compare list`, `compare stack`.
 #![forbid(unsafe_code)]
 
 use model::on_large_stack;
@@ -7,18 +7,22 @@ use std::path::Path;
 use std::process::ExitCode;
 use tools::args::Args;
 use tools::compare::{
-    compare_check, compare_list, compare_node, compare_price, compare_priced_stack, compare_run, compare_save,
-    compare_saved_stack, compare_stack, missing, table, Counts, NodeReaders, Plan, SavingEngine,
+    compare_card, compare_carded_stack, compare_check, compare_list, compare_node, compare_price, compare_priced_stack,
+    compare_run, compare_save, compare_saved_stack, compare_stack, missing, table, CardingEngine, Counts, NodeReaders,
+    Plan, SavingEngine,
 };
-use tools::engine::{linked_check, linked_node, linked_node_walked, linked_price, linked_run, linked_save};
+use tools::engine::{
+    linked_card, linked_check, linked_node, linked_node_walked, linked_price, linked_run, linked_save,
+};
 use tools::output::say;
 
 const HELP: &str = "\
-Compares the engine with a checker, a reducer, a pricing, a save and a reader of nodes built apart from it.
+Compares the engine with a checker, a reducer, a pricing, a card, a save and a reader of nodes built apart from it.
 
 usage: compare check [--files N] [--seed S] [--start I] [--all-reached]
        compare run   [--files N] [--seed S] [--start I] [--all-reached]
        compare price [--files N] [--seed S] [--start I] [--all-reached]
+       compare card  [--files N] [--seed S] [--start I] [--all-reached]
        compare save  [--files N] [--seed S] [--start I] [--all-reached]
        compare node  [--files N] [--seed S] [--start I] [--all-reached]
        compare list  [--files N] [--seed S] [--start I] [--all-reached]
@@ -33,6 +37,10 @@ run          every small recipe, every kind of value that if0 tests, every place
 price        edges of prices, pulses, items and of what is lent, every choice of faults, every small recipe, edges of
              files, and N random files (100000) under random price tables: result, charges, total and every word of both
              buffers
+card         every number of items in card buffers of every length, numbers of every count of digits, every end, every choice
+             of faults, every small recipe, edges of files, and N random files (50000) under random price tables: result,
+             every byte of the card's buffer and every word of both others; and the engine's card is read back column by
+             column, beside recipe_price of the same
 save         words at the edges, every choice of faults, every term of up to 3 words, and N times (20000) random words in a
              random buffer: answer and every byte of the buffer; runs that are saved and go on, of every small recipe, of
              recipes that outgrow a file, and N times of a random recipe: as one run, result and every word of both buffers;
@@ -43,15 +51,17 @@ node         every kind with telling operands and parts, every 3 words of an alp
              recipe_node, and by the same without the short way for words without parts
 list         files at the edges, two long recipes, and those of N random files (3000) that end soon: every byte that the
              listing program, target/bin/listing, prints of each
-stack        the deepest runs of 16,384 words, and the deepest files, run, priced and saved on a stack of K KiB (2048)
+stack        the deepest runs of 16,384 words, and the deepest files, run, priced with a card and without, and saved on a stack
+             of K KiB (2048)
 --seed S     random files depend on the seed (1) and their index alone
 --start I    begin with random file I; the files that are the same every time are left out unless I is 0
 --all-reached  fail if a rule, an end, a class of steps before an end (call, conversion, other) or a refusal was never
              reached; of runs, also a kind of value that Scheme's if0 tests; of pricings, also an order of two refusals, a
-             number of items, a pump or a band; of saves, also an order, a place, a length of the buffer, two ends of a run
+             number of items, a pump or a band; of cards, also an order, a length of the buffer for each number of items
+             and each end, or a number of digits; of saves, also an order, a place, a length of the buffer, two ends of a run
              and the one that goes on, 20,000 of these, or an end that a file saved before U4 no longer comes to; of
              nodes, a kind, a kind that is none, an operand past its range, a fault in a part, a place past the end or a
-             size. Of all but listings and nodes also: owner 0, 1 to 254 or 255 accepted; a refusal 6 or 7 for an owner
+             size. Of all but cards, listings and nodes also: owner 0, 1 to 254 or 255 accepted; a refusal 6 or 7 for an owner
              alone, by the rule and by where in the type it stands; a refusal 3 for an owner over 255 by where its type
              stands; of runs, a lump opened, sealed for another owner, brought over in a list or a function, and a run as
              without owners; of nodes, an L with each kind of owner, whole or not
@@ -72,11 +82,12 @@ fn main() -> ExitCode {
         Some("check") => check(args),
         Some("run") => run(args),
         Some("price") => price(args),
+        Some("card") => card(args),
         Some("save") => save(args),
         Some("node") => node(args),
         Some("list") => list(args),
         Some("stack") => stack(args),
-        _ => Err(Fault::Usage("check, run, price, save, node, list or stack is due; see --help".into())),
+        _ => Err(Fault::Usage("check, run, price, card, save, node, list or stack is due; see --help".into())),
     };
     match outcome {
         Ok(()) => ExitCode::SUCCESS,
@@ -121,6 +132,14 @@ fn price(args: Args) -> Result<(), Fault> {
     finish(counts.rows(), all_reached)
 }
 
+fn card(args: Args) -> Result<(), Fault> {
+    let (plan, all_reached) = plan(args, 50_000)?;
+    let (price, card) = linked_price().zip(linked_card()).ok_or(without("run"))?;
+    let counts = on_large_stack(|| compare_card(CardingEngine { price, card }, plan)).map_err(difference)?;
+    say(format!("{} cards, no difference", counts.cards));
+    finish(counts.rows(), all_reached)
+}
+
 fn save(args: Args) -> Result<(), Fault> {
     let (plan, all_reached) = plan(args, 20_000)?;
     let linked = linked_check().zip(linked_run()).zip(linked_save());
@@ -156,10 +175,15 @@ fn list(args: Args) -> Result<(), Fault> {
 fn stack(mut args: Args) -> Result<(), Fault> {
     let kib = args.number("--kib", 2_048).map_err(Fault::Usage)?;
     args.finish().map_err(Fault::Usage)?;
-    let linked = linked_run().zip(linked_price()).zip(linked_save());
-    let ((run, price), save) = linked.ok_or(without("run"))?;
+    let linked = linked_run().zip(linked_price()).zip(linked_card()).zip(linked_save());
+    let (((run, price), card), save) = linked.ok_or(without("run"))?;
     let bytes = kib as usize * 1024;
-    let told = [compare_stack(run, bytes), compare_priced_stack(price, bytes), compare_saved_stack(save, bytes)];
+    let told = [
+        compare_stack(run, bytes),
+        compare_priced_stack(price, bytes),
+        compare_carded_stack(card, bytes),
+        compare_saved_stack(save, bytes),
+    ];
     for lines in told {
         lines.map_err(difference)?.into_iter().for_each(say);
     }

@@ -12,7 +12,7 @@ pub struct Counts {
     pub runs: u64,
     pub laws: u64,
     pub accepted: u64,
-    refusals: [u64; 11],
+    refusals: [u64; 14],
     ends: [u64; 4],
     /// Runs with a step of the class, for each end.
     classes: [[u64; 3]; 4],
@@ -74,6 +74,12 @@ impl Counts {
         self.end_rows().chain(self.class_rows()).chain(self.refusal_rows(11)).chain(self.owners.rows()).collect()
     }
 
+    /// The rows that a comparison of cards has of its runs: 4 ends, 3 classes of steps to each, and 12 refusals.
+    pub fn of_cards(&self) -> Vec<(String, u64)> {
+        let refusals = self.refusal_rows(11).into_iter().chain([refusal_row(14, &self.refusals)]);
+        self.end_rows().chain(self.class_rows()).chain(refusals).collect()
+    }
+
     fn end_rows(&self) -> impl Iterator<Item = (String, u64)> + '_ {
         End::ALL.iter().map(|end| (format!("end: {}", end.name()), self.ends[*end as usize]))
     }
@@ -84,8 +90,12 @@ impl Counts {
     }
 
     fn refusal_rows(&self, last: usize) -> Vec<(String, u64)> {
-        (1..=last).map(|number| (format!("refusal {number}"), self.refusals[number - 1])).collect()
+        (1..=last).map(|number| refusal_row(number, &self.refusals)).collect()
     }
+}
+
+fn refusal_row(number: usize, refusals: &[u64]) -> (String, u64) {
+    (format!("refusal {number}"), refusals[number - 1])
 }
 
 /// Whether a run has made a step of the class. Every error has an other, its own step, which says nothing.

@@ -1,6 +1,7 @@
-//! The comparison of the engine with the model: the check, the run, the pricing, the save, the reader of nodes, the listing, and
-//! what is printed of them.
+//! The comparison of the engine with the model: the check, the run, the pricing, the card, the save, the reader of nodes, the
+//! listing, and what is printed of them.
 
+pub mod card;
 mod case;
 mod check;
 mod counts;
@@ -22,6 +23,7 @@ mod tested;
 
 use crate::progress::Progress;
 
+pub use card::{compare_card, CardCounts, CardingEngine};
 pub use case::Case;
 pub use check::compare_check;
 pub use counts::{missing, table, Counts};
@@ -32,7 +34,7 @@ pub use price::{compare_price, PriceCounts};
 pub use report::show_file;
 pub use run::compare_run;
 pub use save::{compare_save, SaveCounts, SavingEngine};
-pub use stack::{compare_priced_stack, compare_saved_stack, compare_stack};
+pub use stack::{compare_carded_stack, compare_priced_stack, compare_saved_stack, compare_stack};
 
 /// How many random files, which ones, and whether everything must have been reached.
 #[derive(Clone, Copy)]

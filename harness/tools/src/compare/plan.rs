@@ -22,11 +22,13 @@ pub fn follow(file: &[u8]) -> Followed {
     let mut term = recipe.term;
     let mut sizes = vec![Node::Ml(&term).size()];
     for _ in 0..FOLLOWED {
-        match step(&term) {
-            Step::Next(_, next) if Node::Ml(&next).size() <= MOST_WORDS => term = next,
-            _ => return Followed { sizes, ends: true },
+        let Step::Next(_, next) = step(&term) else { return Followed { sizes, ends: true } };
+        let size = Node::Ml(&next).size();
+        if size > MOST_WORDS {
+            return Followed { sizes, ends: true };
         }
-        sizes.push(Node::Ml(&term).size());
+        term = next;
+        sizes.push(size);
     }
     Followed { sizes, ends: false }
 }

@@ -1,7 +1,9 @@
-//! The engine on a small stack: the deepest terms that 16,384 words allow, and the deepest files, run, priced and saved.
+//! The engine on a small stack: the deepest terms that 16,384 words allow, and the deepest files, run, priced, with a
+//! card and without, and saved.
 
 use super::deepest::{deepest, deepest_cans, deepest_saves, Known, KnownSave};
-use crate::engine::{Price, RecipePriced, RecipePrices, Run, Save};
+use crate::engine::{Card, Price, RecipeCard, RecipePriced, RecipePrices, Run, Save};
+use crate::parallel::for_each;
 use model::file::{file, MOST_BYTES};
 use model::run::MOST_WORDS;
 use model::stack::on_stack;
@@ -13,7 +15,7 @@ pub fn compare_stack(engine: Run, bytes: usize) -> Result<Vec<String>, String> {
         let operation = |first: &mut [u32], second: &mut [u32]| engine(&known.file, u32::MAX, first, second);
         compare(known, known.answer, bytes, operation)
     };
-    deepest().iter().map(run).collect()
+    for_each(&deepest(), run).into_iter().collect()
 }
 
 /// The same with a pricing of those that can be priced.
@@ -24,7 +26,22 @@ pub fn compare_priced_stack(engine: Price, bytes: usize) -> Result<Vec<String>, 
         let answer = RecipePriced { run: known.answer, ..RecipePriced::default() };
         compare(known, answer, bytes, operation).map(|told| format!("priced: {told}"))
     };
-    deepest_cans().iter().map(price).collect()
+    for_each(&deepest_cans(), price).into_iter().collect()
+}
+
+/// The same with a card, which none of these cans has, since none comes to a value.
+pub fn compare_carded_stack(engine: Card, bytes: usize) -> Result<Vec<String>, String> {
+    let prices = RecipePrices::default();
+    let card = |known: &Known| {
+        let operation = |first: &mut [u32], second: &mut [u32]| {
+            let mut card = [7; 410];
+            (engine(&prices, &known.file, u32::MAX, first, second, &mut card), card)
+        };
+        let priced = RecipePriced { run: known.answer, ..RecipePriced::default() };
+        let answer = (RecipeCard { priced, bytes: 0 }, [0; 410]);
+        compare(known, answer, bytes, operation).map(|told| format!("card: {told}"))
+    };
+    for_each(&deepest_cans(), card).into_iter().collect()
 }
 
 /// The same with a save of words that nest as deep as a file does, or deeper.

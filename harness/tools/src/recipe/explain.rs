@@ -62,6 +62,7 @@ fn sentence(number: u32) -> &'static str {
         11 => "a price is over 1,000,000 cents for 1,000 pulses",
         12 => "the file would have more than 16,384 bytes",
         13 => "the buffer is shorter than the file",
+        14 => "the buffer is shorter than the card",
         _ => "the engine gave a number that has no meaning",
     }
 }

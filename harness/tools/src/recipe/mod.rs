@@ -1,5 +1,7 @@
-//! The program `recipe`: recipes as text, made, shown, checked, run, saved, stepped through, priced and outlined.
+//! The program `recipe`: recipes as text, made, shown, checked, run, saved, stepped through, priced, with a card or
+//! without, and outlined.
 
+mod card;
 mod check;
 mod explain;
 mod input;
@@ -15,7 +17,8 @@ mod show;
 mod step;
 
 use crate::args::Args;
-use crate::engine::{linked_check, linked_node, linked_price, linked_run, linked_save, Check, Node, Price, Run, Save};
+use crate::engine::{linked_card, linked_check, linked_node, linked_price, linked_run, linked_save};
+use crate::engine::{Card, Check, Node, Price, Run, Save};
 use std::io::{Error, ErrorKind, Read, Write};
 
 pub use program::program;
@@ -26,6 +29,7 @@ pub struct Engine {
     pub check: Option<Check>,
     pub run: Option<Run>,
     pub price: Option<Price>,
+    pub card: Option<Card>,
     pub save: Option<Save>,
     pub node: Option<Node>,
 }
@@ -33,8 +37,8 @@ pub struct Engine {
 impl Engine {
     /// The functions that this program was built with.
     pub fn linked() -> Engine {
-        let (check, run, price, save) = (linked_check(), linked_run(), linked_price(), linked_save());
-        Engine { check, run, price, save, node: linked_node() }
+        let (check, run, price) = (linked_check(), linked_run(), linked_price());
+        Engine { check, run, price, card: linked_card(), save: linked_save(), node: linked_node() }
     }
 }
 
@@ -87,8 +91,16 @@ pub struct Command {
 }
 
 /// All commands.
-pub const COMMANDS: [Command; 7] =
-    [make::COMMAND, show::COMMAND, check::COMMAND, run::COMMAND, step::COMMAND, price::COMMAND, outline::COMMAND];
+pub const COMMANDS: [Command; 8] = [
+    make::COMMAND,
+    show::COMMAND,
+    check::COMMAND,
+    run::COMMAND,
+    step::COMMAND,
+    price::COMMAND,
+    card::COMMAND,
+    outline::COMMAND,
+];
 
 /// The failure of a command that needs the engine in a program built without it.
 fn without(feature: &str) -> Failure {

@@ -1,11 +1,11 @@
 //! `recipe price`: the engine's pricing, its end, and what each pump and the can are charged.
 
-use super::input::read_input;
+use super::input::{read_input, Input};
 use super::prices::{read_prices, Table};
 use super::run::{capacity, ended, left, refused, steps, term};
 use super::{without, Command, Desk, Failure, Outcome};
 use crate::args::Args;
-use crate::engine::RecipePriced;
+use crate::engine::{RecipePriced, RecipeRun};
 use model::price::{band, items};
 
 pub const COMMAND: Command = Command { name: "price", help: HELP, work: price };
@@ -24,28 +24,60 @@ band 1 (under 100,000) and band 2 (the rest), each at most 1000000. Blanks stand
 follows a # are passed over.
 ";
 
+/// What a pricing is asked for: by which prices, of which recipe, and what it is lent.
+pub struct Asked {
+    pub table: Table,
+    pub input: Input,
+    pub limit: u32,
+    pub capacity: usize,
+}
+
+impl Asked {
+    /// What the command says, by its name.
+    pub fn new(mut args: Args, desk: &mut Desk<'_>, command: &str) -> Result<Asked, Failure> {
+        let capacity = capacity(&mut args)?;
+        let limit = steps(args.number("--limit", 1_000_000)?)?;
+        let name = args.named("--prices", "the name of a price file")?;
+        let name = name.ok_or_else(|| {
+            format!("{command} needs --prices and the name of a price file; see recipe {command} --help")
+        })?;
+        let table = read_prices(&name)?;
+        let input = read_input(args, desk)?;
+        Ok(Asked { table, input, limit, capacity })
+    }
+
+    /// The two buffers of the run.
+    pub fn buffers(&self) -> (Vec<u32>, Vec<u32>) {
+        (vec![0; self.capacity], vec![0; self.capacity])
+    }
+
+    /// A refusal explained; of a price, the place where it stands.
+    pub fn refused(&self, run: &RecipeRun) -> String {
+        let over = self.table.over.as_ref().filter(|_| run.refusal == 11);
+        refused(&self.input, run, self.capacity) + &over.map_or(String::new(), |over| format!("  {over}\n"))
+    }
+}
+
+/// An end without a charge: how the run ended, and what it left.
+pub fn uncharged(run: &RecipeRun, words: &[u32]) -> Result<String, String> {
+    Ok(ended(run) + &left(words)? + "no charge: the run did not end in a value\n")
+}
+
 /// The end of a run, and the charges of its value.
-fn price(mut args: Args, desk: &mut Desk<'_>) -> Outcome {
+fn price(args: Args, desk: &mut Desk<'_>) -> Outcome {
     let engine = desk.engine.price.ok_or(without("run"))?;
-    let capacity = capacity(&mut args)?;
-    let limit = steps(args.number("--limit", 1_000_000)?)?;
-    let name = args.named("--prices", "the name of a price file")?;
-    let name = name.ok_or("price needs --prices and the name of a price file; see recipe price --help")?;
-    let table = read_prices(&name)?;
-    let input = read_input(args, desk)?;
-    let (mut first, mut second) = (vec![0; capacity], vec![0; capacity]);
-    let priced = engine(&table.prices, &input.bytes, limit, &mut first, &mut second);
+    let asked = Asked::new(args, desk, "price")?;
+    let (mut first, mut second) = asked.buffers();
+    let priced = engine(&asked.table.prices, &asked.input.bytes, asked.limit, &mut first, &mut second);
     if priced.run.refusal != 0 {
-        let why = refused(&input, &priced.run, capacity);
-        let over = table.over.filter(|_| priced.run.refusal == 11);
-        return Err(Failure::Refused(why + &over.map_or(String::new(), |over| format!("  {over}\n"))));
+        return Err(Failure::Refused(asked.refused(&priced.run)));
     }
     first.truncate(priced.run.left as usize);
-    let rest = match priced.run.end {
-        0 => bill(&table, &first, &priced)?,
-        _ => left(&first)? + "no charge: the run did not end in a value\n",
+    let text = match priced.run.end {
+        0 => ended(&priced.run) + &bill(&asked.table, &first, &priced)?,
+        _ => uncharged(&priced.run, &first)?,
     };
-    Ok(write!(desk.output, "{}{rest}", ended(&priced.run))?)
+    Ok(desk.output.write_all(text.as_bytes())?)
 }
 
 /// A line of the table: pump, pulses, band, price and charge.

@@ -6,7 +6,7 @@ use model::on_large_stack;
 use std::io::Write;
 
 const HELP: &str = "\
-usage: recipe make | show | check | run | step | price | outline   [FILE] [options]
+usage: recipe make | show | check | run | step | price | card | outline   [FILE] [options]
 
 make     a text to a recipe file
 show     a recipe file as text
@@ -14,9 +14,10 @@ check    whether the engine accepts a recipe, a refusal explained
 run      the end of a run, where its steps went, and the term left; with --save it is kept, to go on later
 step     the term at each step of a run
 price    the end of a run, and what each pump and the can are charged
+card     the batch card of a can, a line for each pump and one for the total
 outline  the nodes of a recipe, one to a line, each with its place
 
-`recipe COMMAND --help` says more. Status 0: done; 1: the file is refused, or a price, or a save; 2: a file cannot be
+`recipe COMMAND --help` says more. Status 0: done; 1: the file is refused, or a price, a card or a save; 2: a file cannot be
 read or written, or the command is not understood. What is printed of a status that is not 0 goes to standard error.
 ";
 
@@ -31,7 +32,7 @@ pub fn program(words: Vec<String>, desk: &mut Desk<'_>, errors: &mut dyn Write) 
         (None, true) => print(desk, HELP),
         (Some(command), false) => work(command, args, desk),
         (None, false) => {
-            Err(Failure::Other("make, show, check, run, step, price or outline is due; see --help".into()))
+            Err(Failure::Other("make, show, check, run, step, price, card or outline is due; see --help".into()))
         }
     };
     let (status, message) = match outcome {

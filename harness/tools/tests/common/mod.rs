@@ -1,11 +1,12 @@
 //! What the tests of the program `recipe` share: its parts called in this process, the model in the engine's place.
 #![allow(dead_code)]
 
+pub mod carding;
 pub mod pricing;
 pub mod saving;
 
 use std::io::{Error, ErrorKind, Write};
-use tools::engine::{Check, Node, Price, Run, Save};
+use tools::engine::{Card, Check, Node, Price, Run, Save};
 use tools::recipe::{program, Desk, Engine};
 use tools::stand_in;
 
@@ -37,7 +38,8 @@ pub fn typed_with(
 ) -> u8 {
     let (check, run, price) =
         (Some(stand_in::check as Check), Some(stand_in::run as Run), Some(stand_in::price as Price));
-    let engine = Engine { check, run, price, save: Some(save), node: Some(stand_in::node as Node) };
+    let (card, node) = (Some(stand_in::card as Card), Some(stand_in::node as Node));
+    let engine = Engine { check, run, price, card, save: Some(save), node };
     let mut desk = Desk { engine, input: &mut input, output };
     program(words.iter().map(|word| word.to_string()).collect(), &mut desk, errors)
 }

@@ -22,7 +22,7 @@ impl PriceCase {
         counts.count(self, &model);
         match seen_of(&model) == self.by_engine(engine) {
             true => Ok(model),
-            false => Err(self.shrunk(engine).shown(engine)),
+            false => Err(self.shrunk(&mut |case| case.differs(engine)).shown(engine)),
         }
     }
 
@@ -33,7 +33,7 @@ impl PriceCase {
     }
 
     /// What the engine answers and leaves in buffers full of rubbish.
-    fn by_engine(&self, engine: Price) -> Seen<RecipePriced> {
+    pub fn by_engine(&self, engine: Price) -> Seen<RecipePriced> {
         lend(&self.lent, |first, second| engine(&self.prices, &self.lent.file, self.lent.limit, first, second))
     }
 
@@ -42,22 +42,22 @@ impl PriceCase {
         self.lent.is_short() && seen_of(&self.by_model()) != self.by_engine(engine)
     }
 
-    /// A smaller case in which the two still differ.
-    fn shrunk(&self, engine: Price) -> PriceCase {
+    /// A smaller case for which the property still holds.
+    pub fn shrunk(&self, holds: &mut dyn FnMut(&PriceCase) -> bool) -> PriceCase {
         let mut best = self.clone();
         for _ in 0..2 {
             let prices = best.prices;
-            best.lent = best.lent.shrunk(&mut |lent| PriceCase { prices, lent: lent.clone() }.differs(engine));
-            best.shrink_prices(engine);
+            best.lent = best.lent.shrunk(&mut |lent| holds(&PriceCase { prices, lent: lent.clone() }));
+            best.shrink_prices(holds);
         }
         best
     }
 
-    /// Makes prices smaller while there is a difference.
-    fn shrink_prices(&mut self, engine: Price) {
+    /// Makes prices smaller while the property holds.
+    fn shrink_prices(&mut self, holds: &mut dyn FnMut(&PriceCase) -> bool) {
         let with = |prices: RecipePrices| PriceCase { prices, lent: self.lent.clone() };
         let mut best = self.prices;
-        while let Some(smaller) = smaller_prices(&best).into_iter().find(|prices| with(*prices).differs(engine)) {
+        while let Some(smaller) = smaller_prices(&best).into_iter().find(|prices| holds(&with(*prices))) {
             best = smaller;
         }
         self.prices = best;

@@ -11,6 +11,9 @@ use model::file::{bytes_of, file};
 /// The refusals in the order in which they are given.
 pub const ORDER: [u32; 11] = [11, 1, 2, 3, 4, 5, 6, 7, 9, 8, 10];
 
+/// The items of a can without the fault of 10.
+pub const FEW: usize = 3;
+
 /// Every choice of faults.
 pub fn every() -> impl Iterator<Item = Faults> {
     faults::every(&ORDER)
@@ -54,7 +57,7 @@ fn term(faults: Faults) -> Vec<u32> {
 
 /// 10: more than nine items. 7: items that are not of the declared type. 9: the declared type is not {N}.
 fn list(faults: Faults) -> Vec<u32> {
-    let count = if faults.has(10) { 12 } else { 3 };
+    let count = if faults.has(10) { 12 } else { FEW };
     let numbers = faults.has(7) == faults.has(9);
     let item = |pulses: u32| if numbers { vec![25, 17 + 256 * pulses] } else { vec![25, 30, 2, 33 + 256 * pulses] };
     let items = PULSES.iter().cycle().skip(faults.chosen as usize % PULSES.len()).take(count);

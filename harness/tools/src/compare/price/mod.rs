@@ -53,7 +53,7 @@ fn priced_alike(first: &Priced, second: &Priced) -> bool {
 }
 
 /// A can, a recipe of any type, or one of these damaged.
-fn any_file(random: &mut Random) -> Vec<u8> {
+pub fn any_file(random: &mut Random) -> Vec<u8> {
     let mut bytes = if random.chance(85) { can_file(random) } else { well_typed_file(random) };
     for _ in 0..random.weighted(&[(78, 0), (17, 1), (4, 2), (1, 4)]) {
         bytes = damage(random, bytes);
