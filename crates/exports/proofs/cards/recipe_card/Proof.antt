@@ -17,19 +17,19 @@ module _ (c : tie.After-card) where
 narrow-requires : tie.Need-narrow-requires
 narrow-requires c κs =
     let k = c .before .before .before .before .before .before .before in
-    card-bytes _ (lent-it k) _ (k .card .ensures)
+    card-bytes _ _ _ (k .card .ensures)
 
 refused-by-requires : tie.Need-refused-by-requires
 refused-by-requires c κs =
     let g = c .before .outcome .given in
     let k = c .before .before .before .before .before .before .before .before .before .before .before in
-    card-place _ (lent-it k) _ (k .card .ensures) (g .0 .0) (g .1)
+    card-place _ _ _ (k .card .ensures) (g .0 .0) (g .1)
 
 ended-requires : tie.Need-ended-requires
 ended-requires c κs =
     let g = c .before .outcome2 .given in
     let k = c .before .before .before .before .before .before .before .before .before .before .before in
-    card-words _ (lent-it k) _ (k .card .ensures) (g .0 .0) (g .1)
+    card-words _ _ _ (k .card .ensures) (g .0 .0) (g .1)
 
 returns : tie.Need-returns
 returns c =
