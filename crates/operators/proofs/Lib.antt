@@ -1,0 +1,3 @@
+pub mod OnePart
+pub mod TwoPart
+pub mod Choice
