@@ -14,7 +14,8 @@ use Rattle.nodes.proofs.Terms.{Shaped, a-variable, a-number, a-lambda, one-part
 use Rattle.pieces.specs.declared.became.Became.{Became}
 use Rattle.pieces.specs.declared.became.Became.the-variants.{Nothing, Raises}
 use Rattle.pieces.specs.Pieces.{Tells}
-use Rattle.operators.specs.Chosen.{OfOne, OfTwo, OfIf}
+use Rattle.unary.specs.Chosen.{OfOne}
+use Rattle.binary.specs.Chosen.{OfTwo, OfIf}
 use Rattle.conversions.specs.Chosen.{OfBoundary}
 use Rattle.contraction.specs.Chosen.{OfNode}
 use Rattle.pieces.proofs.ByForm.{size-some}

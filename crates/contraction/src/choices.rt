@@ -1,12 +1,12 @@
 // What a node becomes whose turn it is. It only reads.
 
+use binary::contract_2;
+use binary::of_if;
 use conversions::converted;
 use nodes::kinds::Kinds;
 use nodes::kinds::row_at;
-use operators::binary::contract_2;
-use operators::binary::of_if;
-use operators::unary::contract_1;
 use pieces::became::Became;
+use unary::contract_1;
 ghost use mathlib.Core.Path.{_≡_};
 ghost use lib.ListN.{length};
 ghost use Rattle.writing.specs.Given.{Given};

@@ -1,3 +1,0 @@
-pub mod OnePart
-pub mod TwoPart
-pub mod Choice
