@@ -1,10 +1,1 @@
-pub mod ByForm
-pub mod Parts
-pub mod Looks
-pub mod OnePart
-pub mod TwoPart
-pub mod Choice
-pub mod Crossing
-pub mod CrossingLists
-pub mod CrossingFunctions
 pub mod Dispatch

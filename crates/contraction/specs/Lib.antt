@@ -1,3 +1,1 @@
-pub mod Forms
-pub mod Pieces
 pub mod Chosen

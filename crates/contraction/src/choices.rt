@@ -1,17 +1,17 @@
 // What a node becomes whose turn it is. It only reads.
 
-use crate::became::Became;
-use crate::binary::contract_2;
-use crate::binary::of_if;
-use crate::conversions::converted;
-use crate::unary::contract_1;
+use binary::contract_2;
+use binary::of_if;
+use conversions::converted;
 use nodes::kinds::Kinds;
 use nodes::kinds::row_at;
+use pieces::became::Became;
+use unary::contract_1;
 ghost use mathlib.Core.Path.{_≡_};
 ghost use lib.ListN.{length};
 ghost use Rattle.writing.specs.Given.{Given};
 ghost use Rattle.writing.specs.Spans.{span};
-ghost use Rattle.contraction.specs.Pieces.{BecameIn};
+ghost use Rattle.pieces.specs.Pieces.{BecameIn};
 ghost use Rattle.contraction.specs.Chosen.{OfNode};
 
 // What the node that the words start with becomes, whose words end at `end`.

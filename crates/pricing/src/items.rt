@@ -1,7 +1,7 @@
 // The items of a list of numbers, in words.
 
-use contraction::numbers::number_at;
 use nodes::kinds::Kinds;
+use pieces::numbers::number_at;
 use writing::spans::skip;
 ghost use mathlib.Core.Path.{_≡_};
 ghost use mathlib.Core.Bool.{_&&_};

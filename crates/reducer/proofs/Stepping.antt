@@ -19,11 +19,11 @@ use Rattle.calculus.proofs.Turns as turns
 use Rattle.writing.specs.Wrote.{Wrote}
 use Rattle.writing.proofs.Measures.{span-tree}
 use Rattle.writing.proofs.Stores.{then, before, wrote-as}
-use Rattle.contraction.specs.declared.became.Became.{Became}
-use Rattle.contraction.specs.declared.became.Became.the-variants.{Nothing, Raises, Becomes}
-use Rattle.contraction.specs.declared.became.Piece.{Piece}
-use Rattle.contraction.specs.Pieces.{Gives, Tells}
-use Rattle.contraction.specs.Chosen.{OfNode, Writes}
+use Rattle.pieces.specs.declared.became.Became.{Became}
+use Rattle.pieces.specs.declared.became.Became.the-variants.{Nothing, Raises, Becomes}
+use Rattle.pieces.specs.declared.became.Piece.{Piece}
+use Rattle.pieces.specs.Pieces.{Gives, Tells, Writes}
+use Rattle.contraction.specs.Chosen.{OfNode}
 use Rattle.writer.specs.Kept as writer
 use Rattle.reducer.specs.declared.turns.Found.{Found}
 use Rattle.reducer.specs.declared.turns.Found.the-variants as found

@@ -17,9 +17,9 @@ use Rattle.nodes.specs.Table.{rowOf}
 use Rattle.writing.specs.Spans.{span}
 use Rattle.writing.proofs.Measures.{span-tree, span-none}
 use Rattle.writing.proofs.Lengths.{span-next, span-parts, shape-parts}
-use Rattle.contraction.specs.Forms.{formNumber, formAt}
+use Rattle.pieces.specs.Forms.{formNumber, formAt}
 use Rattle.nodes.proofs.Terms.{Shaped, a-variable, a-number, a-lambda, one-part, two-parts, an-if0, a-nil, a-wrong, an-ms, an-sm, by-shape}
-use Rattle.contraction.proofs.ByForm.{form-at}
+use Rattle.pieces.proofs.ByForm.{form-at}
 use Rattle.reducer.specs.Placed.{taking, Alone, Enters, Looked}
 
 module _ (ws : List ℕ) (shape : ℕ) (shape-is : shape ≡ rowOf (getD ws 0 0 % 256) .shape) (some : 1 ≤ length ws) where

@@ -18,7 +18,7 @@ use Rattle.calculus.proofs.Values.{value-turn}
 use Rattle.writing.specs.Spans.{span}
 use Rattle.writing.proofs.Measures.{span-end}
 use Rattle.writing.proofs.Lengths.{span-next, span-join}
-use Rattle.contraction.proofs.ByForm.{size-some}
+use Rattle.pieces.proofs.ByForm.{size-some}
 use Rattle.reducer.specs.declared.turns.Found.{Found}
 use Rattle.reducer.specs.declared.turns.Found.the-variants.{Nothing}
 use Rattle.reducer.specs.declared.turns.From.{From}

@@ -9,10 +9,10 @@ use Rattle.calculus.specs.Reduction.{becomes, contract, Outcome, value, raised,
 use Rattle.calculus.specs.Splices.{wordsBefore, Splice}
 use Rattle.writing.specs.Wrote.{Wrote}
 use Rattle.writing.specs.Spans.{span}
-use Rattle.contraction.specs.Pieces.{Placed}
+use Rattle.pieces.specs.Pieces.{Placed}
 use Rattle.contraction.specs.Chosen.{OfNode}
-use Rattle.contraction.specs.declared.became.Piece.{Piece}
-use Rattle.contraction.specs.declared.became.Became.the-variants.{Becomes}
+use Rattle.pieces.specs.declared.became.Piece.{Piece}
+use Rattle.pieces.specs.declared.became.Became.the-variants.{Becomes}
 use Rattle.reducer.specs.declared.turns.From.{From}
 use Rattle.reducer.specs.declared.steps.Change.{Change}
 use Rattle.reducer.specs.declared.steps.Move.{Move}

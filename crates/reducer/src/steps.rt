@@ -3,11 +3,11 @@
 use crate::turns::Found;
 use crate::turns::From;
 use crate::turns::turn;
-use contraction::became::Became;
-use contraction::became::Piece;
 use contraction::choices::contract;
-use contraction::pieces::write;
 use nodes::kinds::Kinds;
+use pieces::became::Became;
+use pieces::became::Piece;
+use pieces::write;
 use writer::write_next;
 ghost use Rattle.writing.specs.Given.{Given};
 ghost use Rattle.reducer.specs.Placed.{FewDue, beginning, Spanned, Turns};

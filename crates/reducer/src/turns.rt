@@ -2,9 +2,9 @@
 // remembered, since it is the first whose parts are all values. The pass need not begin at the root: a step leaves the words before its node as
 // they were, so the next pass may begin at the node that waits for it.
 
-use contraction::forms::form_at;
 use nodes::kinds::Kinds;
 use nodes::kinds::row_at;
+use pieces::forms::form_at;
 use writing::spans::skip;
 ghost use mathlib.Core.Bool.{true, cond};
 ghost use mathlib.Core.Path.{_≡_};
@@ -57,7 +57,7 @@ fn look_at(table: &Kinds, words: &[u32]) -> Look
         return taking(1, 0, 0, false);
     }
     if shape == nodes::kinds::OPERATOR_2 {
-        return taking(1, 2, 0, form_at(table, words) == contraction::forms::OTHER);
+        return taking(1, 2, 0, form_at(table, words) == pieces::forms::OTHER);
     }
     if shape == nodes::kinds::OPERATOR_1 {
         return taking(1, 1, 0, true);
@@ -65,7 +65,7 @@ fn look_at(table: &Kinds, words: &[u32]) -> Look
     if shape == nodes::kinds::IF0 {
         return taking(1, 1, 2, true);
     }
-    let own = form_at(table, words) == contraction::forms::OTHER;
+    let own = form_at(table, words) == pieces::forms::OTHER;
     if shape == nodes::kinds::BOUNDARY {
         return taking(1 + skip(table, &words[1..], 1), 1, 0, own);
     }

@@ -8,8 +8,8 @@ use native.Mathlib.Omega.{arith}
 use Rattle.calculus.specs.Scope.{partCount}
 use Rattle.nodes.specs.Table.{rowOf}
 use Rattle.writing.proofs.Lengths.{partsBy, shape-parts}
-use Rattle.contraction.specs.Chosen.{NodeIn}
-use Rattle.contraction.proofs.Parts as parts
+use Rattle.pieces.specs.Parts.{NodeIn}
+use Rattle.pieces.proofs.Parts as parts
 use Rattle.contraction.proofs.Dispatch.{node-none, node-wrong, node-one, node-two, node-if, node-boundary, node-other}
 use Rattle.contraction.proofs.choices.contract.Statement.{statement}
 use Rattle.contraction.proofs.choices.contract.Tie as tie

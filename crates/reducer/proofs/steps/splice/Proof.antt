@@ -6,7 +6,7 @@ use lib.ListN.{length, drop, length-drop}
 use native.Mathlib.Omega.{arith}
 use Rattle.nodes.proofs.Ways.{part-length}
 use Rattle.writing.proofs.Lengths.{span-within}
-use Rattle.contraction.specs.Pieces.{Placed}
+use Rattle.pieces.specs.Pieces.{Placed}
 use Rattle.reducer.proofs.Stepping.{spliced}
 use Rattle.reducer.proofs.steps.splice.Statement.{statement}
 use Rattle.reducer.proofs.steps.splice.Tie as tie

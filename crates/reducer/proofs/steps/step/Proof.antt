@@ -8,7 +8,7 @@ use borrow.Rule.Slice.PartAt.{part-to-end}
 use native.Mathlib.Omega.{arith}
 use Rattle.nodes.proofs.Ways.{part-length}
 use Rattle.writing.specs.Spans.{span}
-use Rattle.contraction.specs.Pieces.{BecameIn}
+use Rattle.pieces.specs.Pieces.{BecameIn}
 use Rattle.contraction.specs.Chosen.{OfNode}
 use Rattle.reducer.specs.declared.turns.Found.the-variants.{At}
 use Rattle.reducer.specs.Placed.{Spanned}

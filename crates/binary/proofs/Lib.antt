@@ -1,0 +1,2 @@
+pub mod TwoPart
+pub mod Choice

@@ -1,0 +1,3 @@
+pub mod Crossing
+pub mod CrossingLists
+pub mod CrossingFunctions

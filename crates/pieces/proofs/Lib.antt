@@ -1,0 +1,4 @@
+pub mod ByForm
+pub mod Parts
+pub mod Looks
+pub mod Written
