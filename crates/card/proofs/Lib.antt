@@ -1,3 +1,4 @@
 pub mod Laying
 pub mod Carding
 pub mod Laws
+pub mod Cards

@@ -3,3 +3,4 @@ pub mod Refusals
 pub mod Answered
 pub mod Parts
 pub mod Laws
+pub mod Cards
