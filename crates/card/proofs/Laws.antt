@@ -78,7 +78,7 @@ module _ (prices : Prices) (bytes : List ℕ) (limit first second : ℕ) where
       text-is = ap (cardAt b) v ∙ ap (λ (l : List ℕ). card l (b .charges) (b .total)) (listed .3)
 
       long : length (card ns (b .charges) (b .total)) ≡ cardBytes ns
-      long = layout.laws .long ns (b .charges) (b .total) fitting
+      long = layout.laws .reads ns (b .charges) (b .total) fitting .long
 
       value-of : ValueOf (b .run) ns
       value-of = record { ends = v; is = listed .1 }
@@ -152,7 +152,7 @@ few-bytes b room v c (card-of ns y f k) q =
     omega (
       arith,
       ap (λ (z : Card). length (z .text)) (passed-injective _ c q),
-      layout.laws .long ns (b .charges) (b .total) f,
+      layout.laws .reads ns (b .charges) (b .total) f .long,
       f .few,
     )
 few-bytes b room v c (refused-14 ns y f k) q = absurd (not-both 14 0 c q)

@@ -35,7 +35,7 @@ use Rattle.pricing.proofs.Laws as costing-laws
 use Rattle.pricing.proofs.Laws.{own-run, billed-run, pricing-number}
 use Rattle.pricing.proofs.Listing.{lists-once}
 use Rattle.layout.specs.Layout as layout
-use Rattle.layout.specs.Laws.{Fits}
+use Rattle.layout.specs.Laws.{Fits, ByColumns}
 use Rattle.layout.proofs.Laws.{laws}
 use Rattle.card.specs.Carding.{Card, carding}
 use Rattle.card.specs.Laws.{cardBytes, Lays, no-card, card-of, refused-14}
@@ -48,7 +48,7 @@ use Rattle.card.specs.declared.Outcome.the-variants.{Refused, Ended}
 use Rattle.card.proofs.Laws.{exactly, billed-card, card-grows}
 use Rattle.demands_of_cans.specs.Priced.{PricedOnce}
 use Rattle.demands_of_cans.specs.Carded as demanded
-use Rattle.demands_of_cans.specs.Carded.{outcome, Finishes, asCard, pricedPart, TooShort, ByColumns, Written, CardedOnce, SameCard, CardedTwice}
+use Rattle.demands_of_cans.specs.Carded.{outcome, Finishes, asCard, pricedPart, TooShort, Written, CardedOnce, SameCard, CardedTwice}
 use Rattle.demands.proofs.Running as running
 use Rattle.demands_of_cans.proofs.Costing as costing
 use Rattle.demands_of_cans.proofs.Costing.{priced-once, result-is}
@@ -234,16 +234,14 @@ module _ (prices : Prices) (l : CardLent) where
         card-is = h .card-is ∙ ap (λ (v : Verdict Card). padded (length (l .card)) (textOf v)) made-is ∙ ap (padded (length (l .card))) t
 
       by-columns : (ns charges : List ℕ) (total : ℕ) → Fits ns charges total → made .text ≡ layout.card ns charges total
-          → cardBytes ns ≤ length (l .card)
-          → ByColumns ns (record { charge = charges; total = total }) (take (g .answer .bytes) (g .card))
+          → cardBytes ns ≤ length (l .card) → ByColumns ns charges total (take (g .answer .bytes) (g .card))
       by-columns ns charges total f t k =
           let text = layout.card ns charges total in
-          let long = laws .long ns charges total f in
+          let reads = laws .reads ns charges total f in
           let is : take (g .answer .bytes) (g .card) ≡ text =
           ap (take (g .answer .bytes)) (card-is text t)
-          ∙ padded-take (length (l .card)) (g .answer .bytes) text (omega (arith, long, k)) (bytes-are text t) in
-          subst (ByColumns ns (record { charge = charges; total = total })) (sym is)
-          record { long = long; pumps = λ i j. laws .pump ns charges total i f j; last = laws .last ns charges total f }
+          ∙ padded-take (length (l .card)) (g .answer .bytes) text (omega (arith, reads .long, k)) (bytes-are text t) in
+          subst (ByColumns ns charges total) (sym is) reads
 
       written-by : (v : Verdict Card) → v ≡ passed made → Lays (made .bill) (length (l .card)) v → Written l g x
       written-by v e (no-card n) =
@@ -255,9 +253,9 @@ module _ (prices : Prices) (l : CardLent) where
           let text-by =
           ap (λ (c : Charges). layout.card ns (c .charge) (c .total)) (sym charges-are) in
           demanded.card-of ns (ends-as ∙ y .ends) (words-left ∙ y .is)
-          (bytes-are _ t ∙ laws .long ns (made .bill .charges) (made .bill .total) f)
+          (bytes-are _ t ∙ laws .reads ns (made .bill .charges) (made .bill .total) f .long)
           (card-is _ (t ∙ text-by))
-          (subst (λ (c : Charges). ByColumns ns c (take (g .answer .bytes) (g .card))) (sym charges-are)
+          (subst (λ (c : Charges). ByColumns ns (c .charge) (c .total) (take (g .answer .bytes) (g .card))) (sym charges-are)
           (by-columns ns (made .bill .charges) (made .bill .total) f t k))
       written-by v e (refused-14 ns y f k) = absurd (not-both 14 0 made e)
 

@@ -1,10 +1,10 @@
 -- Document 02, U7: the demands of the card, of one call, or of one pair of calls: what the contracts of `card_once` and `card_twice` in src/lib.rt
 -- say.
-use Prim.Native.Nat.{ℕ, _+_, _≤_, _<_}
+use Prim.Native.Nat.{ℕ, _≤_, _<_}
 use mathlib.Core.List.{List}
 use mathlib.Core.Logic.{_⊎_, _↔_}
 use mathlib.Core.Path.{_≡_}
-use lib.ListN.{length, take, getD, replicate}
+use lib.ListN.{length, take, replicate}
 use Rattle.calculus.specs.Trees.{N, list, ml, Term}
 use Rattle.calculus.specs.Words.{words, size}
 use Rattle.calculus.specs.Accepted.{Accepted}
@@ -16,7 +16,6 @@ use Rattle.ends.specs.Results.{endOf, told}
 use Rattle.engine.specs.Lent.{room}
 use Rattle.charges.specs.Prices.{Prices}
 use Rattle.charges.specs.Laws.{Within}
-use Rattle.charges.specs.declared.Charges.{Charges}
 use Rattle.pricing.specs.Items.{listOf}
 use Rattle.pricing.specs.Laws.{ValueOf}
 use Rattle.pricing.specs.Answered.{noCharges, Returned, returned}
@@ -24,7 +23,7 @@ use Rattle.pricing.specs.declared.Unpriced.the-variants.{Items}
 use Rattle.pricing.specs.declared.Outcome as pricing
 use Rattle.pricing.specs.declared.Outcome.the-variants as priced
 use Rattle.layout.specs.Layout.{card}
-use Rattle.layout.specs.Laws.{lineAt, PumpLine, LastLine}
+use Rattle.layout.specs.Laws.{ByColumns}
 use Rattle.card.specs.Laws.{cardBytes}
 use Rattle.card.specs.Refusals.{numberOf}
 use Rattle.card.specs.Answered.{CardLent, CardReturned}
@@ -60,19 +59,13 @@ TooShort l =
     (e : Term ml) × Accepted (l .run .bytes) (list N) e × (size e ≤ room (l .run))
     × (x : Ending (l .run .limit) (room (l .run)) e) × (ns : List ℕ) × ValueOf (x .result) ns × (length ns ≤ 9) × (length (l .card) < cardBytes ns)
 
--- A text is a card by its columns: a line for each item, with the pump's number, its pulses and its charge, and the last line with the total.
-pub record ByColumns (ns : List ℕ) (charges : Charges) (text : List ℕ) : Type 0 where
-  pub long : length text ≡ cardBytes ns
-  pub pumps : (k : ℕ) → k < length ns → PumpLine (k + 1) (getD ns k 0) (getD (charges .charge) k 0) (lineAt k text)
-  pub last : LastLine (charges .total) (lineAt (length ns) text)
-
--- What stands in the card's buffer at an end: "An end without a charge writes no card"; at a value the card of the items that are left. "The bytes
--- past the card are zero."
+-- What stands in the card's buffer at an end: "An end without a charge writes no card"; at a value the card of the items that are left, also as its
+-- columns are read. "The bytes past the card are zero."
 pub data Written (l : CardLent) (g : CardReturned) (x : Report) : Type 0 where
   nothing : ¬ (endOf (x .end) ≡ valued) → g .answer .bytes ≡ 0 → g .card ≡ replicate (length (l .card)) 0 → Written l g x
   card-of : (ns : List ℕ) → endOf (x .end) ≡ valued → take (x .left) (g .first) ≡ words (listOf ns) → g .answer .bytes ≡ cardBytes ns
       → g .card ≡ padded (length (l .card)) (card ns (g .answer .charges .charge) (g .answer .charges .total))
-      → ByColumns ns (g .answer .charges) (take (g .answer .bytes) (g .card)) → Written l g x
+      → ByColumns ns (g .answer .charges .charge) (g .answer .charges .total) (take (g .answer .bytes) (g .card)) → Written l g x
 
 -- Demands 1 and 2 of one card: it finishes; by 14 exactly where it is due; else as pricing does; and its buffer holds the card.
 pub record CardedOnce (prices : Prices) (l : CardLent) (g : CardReturned) : Type 0 where

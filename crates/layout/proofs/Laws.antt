@@ -1,16 +1,18 @@
 -- The laws of the card's layout: a line is fields of fixed width, one after the other. Assumes nothing.
 use Prim.Native.Nat.{ℕ, zero, suc, _+_, _*_, _-_, _≤_, _<_}
+use mathlib.Core.Bool.{Bool, true, false, cond}
 use mathlib.Core.List.{List, [], _∷_, _++_, append-assoc}
 use mathlib.Core.Path.{_≡_, refl, sym, ap, _∙_, subst}
 use native.Mathlib.Omega.{arith}
-use lib.ListN.{length, take, drop, getD, replicate, length-append, length-replicate}
-use lib.Seq.{take-all, take-at, drop-at, drop-drop}
-use borrow.Author.Tests.{ne-eqb}
+use lib.Dec.{eqb}
+use lib.ListN.{length, take, drop, getD, replicate, length-append, length-replicate, length-take, length-drop, take-append-drop}
+use lib.Seq.{take-all, take-at, drop-at, drop-drop, take-add}
+use borrow.Author.Tests.{ne-eqb, eqb-true}
 use Rattle.text.specs.Decimal.{decimal, Digits}
 use Rattle.text.specs.Characters.{blank, lineFeed, characters}
 use Rattle.text.proofs.Decimals.{decimal-length, decimal-iff}
 use Rattle.layout.specs.Layout.{rightTo, ended, pumpLine, lastLine, pumpLines, card}
-use Rattle.layout.specs.Laws.{Fits, lineAt, columns, Printed, Line, unblanked, Shows, PumpLine, LastLine, Card}
+use Rattle.layout.specs.Laws.{Fits, lineAt, columns, Printed, Line, unblanked, Shows, PumpLine, LastLine, ByColumns, Card}
 
 -- A text in a field of a width, blanks before it.
 abbrev field : ℕ → List ℕ → List ℕ
@@ -275,5 +277,118 @@ card-empty : (charges : List ℕ) (total : ℕ) → card [] charges total ≡ la
 unfolding card pumpLines
 card-empty charges total = refl
 
+-- Another text that reads so. A text of a width is a field, by what stands behind its blanks.
+few-behind : (cs : List ℕ) → length (unblanked cs) ≤ length cs
+few-behind [] = omega arith
+few-behind (c ∷ cs) = by (eqb c blank) (few-behind cs)
+  where
+    by : (b : Bool) → length (unblanked cs) ≤ length cs → length (cond b (unblanked cs) (c ∷ cs)) ≤ suc (length cs)
+    by true h = omega (arith, h)
+    by false h = omega arith
+
+blanks-before : (cs : List ℕ) → cs ≡ replicate (length cs - length (unblanked cs)) blank ++ unblanked cs
+blanks-before [] = refl
+blanks-before (c ∷ cs) = by (eqb c blank) refl (blanks-before cs)
+  where
+    by : (b : Bool) → eqb c blank ≡ b → cs ≡ replicate (length cs - length (unblanked cs)) blank ++ unblanked cs
+        → c ∷ cs ≡ replicate (suc (length cs) - length (cond b (unblanked cs) (c ∷ cs))) blank ++ cond b (unblanked cs) (c ∷ cs)
+    by true q h =
+        let e : suc (length cs) - length (unblanked cs) ≡ suc (length cs - length (unblanked cs)) = omega (arith, few-behind cs) in
+        rw (e, eqb-true c blank q) (ap (λ (l : List ℕ). blank ∷ l) h)
+    by false q h = let e : suc (length cs) - suc (length cs) ≡ 0 = omega arith in rw e
+
+field-only : (a b w n : ℕ) (line : List ℕ) → length (columns a b line) ≡ w → Shows a b n line → columns a b line ≡ field w (decimal n)
+field-only a b w n line l s =
+    let d = decimal-iff n (unblanked (columns a b line)) .0 s in
+    blanks-before (columns a b line) ∙ ap (λ (t : List ℕ). replicate (length (columns a b line) - length t) blank ++ t) d
+    ∙ ap (λ (i : ℕ). replicate (i - length (decimal n)) blank ++ decimal n) l
+
+-- A line is what stands before a column, in the columns from there to 32, and the blanks behind.
+module _ (line : List ℕ) (l : Line line) where
+  enough : 40 ≤ length line
+  enough = omega (arith, l .forty, length-take 40 line)
+
+  parted : (a w : ℕ) → a + w ≡ 32 → line ≡ (take a line ++ take w (drop a line) ++ take 8 (drop 32 line)) ++ lineFeed ∷ []
+  parted a w q =
+      l .ends
+      ∙ ap (λ (t : List ℕ). t ++ lineFeed ∷ [])
+      (take-add 32 8 line ∙ ap (λ (t : List ℕ). t ++ take 8 (drop 32 line)) (ap (λ (n : ℕ). take n line) (sym q) ∙ take-add a w line))
+
+  wide-enough : (a b : ℕ) → 1 ≤ a → b ≤ 40 → length (columns a b line) ≡ b + 1 - a
+  wide-enough a b h k = omega (arith, length-take (b + 1 - a) (drop (a - 1) line), length-drop (a - 1) line, enough)
+
+  made-only : (a w n : ℕ) → a + w ≡ 32 → Shows (a + 1) 32 n line → columns 33 40 line ≡ last-blanks
+      → line ≡ (take a line ++ field w (decimal n) ++ last-blanks) ++ lineFeed ∷ []
+  made-only a w n q s b =
+      let width : 32 + 1 - (a + 1) ≡ w = omega (arith, q) in
+      let start : a + 1 - 1 ≡ a = omega arith in
+      let same : columns (a + 1) 32 line ≡ take w (drop a line) =
+      ap (λ (k : ℕ). take k (drop (a + 1 - 1) line)) width ∙ ap (λ (k : ℕ). take w (drop k line)) start in
+      let number = field-only (a + 1) 32 w n line (wide-enough (a + 1) 32 (omega arith) (omega arith) ∙ width) s in
+      parted a w q
+      ∙ ap (λ (t : List ℕ). (take a line ++ t ++ take 8 (drop 32 line)) ++ lineFeed ∷ []) (sym same ∙ number)
+      ∙ ap (λ (t : List ℕ). (take a line ++ field w (decimal n) ++ t) ++ lineFeed ∷ []) b
+
+pump-only : (pump pulses charge : ℕ) → pump ≤ 9 → pulses ≤ 4294967295 → charge ≤ 4294967295000 → (line : List ℕ)
+    → PumpLine pump pulses charge line → line ≡ pumpLine pump pulses charge
+pump-only pump pulses charge p n c line r =
+    let l = r .is-line in
+    let first = field-only 1 2 2 pump line (wide-enough line l 1 2 (omega arith) (omega arith)) (r .number) in
+    let second = field-only 3 16 14 pulses line (wide-enough line l 3 16 (omega arith) (omega arith)) (r .gives) in
+    let front : take 16 line ≡ field 2 (decimal pump) ++ field 14 (decimal pulses) =
+    take-add 2 14 line ∙ ap (λ (t : List ℕ). t ++ take 14 (drop 2 line)) first ∙ ap (λ (t : List ℕ). field 2 (decimal pump) ++ t) second in
+    made-only line l 16 16 charge refl (r .costs) (r .blanks)
+    ∙ ap (λ (t : List ℕ). (t ++ field 16 (decimal charge) ++ last-blanks) ++ lineFeed ∷ []) front
+    ∙ sym (pump-of pump pulses charge p n c)
+
+last-only : (total : ℕ) → total ≤ 38654705655000 → (line : List ℕ) → LastLine total line → line ≡ lastLine total
+last-only total h line r =
+    made-only line (r .is-line) 5 27 total refl (r .sum) (r .blanks)
+    ∙ ap (λ (t : List ℕ). (t ++ field 27 (decimal total) ++ last-blanks) ++ lineFeed ∷ []) (r .name)
+    ∙ sym (last-of total h)
+
+-- A text is its first line and the others.
+behind-first : (k : ℕ) (text : List ℕ) → lineAt k (drop 41 text) ≡ lineAt (suc k) text
+behind-first k text =
+    let far : 41 + 41 * k ≡ 41 * suc k = omega arith in
+    ap (take 41) (drop-drop (41 * k) 41 text ∙ ap (λ (m : ℕ). drop m text) far)
+
+lines-only : (charges : List ℕ) (total i : ℕ) (ns text : List ℕ) → length text ≡ 41 * (length ns + 1)
+    → ((k : ℕ) → k < length ns → lineAt k text ≡ pumpLine (i + k + 1) (getD ns k 0) (getD charges (i + k) 0))
+    → lineAt (length ns) text ≡ lastLine total → text ≡ pumpLines charges i ns ++ lastLine total
+unfolding pumpLines
+lines-only charges total i [] text l p q = sym (take-all 41 text (omega (arith, l))) ∙ q
+lines-only charges total i (n ∷ ns) text l p q =
+    let at : i + 0 ≡ i = omega arith in
+    let pump : i + 1 ≡ suc i = omega arith in
+    let first : take 41 text ≡ pumpLine (suc i) n (getD charges i 0) = p 0 (omega arith) ∙ rw (at, pump) in
+    let rest = lines-only charges total (suc i) ns (drop 41 text) (omega (arith, l, length-drop 41 text))
+    (λ k h. behind-first k text ∙ p (suc k) (omega (arith, h)) ∙ moved k) (behind-first (length ns) text ∙ q) in
+    sym (take-append-drop 41 text) ∙ ap (λ (t : List ℕ). t ++ drop 41 text) first
+    ∙ ap (λ (t : List ℕ). pumpLine (suc i) n (getD charges i 0) ++ t) rest
+    ∙ sym (append-assoc (pumpLine (suc i) n (getD charges i 0)) (pumpLines charges (suc i) ns) (lastLine total))
+  where
+    moved : (k : ℕ)
+        → pumpLine (i + suc k + 1) (getD ns k 0) (getD charges (i + suc k) 0) ≡ pumpLine (suc i + k + 1) (getD ns k 0) (getD charges (suc i + k) 0)
+    moved k =
+        let e : i + suc k ≡ suc i + k = omega arith in
+        ap (λ (m : ℕ). pumpLine (m + 1) (getD ns k 0) (getD charges m 0)) e
+
+card-only : (ns charges : List ℕ) (total : ℕ) (text : List ℕ) → Fits ns charges total → ByColumns ns charges total text
+    → text ≡ card ns charges total
+unfolding card
+card-only ns charges total text f r = lines-only charges total 0 ns text (r .long) lines (last-only total (f .total-fits) _ (r .last))
+  where
+    lines : (k : ℕ) → k < length ns → lineAt k text ≡ pumpLine (0 + k + 1) (getD ns k 0) (getD charges (0 + k) 0)
+    lines k h =
+        let at : 0 + k ≡ k = omega arith in
+        pump-only (k + 1) (getD ns k 0) (getD charges k 0) (omega (arith, h, f .few)) (f .pulses-fit k) (f .charges-fit k) _ (r .pumps k h) ∙ rw at
+
 pub laws : Card
-laws = record { long = card-long; pump = λ ns charges total k f. card-pump ns charges total f k; last = card-last; empty = card-empty }
+laws =
+    record {
+      reads = λ ns charges total f.
+          record { long = card-long ns charges total f; pumps = card-pump ns charges total f; last = card-last ns charges total f };
+      only = card-only;
+      empty = card-empty;
+    }

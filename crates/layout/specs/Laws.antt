@@ -58,10 +58,15 @@ pub record LastLine (total : ℕ) (line : List ℕ) : Type 0 where
   pub sum : Shows 6 32 total line
   pub blanks : columns 33 40 line ≡ replicate 8 blank
 
--- The card: how long it is, each line by its columns, and the card of an empty list.
+-- A text is a card by its columns: a line for each item, with the pump's number, its pulses and its charge, and the last line with the total.
+pub record ByColumns (ns charges : List ℕ) (total : ℕ) (text : List ℕ) : Type 0 where
+  pub long : length text ≡ 41 * (length ns + 1)
+  pub pumps : (k : ℕ) → k < length ns → PumpLine (k + 1) (getD ns k 0) (getD charges k 0) (lineAt k text)
+  pub last : LastLine total (lineAt (length ns) text)
+
+-- The card is such a text, and no other is; and the card of an empty list.
 pub record Card : Type 0 where
-  pub long : (ns charges : List ℕ) (total : ℕ) → Fits ns charges total → length (card ns charges total) ≡ 41 * (length ns + 1)
-  pub pump : (ns charges : List ℕ) (total k : ℕ) → Fits ns charges total → k < length ns
-      → PumpLine (k + 1) (getD ns k 0) (getD charges k 0) (lineAt k (card ns charges total))
-  pub last : (ns charges : List ℕ) (total : ℕ) → Fits ns charges total → LastLine total (lineAt (length ns) (card ns charges total))
+  pub reads : (ns charges : List ℕ) (total : ℕ) → Fits ns charges total → ByColumns ns charges total (card ns charges total)
+  pub only : (ns charges : List ℕ) (total : ℕ) (text : List ℕ) → Fits ns charges total → ByColumns ns charges total text
+      → text ≡ card ns charges total
   pub empty : (charges : List ℕ) (total : ℕ) → card [] charges total ≡ lastLine total
