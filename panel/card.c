@@ -19,17 +19,19 @@ static size_t lent(const char *word)
     return bytes < sizeof card ? bytes : sizeof card;
 }
 
-/* Prints the card, or why there is none. */
+/* Prints the card. Why there is none goes to standard error, so that nothing but a card comes to a printer. */
 static int print(RecipeCard told)
 {
     static const char *const ends[] = {"value", "spent", "error", "full"};
     RecipeRun run = told.priced.run;
     if (run.refusal != 0) {
-        printf("refused %" PRIu32 ", place %" PRIu32 "\n", run.refusal, run.place);
+        fprintf(stderr, "refused %" PRIu32 ", place %" PRIu32 "\n", run.refusal, run.place);
         return 1;
     }
-    if (run.end != RECIPE_VALUE)
-        printf("%s after %" PRIu32 " steps: no card\n", ends[run.end], run.steps);
+    if (run.end != RECIPE_VALUE) {
+        fprintf(stderr, "%s after %" PRIu32 " steps: no card\n", ends[run.end], run.steps);
+        return 1;
+    }
     return fwrite(card, 1, told.bytes, stdout) == told.bytes && fflush(stdout) == 0 ? 0 : 2;
 }
 

@@ -228,8 +228,11 @@ PRICES has nine rows of three prices: cents for 1,000 pulses." ./price no-items 
     same card-short 1 "refused 14, place 0" ./card one-item prices 81
     same card-no-bytes 1 "refused 14, place 0" ./card no-items prices 0
     same card-nine-short 1 "refused 14, place 0" ./card nine-items prices 409
-    same card-error 0 "error after 2 steps: no card" ./card tl-nil prices
-    same card-error-no-bytes 0 "error after 2 steps: no card" ./card tl-nil prices 0
+    same card-error 1 "error after 2 steps: no card" ./card tl-nil prices
+    same card-error-no-bytes 1 "error after 2 steps: no card" ./card tl-nil prices 0
+    # Nothing of it comes to a printer.
+    same card-error-printed 1 "" sh -c './card tl-nil prices 2>/dev/null'
+    same card-short-printed 1 "" sh -c './card one-item prices 81 2>/dev/null'
     same card-kind 1 "refused 3, place 5" ./card kind prices 0
     same card-not-numbers 1 "refused 9, place 0" ./card add prices 0
     same card-items 1 "refused 10, place 0" ./card ten-items prices 0

@@ -93,9 +93,9 @@ fn an_end_without_a_charge_has_no_card() {
         ),
     ];
     for (recipe, options, told) in cases {
-        assert_eq!(card(recipe, options), (0, told.to_string() + none, "".into()));
+        assert_eq!(card(recipe, options), (1, "".into(), told.to_string() + none));
         // No bytes at all are enough for no card.
-        assert_eq!(card(recipe, &[options, &["--bytes", "0"]].concat()), (0, told.to_string() + none, "".into()));
+        assert_eq!(card(recipe, &[options, &["--bytes", "0"]].concat()), (1, "".into(), told.to_string() + none));
     }
 }
 

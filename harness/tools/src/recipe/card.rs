@@ -15,15 +15,16 @@ usage: recipe card [FILE] --prices PRICES [--limit STEPS] [--words CAPACITY] [--
 Runs a recipe of type {N}, a file or a text, and prints the batch card of its can, to be pinned to it: a line for each item,
 with the pump's number, its pulses and its charge in cents, and a last line with the total. Each line has 40 columns: a
 pump's number ends in column 2, the pulses in column 16, a charge and the total in column 32. A run that ends otherwise
-than in a value has no charge and no card; its end is told as `recipe price` tells it. The prices and the other options
-are those of `recipe price`. LENGTH is how many bytes are lent for the card: 410 where none is named, which serve every
-card. Reads standard input where no FILE is named. Status 0: ended, whatever the end; 1: refused.
+than in a value has no charge and no card; its end is told on standard error as `recipe price` tells it, so that nothing
+but a card goes to a printer. The prices and the other options are those of `recipe price`. LENGTH is how many bytes are
+lent for the card: 410 where none is named, which serve every card. Reads standard input where no FILE is named. Status 0:
+the card is printed; 1: refused, or no card.
 ";
 
 /// Bytes of the card's buffer where the command names no number: nine pumps, and the total.
 const BYTES: u64 = 410;
 
-/// The card, or the end of a run that has none.
+/// The card; the end of a run that has none is said as a refusal is, so that nothing else is printed.
 fn card(mut args: Args, desk: &mut Desk<'_>) -> Outcome {
     let engine = desk.engine.card.ok_or(without("run"))?;
     let price = desk.engine.price.ok_or(without("run"))?;
@@ -37,11 +38,11 @@ fn card(mut args: Args, desk: &mut Desk<'_>) -> Outcome {
         return Err(Failure::Refused(asked.refused(run) + &lent));
     }
     first.truncate(run.left as usize);
-    let text = match run.end {
-        0 => card.get(..told.bytes as usize).ok_or("the engine gave a card that is longer than its buffer")?.to_vec(),
-        _ => (uncharged(run, &first)? + "no card: only a can with a charge has one\n").into_bytes(),
-    };
-    Ok(desk.output.write_all(&text)?)
+    if run.end != 0 {
+        return Err(Failure::Refused(uncharged(run, &first)? + "no card: only a can with a charge has one\n"));
+    }
+    let text = card.get(..told.bytes as usize).ok_or("the engine gave a card that is longer than its buffer")?;
+    Ok(desk.output.write_all(text)?)
 }
 
 /// How many bytes a refused card has, by the items of the can, and how many were lent.
