@@ -29,12 +29,13 @@ use Rattle.pricing.specs.declared.Outcome.the-variants as outcome
 use Rattle.pricing.specs.declared.Priced.{Priced}
 use Rattle.pricing.proofs.Billing.{billed-by}
 use Rattle.pricing.proofs.Laws.{own-run, billed-items}
-use Rattle.card.specs.Carding.{Card, cardOf, cardAt, laidIn, carding}
+use Rattle.card.proofs.Laws.{carding-is}
+use Rattle.card.specs.Carding.{Card, cardOf, cardAt, laidIn}
 use Rattle.card.specs.Answered.{spoken, answering, billOf, textOf, cardLent, CardReturned, cardReturned, Answered, carded, Carding}
 use Rattle.card.specs.Parts.{cardBy, Laid, fits, short, AtEnd, Ends}
 use Rattle.card.specs.declared.Outcome.{Outcome}
 use Rattle.card.specs.declared.Outcome.the-variants.{Refused, Ended}
-use Rattle.card.specs.declared.Uncarded.the-variants.{Can, Short}
+use Rattle.card.specs.declared.Uncarded.the-variants.{Price, Short}
 use Rattle.card.specs.declared.Carded.{Carded}
 
 -- By what pricing says.
@@ -42,13 +43,11 @@ module _ (prices : Prices) (l : Lent) (card : List ℕ) where
   abbrev bill-of : Verdict Bill
   bill-of = priced prices l
 
-  pub carded-is : (v : Verdict Bill) → bill-of ≡ v → carded prices (cardLent l card) ≡ andThen v (laidIn (length card))
-  unfolding carding
-  carded-is v q = rw q
-
   carded-by : (v : Verdict Bill) (w : Verdict Card) (g : CardReturned) → bill-of ≡ v → andThen v (laidIn (length card)) ≡ w
       → Answered w (cardLent l card) g → Carding prices (cardLent l card) g
-  carded-by v w g q e h = subst (λ (y : Verdict Card). Answered y (cardLent l card) g) (sym (carded-is v q ∙ e)) h
+  carded-by v w g q e h =
+      let is = carding-is prices (l .bytes) (l .limit) (length (l .first)) (length (l .second)) (length card) v q in
+      subst (λ (y : Verdict Card). Answered y (cardLent l card) g) (sym (is ∙ e)) h
 
   -- Refusal 14.
   pub refused-14 : {r : Carded} {first′ second′ card′ : List ℕ} (b : Bill) → bill-of ≡ passed b → length card < length (cardOf b)
@@ -88,7 +87,7 @@ module _ (prices : Prices) (l : Lent) (card : List ℕ) where
           }
 
     -- Refused as pricing refuses it.
-    pub refused-as : {r : Carded} {card′ : List ℕ} (u : Unpriced) → p .outcome ≡ outcome.Refused u → r ≡ answering (Refused (Can u)) (p .charges) 0
+    pub refused-as : {r : Carded} {card′ : List ℕ} (u : Unpriced) → p .outcome ≡ outcome.Refused u → r ≡ answering (Refused (Price u)) (p .charges) 0
         → card′ ≡ padded (length card) [] → Carding prices (cardLent l card) (cardReturned r first₁ second₁ card′)
     refused-as {r} {card′} u o a c = by bill-of refl (sym (ap pricing.spoken o) ∙ h .answer-is)
       where
@@ -96,7 +95,7 @@ module _ (prices : Prices) (l : Lent) (card : List ℕ) where
             → Carding prices (cardLent l card) (cardReturned r first₁ second₁ card′)
         by (passed b) q t =
             absurd (not-both _ _ (lineOf (b .run)) (t ∙ ap (λ (v : Verdict Bill). andThen (ran v) (λ x. passed (lineOf x))) q))
-        by (refused n k) q t = as-priced (refused n k) (refused n k) q refl refl (Refused (Can u)) (sym (ap pricing.spoken o)) a c
+        by (refused n k) q t = as-priced (refused n k) (refused n k) q refl refl (Refused (Price u)) (sym (ap pricing.spoken o)) a c
 
     -- A run that ended.
     module _ (x : Report) (o : p .outcome ≡ outcome.Ended x) where

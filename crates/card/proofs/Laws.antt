@@ -25,7 +25,7 @@ use Rattle.layout.specs.Layout.{card}
 use Rattle.layout.specs.Laws.{Fits}
 use Rattle.layout.proofs.Laws as layout
 use Rattle.card.specs.Carding.{Card, cardAt, cardOf, laidIn, carding}
-use Rattle.card.specs.Laws.{cardBytes, Lays, no-card, card-of, refused-14, Exactly, Short, Grows}
+use Rattle.card.specs.Laws.{cardBytes, Lays, no-card, card-of, refused-14, Exactly, FewBytes, Grows}
 
 -- The numbers of a list in range fit.
 pulses-fit : (ns : List ℕ) → InRange (listOf ns) → (i : ℕ) → getD ns i 0 ≤ 4294967295
@@ -145,7 +145,7 @@ module _ (prices : Prices) (bytes : List ℕ) (limit first second room : ℕ) wh
               absurd (not-both 14 0 (record { bill = b; text = cardOf b })
               (sym q ∙ carding-is prices bytes limit first second room (passed b) e ∙ rw (le-leb (length (cardOf b)) room k)))
 
--- A card is short.
+-- A card has few bytes.
 few-bytes : (b : Bill) (room : ℕ) (v : Verdict Card) (c : Card) → Lays b room v → v ≡ passed c → length (c .text) ≤ 410
 few-bytes b room v c (no-card n) q = omega (arith, ap (λ (y : Card). length (y .text)) (passed-injective _ c q))
 few-bytes b room v c (card-of ns y f k) q =
@@ -157,8 +157,8 @@ few-bytes b room v c (card-of ns y f k) q =
     )
 few-bytes b room v c (refused-14 ns y f k) q = absurd (not-both 14 0 c q)
 
-pub short : Short
-short =
+pub at-most : FewBytes
+at-most =
     record {
       most = λ prices bytes limit first second room c q.
           let y = billed-card prices bytes limit first second room c q in

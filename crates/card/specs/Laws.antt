@@ -32,7 +32,7 @@ pub record Exactly : Type 0 where
       → Lays b room (carding prices bytes limit first second room)
 
 -- "at most 410" bytes.
-pub record Short : Type 0 where
+pub record FewBytes : Type 0 where
   pub most : (prices : Prices) (bytes : List ℕ) (limit first second room : ℕ) (c : Card) → carding prices bytes limit first second room ≡ passed c
       → length (c .text) ≤ 410
 

@@ -5,10 +5,10 @@ use Rattle.nodes.specs.declared.refusals.Numbers.{Numbers}
 use Rattle.nodes.specs.Refusals.{plain}
 use Rattle.pricing.specs.Refusals as pricing
 use Rattle.card.specs.declared.Uncarded.{Uncarded}
-use Rattle.card.specs.declared.Uncarded.the-variants.{Can, Short}
+use Rattle.card.specs.declared.Uncarded.the-variants.{Price, Short}
 
 abbrev pub numbered : Uncarded → Numbers
-numbered (Can u) = pricing.numbered u
+numbered (Price u) = pricing.numbered u
 numbered Short = plain 14
 
 abbrev pub numberOf : Uncarded → ℕ

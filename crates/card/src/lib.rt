@@ -26,7 +26,7 @@ ghost use Rattle.card.specs.Parts.{ListLeft, AtValue, AtEnd, Ends};
 
 // Why there is no card: the can has no price, or the buffer is shorter than its card.
 pub enum Uncarded {
-    Can(Unpriced),
+    Price(Unpriced),
     Short,
 }
 
@@ -47,7 +47,7 @@ pub fn numbered(u: Uncarded) -> Numbers
     ensures { λ r. ⌜ r ≡ numbered u ⌝ }
 {
     match u {
-        Uncarded::Can(why) => pricing::numbered(why),
+        Uncarded::Price(why) => pricing::numbered(why),
         Uncarded::Short => plain(14),
     }
 }
@@ -143,7 +143,7 @@ pub fn card(
     let charges = priced.charges;
     match outcome {
         pricing::Outcome::Refused(u) => without_card(
-            Outcome::Refused(Uncarded::Can(u)),
+            Outcome::Refused(Uncarded::Price(u)),
             charges,
             card,
         ),

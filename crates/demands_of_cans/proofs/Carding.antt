@@ -42,9 +42,10 @@ use Rattle.card.specs.Laws.{cardBytes, Lays, no-card, card-of, refused-14}
 use Rattle.card.specs.Refusals.{numberOf, refusal}
 use Rattle.card.specs.Answered.{spoken, billOf, textOf, CardLent, CardReturned, carded, Carding}
 use Rattle.card.specs.declared.Uncarded.{Uncarded}
-use Rattle.card.specs.declared.Uncarded.the-variants.{Can, Short}
+use Rattle.card.specs.declared.Uncarded.the-variants.{Price, Short}
 use Rattle.card.specs.declared.Outcome as card
 use Rattle.card.specs.declared.Outcome.the-variants.{Refused, Ended}
+use Rattle.card.proofs.Answering.{tells, refused-by, ended-by}
 use Rattle.card.proofs.Laws.{exactly, billed-card, card-grows}
 use Rattle.demands_of_cans.specs.Priced.{PricedOnce}
 use Rattle.demands_of_cans.specs.Carded as demanded
@@ -55,12 +56,12 @@ use Rattle.demands_of_cans.proofs.Costing.{priced-once, result-is}
 
 -- Every refusal of a card is one of pricing's eleven, or 14.
 numbered : (u : Uncarded) → (1 ≤ numberOf u) × ((numberOf u ≤ 11) ⊎ (numberOf u ≡ 14))
-numbered (Can u) = let n = costing.numbered u in (n .0, inl (n .1))
+numbered (Price u) = let n = costing.numbered u in (n .0, inl (n .1))
 numbered Short = (omega arith, inr refl)
 
 -- The answer that stands for 14.
 short-is : (x : card.Outcome) → spoken x ≡ refused 14 0 → x ≡ Refused Short
-short-is (Refused (Can u)) q = absurd (omega (arith, costing.numbered u, refused-injective q .0))
+short-is (Refused (Price u)) q = absurd (omega (arith, costing.numbered u, refused-injective q .0))
 short-is (Refused Short) q = refl
 short-is (Ended x) q = absurd (not-both 14 0 (told x) (sym q))
 
@@ -104,9 +105,6 @@ module _ (prices : Prices) (l : CardLent) where
       by (passed b) q = of-lays b q verdict refl (lays b q)
 
   module _ (g : CardReturned) (h : Carding prices l g) where
-    tells : (v : Verdict Card) → verdict ≡ v → spoken (outcome g) ≡ andThen (ran (billOf v)) (λ r. passed (lineOf r))
-    tells v e = h .answer-is ∙ ap (λ (y : Verdict Card). andThen (ran (billOf y)) (λ r. passed (lineOf r))) e
-
     -- "a priced run with one buffer more".
     as-pricing : (x : Outcome) → outcome g ≡ asCard x → Pricing prices (l .run) (pricedPart g x)
     as-pricing x q = by owns
@@ -119,28 +117,13 @@ module _ (prices : Prices) (l : CardLent) where
               first-is = h .first-is ∙ ap (λ (y : Verdict Bill). firstAfter (length (l .run .first)) (ran y)) e;
               second-is = h .second-is;
             }
-        by (short e) = absurd (not-14 x (sym (told-as x) ∙ sym (ap spoken q) ∙ tells (refused 14 0) e))
-
-    -- A refusal is one of the verdict, and an end too.
-    refused-by : (u : Uncarded) → outcome g ≡ Refused u → verdict ≡ refusal u
-    refused-by u q = by verdict refl
-      where
-        by : (v : Verdict Card) → verdict ≡ v → v ≡ refusal u
-        by (refused n p) e = let i = refused-injective (sym (ap spoken q) ∙ tells (refused n p) e) in rw (i .0, i .1)
-        by (passed c) e = absurd (not-both (numberOf u) _ (lineOf (c .bill .run)) (sym (ap spoken q) ∙ tells (passed c) e))
-
-    ended-by : (x : Report) → outcome g ≡ Ended x → (c : Card) × (verdict ≡ passed c) × (told x ≡ lineOf (c .bill .run))
-    ended-by x q = by verdict refl
-      where
-        by : (v : Verdict Card) → verdict ≡ v → (c : Card) × (verdict ≡ passed c) × (told x ≡ lineOf (c .bill .run))
-        by (refused n p) e = absurd (not-both n p (told x) (sym (tells (refused n p) e) ∙ ap spoken q))
-        by (passed c) e = (c, e, passed-injective (told x) (lineOf (c .bill .run)) (sym (ap spoken q) ∙ tells (passed c) e))
+        by (short e) = absurd (not-14 x (sym (told-as x) ∙ sym (ap spoken q) ∙ tells prices l g h (refused 14 0) e))
 
     -- Demand 1.
     finish : (x : card.Outcome) → outcome g ≡ x → Finishes l g
     finish (Ended x) q = demanded.ends x q
     finish (Refused u) q =
-        let e = refused-by u q in
+        let e = refused-by prices l g h u q in
         let n = numbered u in
         demanded.refuses u q (n .0) (n .1)
         (h .charges-are ∙ ap (λ (v : Verdict Card). chargesOf (billOf v)) e)
@@ -154,7 +137,7 @@ module _ (prices : Prices) (l : CardLent) where
     short-of q = by bill-of refl
       where
         e : verdict ≡ refused 14 0
-        e = refused-by Short q
+        e = refused-by prices l g h Short q
 
         of-lays : (b : Bill) → bill-of ≡ passed b → (v : Verdict Card) → v ≡ refused 14 0 → Lays b (length (l .card)) v → Within prices × TooShort l
         of-lays b w v z (no-card n) = absurd (not-both 14 0 _ (sym z))
@@ -192,7 +175,7 @@ module _ (prices : Prices) (l : CardLent) where
         of-lays : (b : Bill) → b .run ≡ r → (y : Verdict Card) → verdict ≡ y → Lays b (length (l .card)) y → outcome g ≡ Refused Short
         of-lays b q y z (no-card n) = absurd (n (ap (λ (t : spec.Result). t .end) q ∙ valued))
         of-lays b q y z (card-of ms i f j) = absurd (omega (arith, k, j, ap length (one-list ms ns (q ∙ one) i v)))
-        of-lays b q y z (refused-14 ms i f j) = short-is (outcome g) (tells (refused 14 0) z)
+        of-lays b q y z (refused-14 ms i f j) = short-is (outcome g) (tells prices l g h (refused 14 0) z)
 
         by : (y : Verdict Bill) → bill-of ≡ y → costs.Costs prices r y → outcome g ≡ Refused Short
         by y z (costs.nothing n) = absurd (n valued)
@@ -202,13 +185,13 @@ module _ (prices : Prices) (l : CardLent) where
     -- The card's buffer.
     module _ (x : Report) (q : outcome g ≡ Ended x) where
       abbrev made : Card
-      made = ended-by x q .0
+      made = ended-by prices l g h x q .0
 
       made-is : verdict ≡ passed made
-      made-is = ended-by x q .1
+      made-is = ended-by prices l g h x q .1
 
       ends-as : endOf (x .end) ≡ made .bill .run .end
-      ends-as = ap (λ (z : Line). z .end) (ended-by x q .2)
+      ends-as = ap (λ (z : Line). z .end) (ended-by prices l g h x q .2)
 
       bill-is : bill-of ≡ passed (made .bill)
       bill-is =
@@ -224,7 +207,7 @@ module _ (prices : Prices) (l : CardLent) where
           let first = h .first-is ∙ ap (λ (v : Verdict Card). firstAfter (length (l .run .first)) (ran (billOf v))) made-is in
           ap (take (x .left)) first
           ∙ padded-take (length (l .run .first)) (x .left) (made .bill .run .left) (omega (arith, b .0))
-          (ap (λ (z : Line). z .left) (ended-by x q .2))
+          (ap (λ (z : Line). z .left) (ended-by prices l g h x q .2))
 
       module _ (text : List ℕ) (t : made .text ≡ text) where
         bytes-are : g .answer .bytes ≡ length text
@@ -272,11 +255,11 @@ module _ (prices : Prices) (l : CardLent) where
         }
 
 -- The answer that stands for 10.
-items-is : (x : card.Outcome) → spoken x ≡ refused 10 0 → x ≡ Refused (Can u.Items)
-items-is (Refused (Can u.Prices)) q = absurd (omega (arith, refused-injective q .0))
-items-is (Refused (Can (u.Recipe r))) q = absurd (omega (arith, running.numbered r .1, refused-injective q .0))
-items-is (Refused (Can u.Declared)) q = absurd (omega (arith, refused-injective q .0))
-items-is (Refused (Can u.Items)) q = refl
+items-is : (x : card.Outcome) → spoken x ≡ refused 10 0 → x ≡ Refused (Price u.Items)
+items-is (Refused (Price u.Prices)) q = absurd (omega (arith, refused-injective q .0))
+items-is (Refused (Price (u.Recipe r))) q = absurd (omega (arith, running.numbered r .1, refused-injective q .0))
+items-is (Refused (Price u.Declared)) q = absurd (omega (arith, refused-injective q .0))
+items-is (Refused (Price u.Items)) q = refl
 items-is (Refused Short) q = absurd (omega (arith, refused-injective q .0))
 items-is (Ended x) q = absurd (not-both 10 0 (told x) (sym q))
 
@@ -347,9 +330,9 @@ module _ (prices : Prices) (l m : CardLent) (g h : CardReturned) (b : l .run .by
             ∙ sym (text-in prices l g p x o);
       }
 
-  stay : outcome g ≡ Refused (Can u.Items) → outcome h ≡ Refused (Can u.Items)
+  stay : outcome g ≡ Refused (Price u.Items) → outcome h ≡ Refused (Price u.Items)
   stay o =
-      let first = items-of prices l (refused-by prices l g p (Can u.Items) o) in
+      let first = items-of prices l (refused-by prices l g p (Price u.Items) o) in
       let more = costing-laws.grows .items prices (l .run .bytes) (l .run .limit) (length (l .run .first)) (length (l .run .second))
       (m .run .limit) (length (m .run .first)) (length (m .run .second)) i j first in
       let later = subst
@@ -370,6 +353,8 @@ pub carded-twice : (prices : Prices) (l m : CardLent) (g h : CardReturned) → l
     → CardedTwice prices l g m h
 carded-twice prices l m g h b p q =
     record {
+      earlier = carded-once prices l g p;
+      later = carded-once prices m h q;
       grows = λ x i j r o f. grow prices l m g h b p q i j x r o f;
       stays = λ i j o. stay prices l m g h b p q i j o;
       still-short = λ i j r o. still prices l m g h b p q i j r o;

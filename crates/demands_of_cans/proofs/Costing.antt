@@ -281,4 +281,9 @@ module _ (prices : Prices) (l m : Lent) (g h : Returned) (b : l .bytes ≡ m .by
 pub priced-twice : (prices : Prices) (l m : Lent) (g h : Returned) → l .bytes ≡ m .bytes → Pricing prices l g → Pricing prices m h
     → PricedTwice prices l g m h
 priced-twice prices l m g h b p q =
-    record { grows = λ x i j o f. grow prices l m g h b p q i j x o f; stays = λ i j o. stay prices l m g h b p q i j o }
+    record {
+      earlier = priced-once prices l g p;
+      later = priced-once prices m h q;
+      grows = λ x i j o f. grow prices l m g h b p q i j x o f;
+      stays = λ i j o. stay prices l m g h b p q i j o;
+    }

@@ -28,7 +28,7 @@ use Rattle.card.specs.Laws.{cardBytes}
 use Rattle.card.specs.Refusals.{numberOf}
 use Rattle.card.specs.Answered.{CardLent, CardReturned}
 use Rattle.card.specs.declared.Uncarded.{Uncarded}
-use Rattle.card.specs.declared.Uncarded.the-variants.{Can, Short}
+use Rattle.card.specs.declared.Uncarded.the-variants.{Price, Short}
 use Rattle.card.specs.declared.Outcome.{Outcome}
 use Rattle.card.specs.declared.Outcome.the-variants.{Refused, Ended}
 use Rattle.demands_of_cans.specs.Priced.{PricedOnce}
@@ -47,7 +47,7 @@ pub data Finishes (l : CardLent) (g : CardReturned) : Type 0 where
 
 -- "a priced run with one buffer more": how a pricing comes out, as a card does; and what the card gives back of the pricing.
 abbrev pub asCard : pricing.Outcome → Outcome
-asCard (priced.Refused u) = Refused (Can u)
+asCard (priced.Refused u) = Refused (Price u)
 asCard (priced.Ended x) = Ended x
 
 abbrev pub pricedPart : CardReturned → pricing.Outcome → Returned
@@ -86,9 +86,12 @@ pub record SameCard (x : Report) (g h : CardReturned) : Type 0 where
 
 -- Demand 3's growth, for the card: the same file at the same prices, the second lent at least as many steps, at least the capacity and at least the
 -- card's buffer of the first. More than nine items are more than nine then, too; and a buffer that is too short is, where the second's is no longer.
+-- Each meets demands 1 and 2, so that no program meets this by answering without looking.
 pub record CardedTwice (prices : Prices) (l : CardLent) (g : CardReturned) (m : CardLent) (h : CardReturned) : Type 0 where
+  pub earlier : CardedOnce prices l g
+  pub later : CardedOnce prices m h
   pub grows : (x : Report) → l .run .limit ≤ m .run .limit → room (l .run) ≤ room (m .run) → length (l .card) ≤ length (m .card)
       → outcome g ≡ Ended x → Final (endOf (x .end)) → SameCard x g h
-  pub stays : l .run .limit ≤ m .run .limit → room (l .run) ≤ room (m .run) → outcome g ≡ Refused (Can Items) → outcome h ≡ Refused (Can Items)
+  pub stays : l .run .limit ≤ m .run .limit → room (l .run) ≤ room (m .run) → outcome g ≡ Refused (Price Items) → outcome h ≡ Refused (Price Items)
   pub still-short : l .run .limit ≤ m .run .limit → room (l .run) ≤ room (m .run) → length (m .card) ≤ length (l .card)
       → outcome g ≡ Refused Short → outcome h ≡ Refused Short

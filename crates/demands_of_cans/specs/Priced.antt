@@ -96,7 +96,9 @@ pub record SamePrice (x : Report) (g h : Returned) : Type 0 where
   pub words : take (x .left) (h .first) ≡ take (x .left) (g .first)
 
 -- Demand 3's growth, for pricing: the same file at the same prices, the second lent at least as many steps and at least the capacity of the first.
--- More than nine items are more than nine then, too.
+-- More than nine items are more than nine then, too. Each meets demands 1 and 2, so that no program meets this by answering without looking.
 pub record PricedTwice (prices : Prices) (l : Lent) (g : Returned) (m : Lent) (h : Returned) : Type 0 where
+  pub earlier : PricedOnce prices l g
+  pub later : PricedOnce prices m h
   pub grows : (x : Report) → l .limit ≤ m .limit → room l ≤ room m → outcome g ≡ Ended x → Final (endOf (x .end)) → SamePrice x g h
   pub stays : l .limit ≤ m .limit → room l ≤ room m → outcome g ≡ Refused unpriced.Items → outcome h ≡ Refused unpriced.Items

@@ -8,19 +8,17 @@ use lib.Dec.{leb}
 use lib.ListN.{length}
 use Rattle.calculus.specs.Verdicts.{Verdict, refused, passed, andThen, unless}
 use Rattle.calculus.proofs.Refusing.{PlaceWithin}
-use Rattle.calculus.proofs.Verdicts.{not-both, passed-injective}
 use Rattle.ends.specs.declared.Report.{Report}
-use Rattle.ends.specs.Results.{lineOf, told}
 use Rattle.charges.specs.Prices.{Prices}
 use Rattle.pricing.specs.Pricing.{Bill, pricing}
-use Rattle.pricing.specs.Answered.{ran}
 use Rattle.card.specs.Carding.{Card, cardOf, laidIn}
 use Rattle.card.specs.Answered.{spoken, billOf, textOf, CardLent, CardReturned, carded, Carding}
 use Rattle.card.specs.Refusals.{placeOf, refusal}
 use Rattle.card.specs.declared.Uncarded.{Uncarded}
 use Rattle.card.specs.declared.Outcome.{Outcome}
 use Rattle.card.specs.declared.Outcome.the-variants.{Refused, Ended}
-use Rattle.card.proofs.Laws.{carding-is, billed-card, short}
+use Rattle.card.proofs.Laws.{carding-is, billed-card, at-most}
+use Rattle.card.proofs.Answering.{ended-by}
 use Rattle.exports.specs.declared.runs.RecipeRun.{RecipeRun}
 use Rattle.exports.specs.declared.cards.RecipeCard.{RecipeCard}
 use Rattle.exports.specs.Numbers.{endedNumbers, runNumbers, packedNumbers, carriedNumbers, cardNumbers, cardNumbersOf}
@@ -55,18 +53,11 @@ module _ (prices : Prices) (l : CardLent) (g : CardReturned) (h : Carding prices
 
   -- The words left and the words wanted.
   pub card-words : (x : Report) → outcome ≡ Ended x → (x .left ≤ 16384) × (x .wanted ≤ 268435456)
-  card-words x q = by verdict refl
-    where
-      tells : (v : Verdict Card) → verdict ≡ v → passed (told x) ≡ andThen (ran (billOf v)) (λ y. passed (lineOf y))
-      tells v e = sym (ap spoken q) ∙ h .answer-is ∙ ap (λ (y : Verdict Card). andThen (ran (billOf y)) (λ z. passed (lineOf z))) e
-
-      by : (v : Verdict Card) → verdict ≡ v → (x .left ≤ 16384) × (x .wanted ≤ 268435456)
-      by (refused n p) e = absurd (not-both n p (told x) (sym (tells (refused n p) e)))
-      by (passed c) e =
-          let r = l .run in
-          let y = billed-card prices (r .bytes) (r .limit) (length (r .first)) (length (r .second)) (length (l .card)) c e in
-          bill-words prices (r .bytes) (r .limit) (length (r .first)) (length (r .second)) (c .bill) (y .0) x
-          (passed-injective (told x) (lineOf (c .bill .run)) (tells (passed c) e))
+  card-words x q =
+      let r = l .run in
+      let e = ended-by prices l g h x q in
+      let y = billed-card prices (r .bytes) (r .limit) (length (r .first)) (length (r .second)) (length (l .card)) (e .0) (e .1) in
+      bill-words prices (r .bytes) (r .limit) (length (r .first)) (length (r .second)) (e .0 .bill) (y .0) x (e .2)
 
   -- The bytes of the card.
   pub card-bytes : g .answer .bytes ≤ 268435456
@@ -76,7 +67,7 @@ module _ (prices : Prices) (l : CardLent) (g : CardReturned) (h : Carding prices
       by (refused n p) e = omega (arith, h .bytes-are, ap (λ (v : Verdict Card). length (textOf v)) e)
       by (passed c) e =
           let r = l .run in
-          let few = short .most prices (r .bytes) (r .limit) (length (r .first)) (length (r .second)) (length (l .card)) c e in
+          let few = at-most .most prices (r .bytes) (r .limit) (length (r .first)) (length (r .second)) (length (l .card)) c e in
           omega (arith, h .bytes-are, ap (λ (v : Verdict Card). length (textOf v)) e, few)
 
   -- Either case of an answer.
