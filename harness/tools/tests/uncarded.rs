@@ -148,7 +148,7 @@ fn with_14(mut told: RecipeCard, change: fn(&mut RecipeCard)) -> RecipeCard {
     told
 }
 
-/// 14 for a buffer that would not serve the longest card, where the run ends so.
+/// 14 for a buffer of length 0, where the run ends so.
 fn refused_at<const END: u32>(
     prices: &RecipePrices,
     file: &[u8],
