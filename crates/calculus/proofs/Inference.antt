@@ -5,12 +5,13 @@ use mathlib.Core.List.{[], _∷_}
 use mathlib.Core.Logic.{_↔_}
 use mathlib.Core.Option.{Option, none, some, Option·some-injective, Option·none-ne-some}
 use mathlib.Core.Path.{_≡_, refl, sym, ap, _∙_}
-use Rattle.calculus.specs.Trees.{N, L, list, _to_, Ty-discrete, Lang, ml, sc, Static, numbers, lists, functions, Op1, HD, TL, FIX, NULL?, TEST}
+use Rattle.calculus.specs.Trees.{N, L, list, _to_, Lang, ml, sc, Static, numbers, lists, functions, Op1, HD, TL, FIX, NULL?, TEST}
 use Rattle.calculus.specs.Trees.{Op2, APP, ADD, SUB, CONS, Term, var, num, lam, op1, op2, if0, nil, wrong, ms, sm}
 use Rattle.calculus.specs.Verdicts.{found}
 use Rattle.calculus.specs.Typing.{Entry, of, Lambdas, At, Rule1, Rule2, Typed}
-use Rattle.calculus.specs.Inference.{decided, sameType, entryType, typeAt, element, sides, result1, sumType, result2, infer}
+use Rattle.calculus.specs.Inference.{sameType, entryType, typeAt, element, sides, result1, sumType, result2, infer}
 use Rattle.calculus.proofs.Verdicts.{found-some}
+use Rattle.calculus.proofs.Comparison.{types-same-iff}
 
 -- The answer o is the one thing that P holds of, or there is none.
 record Exactly {A : Type 0} (P : A → Type 0) (o : Option A) : Type 0 where
@@ -42,13 +43,9 @@ module _ {A : Type 0} where
   cond-exactly true c h = record { right = λ a q. (c .0 refl, h .right a q); whole = λ a p. h .whole a (p .1) }
   cond-exactly false c h = record { right = λ a q. absurd (Option·none-ne-some a q); whole = λ a p. absurd (false≢true (c .1 (p .0))) }
 
-decided-iff : {A : Type 0} (d : Dec A) → (decided d ≡ true) ↔ A
-decided-iff (yes p) = (λ q. p, λ a. refl)
-decided-iff (no p) = (λ q. absurd (false≢true q), λ a. absurd (p a))
-
 -- Types are the same exactly if the comparison says so.
 pub same-iff : (l : Lang) (t u : Static l) → (sameType l t u ≡ true) ↔ (t ≡ u)
-same-iff ml t u = decided-iff (Ty-discrete t u)
+same-iff ml t u = types-same-iff t u
 same-iff sc t u = (λ q. refl, λ q. refl)
 
 same-exactly : {A : Type 0} (l : Lang) (t u : Static l) {P : A → Type 0} {o : Option A} → Exactly P o

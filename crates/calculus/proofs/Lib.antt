@@ -9,8 +9,9 @@ pub mod Nesting
 pub mod Nodes
 pub mod Scopes
 -- typing
-pub mod Inference
 pub mod Types
+pub mod Comparison
+pub mod Inference
 pub mod Typing
 pub mod Faults
 -- reduction

@@ -1,15 +1,12 @@
--- Two types: induction over both; and document 01, "Types are equal when their words are", of all owners, in range or not. Assumes nothing.
+-- Two types: induction over both; and the words that a list begins with are those of one type at most, of all owners, in range or not. Assumes
+-- nothing.
 use Prim.Native.Nat.{ℕ, _%_}
 use mathlib.Core.List.{List, [], _∷_}
-use mathlib.Core.Logic.{_↔_}
-use mathlib.Core.Bool.{true}
 use mathlib.Core.Path.{_≡_, refl, sym, ap, _∙_}
 use lib.ListN.{getD}
 use native.Mathlib.Omega.{arith}
-use Rattle.calculus.specs.Trees.{Ty, N, L, list, _to_, ml}
-use Rattle.calculus.specs.Words.{putTy, wordsTy}
-use Rattle.calculus.specs.Inference.{sameType, EqualByWords}
-use Rattle.calculus.proofs.Inference.{same-iff}
+use Rattle.calculus.specs.Trees.{Ty, N, L, list, _to_}
+use Rattle.calculus.specs.Words.{putTy}
 
 -- The kind of a type's first word.
 abbrev pub kindTy : Ty → ℕ
@@ -45,7 +42,7 @@ module _
     by-pairs (s to t) (list u) = apart (s to t) (list u) (λ e. omega (arith, e))
     by-pairs (s to t) (u to v) = of-functions s t u v (by-pairs s u) (by-pairs t v)
 
-kind-first : (t : Ty) (k : List ℕ) → getD (putTy t k) 0 0 % 256 ≡ kindTy t
+pub kind-first : (t : Ty) (k : List ℕ) → getD (putTy t k) 0 0 % 256 ≡ kindTy t
 unfolding putTy
 kind-first N k = refl
 kind-first (L o) k = omega arith
@@ -69,14 +66,3 @@ words-tell =
     let y = g j k (x .1) in
     (rw (x .0, y .0), y .1))
     (λ t u n j k q. absurd (n (sym (kind-first t j) ∙ ap (λ (ws : List ℕ). getD ws 0 0 % 256) q ∙ kind-first u k)))
-
--- Two types are equal exactly if their words are.
-types-iff : (t u : Ty) → (t ≡ u) ↔ (wordsTy t ≡ wordsTy u)
-types-iff t u = (ap wordsTy, λ q. words-tell t u [] [] q .0)
-
--- So the check's comparison is one of words.
-same-words-iff : (t u : Ty) → (sameType ml t u ≡ true) ↔ (wordsTy t ≡ wordsTy u)
-same-words-iff t u = let i = same-iff ml t u in let j = types-iff t u in (λ q. j .0 (i .0 q), λ q. i .1 (j .1 q))
-
-pub equal-by-words : EqualByWords
-equal-by-words = record { equal = types-iff; same = same-words-iff }

@@ -5,22 +5,19 @@ use mathlib.Core.List.{[], _∷_}
 use mathlib.Core.Logic.{_↔_}
 use mathlib.Core.Option.{Option, none, some}
 use mathlib.Core.Path.{_≡_}
-use Rattle.calculus.specs.Trees.{Ty, N, L, list, _to_, Ty-discrete, Lang, ml, sc, Static, numbers, lists, functions, Op1, HD, TL, FIX, NULL?}
+use Rattle.calculus.specs.Trees.{Ty, N, L, list, _to_, Lang, ml, sc, Static, numbers, lists, functions, Op1, HD, TL, FIX, NULL?}
 use Rattle.calculus.specs.Trees.{TEST, Op2, APP, ADD, SUB, CONS, Term, var, num, lam, op1, op2, if0, nil, wrong, ms, sm}
 use Rattle.calculus.specs.Words.{wordsTy}
+use Rattle.calculus.specs.Comparison.{compareTypes}
 use Rattle.calculus.specs.Verdicts.{found}
 use Rattle.calculus.specs.Typing.{Entry, of, Lambdas}
 
--- "Types are equal when their words are."
-abbrev pub decided {ℓ} : {A : Type ℓ} → Dec A → Bool
-decided (yes p) = true
-decided (no p) = false
-
+-- "Types are equal when their words are": where the comparison finds no difference.
 abbrev pub sameType : (l : Lang) → Static l → Static l → Bool
-sameType ml t u = decided (Ty-discrete t u)
+sameType ml t u = found (compareTypes t u) true (λ d. false)
 sameType sc t u = true
 
--- What that sentence says; proofs/Types.antt proves it.
+-- What that sentence says; proofs/Comparison.antt proves it.
 pub record EqualByWords : Type 0 where
   pub equal : (t u : Ty) → (t ≡ u) ↔ (wordsTy t ≡ wordsTy u)
   pub same : (t u : Ty) → (sameType ml t u ≡ true) ↔ (wordsTy t ≡ wordsTy u)

@@ -9,6 +9,7 @@ pub mod Reading
 pub mod Nodes
 pub mod Scope
 pub mod Typing
+pub mod Comparison
 pub mod Inference
 pub mod Faults
 pub mod Reduction

@@ -1,6 +1,5 @@
 -- Document 01, "Words and file", the tree kinds: types, and the terms of the two languages, as trees.
 use Prim.Native.Nat.{ℕ}
-use native.Mathlib.Decide.{ℕ-discrete}
 
 infixr 30 _to_
 -- "1 N (number); 2 L (lump, a sealed Scheme value); 3 list, written {t}: t; 4 function, written t to u: t, u." And of document 02, "The operand of L
@@ -10,11 +9,6 @@ pub data Ty : Type 0 where
   L : ℕ → Ty
   list : Ty → Ty
   _to_ : Ty → Ty → Ty
-  deriving Discrete as Ty-discrete-by
-
--- "Types are equal only if the owners are too."
-abbrev pub Ty-discrete : Discrete Ty
-Ty-discrete = Ty-discrete-by ℕ-discrete
 
 pub data Lang : Type 0 where
   ml sc : Lang
