@@ -172,6 +172,9 @@ held x = induction Held node-held x
         let lt = first-held (x .place) _ _ (parts x) (omega (arith, laid-end _ _ (parts x) laid)) laid h in
         omega (arith, lt, fault-first (x .place) (x .lambdas) (x .tree))
 
+pub fault-within : {l : Lang} (p : ℕ) (Γ : Lambdas) (e : Term l) → fault p Γ e < p + size e
+fault-within p Γ e = held (node p Γ e)
+
 -- No faulty node stands before it.
 first-lowest : {z : Node} {xs : List Node} (r p q : ℕ) → Laid p q xs → Among z xs → Faulty z → first r xs ≤ z .place
 first-lowest {z} r p q h itself f =
@@ -193,6 +196,18 @@ fault-lowest p Γ e q =
       faulty = located (node p Γ e) (untyped (node p Γ e) q) [];
       lowest = λ z d f. rw q at (first-lowest {xs = node p Γ e ∷ []} p p (p + size e) (omega arith, omega arith) d f);
     }
+
+-- A term that has a lowest fault has no type, and that fault is it.
+pub lowest-untyped : {l : Lang} (p : ℕ) (Γ : Lambdas) (e : Term l) (r : ℕ) → LowestFault (node p Γ e) r → (infer Γ e ≡ none) × (fault p Γ e ≡ r)
+lowest-untyped {l} p Γ e r f = by (infer Γ e) refl
+  where
+    by : (o : Option (Static l)) → infer Γ e ≡ o → (infer Γ e ≡ none) × (fault p Γ e ≡ r)
+    by none q =
+        let own = fault-lowest p Γ e q in
+        let z = f .faulty in
+        let y = own .faulty in
+        (q, omega (arith, f .lowest (y .0) (y .1) (y .2), y .3, own .lowest (z .0) (z .1) (z .2), z .3))
+    by (some τ) q = let z = f .faulty in absurd (typed-no-fault (node p Γ e) (z .0) (τ, infer-iff Γ e τ .0 q) (z .1) (z .2))
 
 -- A node's place is where its words stand.
 abbrev StandsIn : List ℕ → Node → Type 0

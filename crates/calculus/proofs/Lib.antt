@@ -8,6 +8,7 @@ pub mod Reading
 pub mod Nesting
 pub mod Nodes
 pub mod Scopes
+pub mod Ordering
 -- typing
 pub mod Types
 pub mod Comparison
@@ -38,6 +39,7 @@ pub mod Continuing
 pub mod Files
 pub mod Padding
 pub mod Checks
+pub mod Mismatches
 pub mod Refusing
 pub mod Demands
 pub mod Converting

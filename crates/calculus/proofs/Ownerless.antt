@@ -482,16 +482,23 @@ file-kept τ e =
 accepted-kept : (bytes bare : List ℕ) → Ownerless bytes bare → (τ : Ty) (e : Term ml) → Accepted bytes τ e
     → Accepted bare (ownerless τ) (ownerlessTerm e)
 accepted-kept bytes bare o τ e a =
+    let f = a .filed in
     record {
-      least = omega (arith, a .least, o .long);
-      most = omega (arith, a .most, o .long);
-      whole = rw (o .long) (a .whole);
-      spelt = o .spelt ∙ ap ownerlessFile (a .spelt) ∙ file-kept τ e;
-      nestsTy = rw (nests-type τ) (a .nestsTy);
-      nests = rw (nests e) (a .nests);
-      rangedTy = ranged-type τ;
-      ranged = ranged-kept e (a .ranged);
-      closed = scoped-kept [] e (a .closed);
+      filed =
+          record {
+            least = omega (arith, f .least, o .long);
+            most = omega (arith, f .most, o .long);
+            whole = rw (o .long) (f .whole);
+            spelt = o .spelt ∙ ap ownerlessFile (f .spelt) ∙ file-kept τ e;
+            order =
+                record {
+                  nestsTy = rw (nests-type τ) (f .order .nestsTy);
+                  nests = rw (nests e) (f .order .nests);
+                  rangedTy = ranged-type τ;
+                  ranged = ranged-kept e (f .order .ranged);
+                  closed = scoped-kept [] e (f .order .closed);
+                };
+          };
       typed = typed [] e τ (a .typed);
     }
 

@@ -1,28 +1,32 @@
 -- Document 01, "A refusal carries its number and a place": the place is in the file, or one past its last word, and the check's number is one of
 -- 1 to 7. Assumes nothing.
-use Prim.Native.Nat.{ℕ, suc, _+_, _-_, _≤_}
-use mathlib.Core.Bool.{Bool, true, false, cond}
-use mathlib.Core.List.{List, [], _∷_, _++_}
+use Prim.Native.Nat.{ℕ, _+_, _-_, _≤_}
+use mathlib.Core.Bool.{Bool, true, false}
+use mathlib.Core.List.{List, []}
+use mathlib.Core.Logic.{inl, inr}
 use mathlib.Core.Option.{Option, none, some}
-use mathlib.Core.Path.{_≡_, refl, sym, subst}
-use lib.Dec.{eqb, leb}
-use lib.ListN.{length, drop, replicate, length-drop}
+use mathlib.Core.Path.{_≡_, refl, sym, ap, subst}
+use lib.Dec.{leb}
+use lib.ListN.{length, drop, length-drop}
 use lib.Seq.{length-take-le}
 use native.Mathlib.Omega.{arith}
-use Rattle.calculus.specs.Trees.{Ty, Lang, ml, Term}
-use Rattle.calculus.specs.Kinds.{Sort, type, term, Row, rowFor}
-use Rattle.calculus.specs.Verdicts.{Verdict, refused, passed, andThen, unless, orRefuse}
-use Rattle.calculus.specs.Reading.{Act, opens, refuses, later, acted, walk, noneLeft, nestedDue, levels, levelled, inOrder, readTree}
-use Rattle.calculus.specs.Scope.{isFree, inside, partCount, scopeDue}
-use Rattle.calculus.specs.Inference.{sameType, infer}
+use Rattle.calculus.specs.Trees.{Ty, ml, Term}
+use Rattle.calculus.specs.Kinds.{type, term}
+use Rattle.calculus.specs.Verdicts.{found, Verdict, refused, passed, andThen, unless, orRefuse}
+use Rattle.calculus.specs.Comparison.{compareTypes}
+use Rattle.calculus.specs.Inference.{infer}
+use Rattle.calculus.specs.Faults.{fault}
 use Rattle.calculus.specs.File.{wordsOf, isSize, isHeader, typeCount, typeWords, termWords, Recipe, typed, judged, checkWords, check, runIn}
 use Rattle.calculus.specs.File.{operate}
-use Rattle.calculus.specs.Words.{size}
+use Rattle.calculus.specs.Words.{sizeTy, size}
 use Rattle.calculus.specs.Run.{Result, uncounted, run, capacity}
 use Rattle.calculus.proofs.Verdicts.{not-both}
-use Rattle.calculus.proofs.Walks.{reach, walk-reach}
-use Rattle.calculus.proofs.Nesting.{nestedBy}
+use Rattle.calculus.proofs.Sizes.{tree-length}
+use Rattle.calculus.proofs.Ordering.{Proper, refusing, passing, proper-bounds}
+use Rattle.calculus.proofs.Comparison.{differ-apart}
+use Rattle.calculus.proofs.Faults.{fault-within}
 use Rattle.calculus.proofs.Files.{header-iff}
+use Rattle.calculus.proofs.Checks.{Ways, ways, judged-typed}
 
 -- A refusal's place is at most b.
 abbrev pub PlaceWithin : {A : Type 0} → ℕ → Verdict A → Type 0
@@ -34,112 +38,62 @@ abbrev pub Numbered : {A : Type 0} → Verdict A → Type 0
 Numbered (refused n p) = (1 ≤ n) × (n ≤ 7)
 Numbered (passed a) = Unit {0}
 
--- Both of them, where no number is under m.
-data Proper {A : Type 0} (m b : ℕ) : Verdict A → Type 0 where
-  refusing : (n p : ℕ) → (m ≤ n) × (n ≤ 7) × (p ≤ b) → Proper m b (refused n p)
-  passing : {a : A} → Proper m b (passed a)
-
-proper-within : {A : Type 0} {m b : ℕ} {v : Verdict A} → Proper m b v → PlaceWithin b v
+-- Both of them, by the bounds that a verdict keeps.
+proper-within : {A : Type 0} {l m b : ℕ} {v : Verdict A} → Proper l m b v → PlaceWithin b v
 proper-within (refusing n p h) = h .2
 proper-within passing = tt
 
-proper-number : {A : Type 0} {b : ℕ} {v : Verdict A} → Proper 1 b v → Numbered v
+proper-number : {A : Type 0} {b : ℕ} {v : Verdict A} → Proper 1 7 b v → Numbered v
 proper-number (refusing n p h) = (h .0, h .1)
 proper-number passing = tt
 
-proper-from : {A : Type 0} {m b : ℕ} {v : Verdict A} → 1 ≤ m → Proper m b v → Proper 1 b v
+proper-from : {A : Type 0} {l b : ℕ} {v : Verdict A} → 1 ≤ l → Proper l 7 b v → Proper 1 7 b v
 proper-from l (refusing n p h) = refusing n p (omega arith)
 proper-from l passing = passing
 
-proper-then : {A B : Type 0} {m b : ℕ} {v : Verdict A} {k : A → Verdict B} → Proper m b v → ((a : A) → Proper m b (k a)) → Proper m b (andThen v k)
-proper-then (refusing n p h) f = refusing n p h
-proper-then (passing {a}) f = f a
+proper-unless : {A : Type 0} (b n p : ℕ) → (1 ≤ n) × (n ≤ 7) × (p ≤ b) → (t : Bool) {v : Verdict A} → (t ≡ true → Proper 1 7 b v)
+    → Proper 1 7 b (unless t n p v)
+proper-unless b n p h true f = f refl
+proper-unless b n p h false f = refusing n p h
 
-module _ {A : Type 0} (m b n p : ℕ) (h : (m ≤ n) × (n ≤ 7) × (p ≤ b)) where
-  proper-unless : (t : Bool) {v : Verdict A} → (t ≡ true → Proper m b v) → Proper m b (unless t n p v)
-  proper-unless true f = f refl
-  proper-unless false f = refusing n p h
-
-  proper-or : (o : Option A) → Proper m b (orRefuse o n p)
-  proper-or none = refusing n p h
-  proper-or (some a) = passing
-
--- An answer that is n words further on.
-proper-later : {m b c : ℕ} {v : Verdict ℕ} (n : ℕ) → n + c ≤ b → Proper m c v → Proper m b (later n v)
-proper-later n r (refusing k p h) = refusing k (n + p) (omega arith)
-proper-later n r passing = passing
-
--- What a word means where something is due.
-abbrev Due : {D : Type 0} → Act D → Type 0
-Due (opens ps) = Unit {0}
-Due (refuses r) = (3 ≤ r) × (r ≤ 7)
-
-proper-acted : {D : Type 0} (n : ℕ) (a : Act D) {rest : List D → Verdict ℕ} → Due a → ((ps : List D) → Proper 3 n (rest ps))
-    → Proper 3 (suc n) (acted a rest)
-proper-acted n (opens ps) h f = proper-later 1 (omega arith) (f ps)
-proper-acted n (refuses r) h f = refusing r 0 (omega arith)
-
-proper-walk : {D : Type 0} (f : D → ℕ → Act D) → ((d : D) (w : ℕ) → Due (f d w)) → (ws : List ℕ) (ds : List D) → Proper 3 (length ws) (walk f ws ds)
-unfolding walk
-proper-walk f h [] [] = passing
-proper-walk f h [] (d ∷ ds) = refusing 3 0 (omega arith)
-proper-walk f h (w ∷ ws) [] = passing
-proper-walk f h (w ∷ ws) (d ∷ ds) = proper-acted (length ws) (f d w) (h d w) (λ ps. proper-walk f h ws (ps ++ ds))
-
-due-cond : {D : Type 0} (t : Bool) (a b : Act D) → Due a → Due b → Due (cond t a b)
-due-cond true a b h k = h
-due-cond false a b h k = k
-
-due-nested : (d : Sort × ℕ) (w : ℕ) → Due (nestedDue d w)
-due-nested d w = by (rowFor (d .0) w)
-  where
-    by : (o : Option (Row (d .0))) → Due (nestedBy (d .1) o)
-    by none = omega arith
-    by (some r) = due-cond (eqb (d .1) 0) (refuses 4) (opens (levelled (d .1 - 1) (r .parts))) (omega arith) tt
-
-due-scope : (Γ : List Lang) (w : ℕ) → Due (scopeDue Γ w)
-due-scope Γ w = due-cond (isFree Γ w) (refuses 5) (opens (replicate (partCount w) (inside Γ w))) (omega arith) tt
-
-proper-order : (s : Sort) (ws : List ℕ) → Proper 3 (length ws) (inOrder s ws)
-unfolding inOrder
-proper-order s ws = by (walk-reach nestedDue ws ((s, levels) ∷ [])) (proper-walk nestedDue due-nested ws ((s, levels) ∷ []))
-  where
-    chosen : (t : Bool) (m : ℕ) → m ≤ length ws → Proper 3 (length ws) (cond t (passed m) (refused 3 m))
-    chosen true m h = passing
-    chosen false m h = refusing 3 m (omega arith)
-
-    by : {v : Verdict ℕ} → reach v ≤ length ws → Proper 3 (length ws) v → Proper 3 (length ws) (noneLeft (length ws) v)
-    by h (refusing n p i) = refusing n p i
-    by h (passing {a = m}) = chosen (eqb m (length ws)) m h
-
-proper-typed : (b : ℕ) (τ : Ty) (e : Term ml) → Proper 3 b (typed τ e)
+-- Of a type, which stands at p, and of a term, which stands at q: the fault stands in the term, the difference in the type.
+proper-typed : (b p q : ℕ) (τ : Ty) (e : Term ml) → p + sizeTy τ ≤ b → q + size e ≤ b → Proper 3 7 b (typed p q τ e)
 unfolding typed
-proper-typed b τ e =
-    proper-then (proper-or 3 b 6 0 (omega arith) (infer [] e)) (λ t. proper-unless 3 b 7 0 (omega arith) (sameType ml t τ) (λ q. passing))
+proper-typed b p q τ e m n = by (infer [] e)
+  where
+    of-difference : (t : Ty) (o : Option ℕ) → compareTypes τ t ≡ o → Proper {A = Recipe} 3 7 b (found o (passed (τ, e)) (λ d. refused 7 (p + d)))
+    of-difference t none z = passing
+    of-difference t (some d) z = refusing 7 (p + d) (omega (arith, differ-apart τ t d z .0))
+
+    by : (o : Option Ty)
+        → Proper {A = Recipe} 3 7 b (andThen (orRefuse o 6 (fault q [] e)) (λ t. found (compareTypes τ t) (passed (τ, e)) (λ d. refused 7 (p + d))))
+    by none = refusing 6 (fault q [] e) (omega (arith, fault-within q [] e))
+    by (some t) = of-difference t (compareTypes τ t) refl
 
 -- Of the words of a type, which stands at 4, and of those of a term: one of 3 to 7.
-proper-judged : (types terms : List ℕ) (start b : ℕ) → 4 + length types ≤ b → start + length terms ≤ b → Proper 3 b (judged types terms start)
-proper-judged types terms start b n m =
-    proper-then (proper-later 4 n (proper-order type types)) (λ i.
-    proper-then (proper-later start m (proper-order (term ml) terms)) (λ j.
-    proper-then (proper-later start m (proper-walk scopeDue due-scope terms ([] ∷ []))) (λ k.
-    proper-then (proper-or 3 b 3 4 (omega arith) (readTree type types)) (λ τ.
-    proper-then (proper-or 3 b 3 start (omega arith) (readTree (term ml) terms)) (λ e. proper-typed b τ e)))))
+proper-judged : (types terms : List ℕ) (start b : ℕ) → 4 + length types ≤ b → start + length terms ≤ b → Proper 3 7 b (judged types terms start)
+proper-judged types terms start b n m = by (ways types terms start b n m)
+  where
+    by : Ways types terms start b → Proper 3 7 b (judged types terms start)
+    by (inl x) =
+        let s = x .2 in
+        subst (Proper 3 7 b) (sym (judged-typed types terms start s))
+        (proper-typed b 4 start (x .0) (x .1)
+        (omega (arith, n, ap length (s .types-are), tree-length type (x .0) []))
+        (omega (arith, m, ap length (s .terms-are), tree-length (term ml) (x .1) [])))
+    by (inr d) = subst (Proper 3 7 b) (sym (d .is)) (refusing (d .number) (d .place) (omega (arith, d .least, d .most), omega (arith, d .most), d .near))
 
 pub judged-refused : (types terms : List ℕ) (start b n p : ℕ) → 4 + length types ≤ b → start + length terms ≤ b
     → judged types terms start ≡ refused n p → (3 ≤ n) × (n ≤ 7) × (p ≤ b)
-judged-refused types terms start b n p k m q = by (subst (Proper 3 b) q (proper-judged types terms start b k m))
-  where
-    by : Proper {A = Recipe} 3 b (refused n p) → (3 ≤ n) × (n ≤ 7) × (p ≤ b)
-    by (refusing n p h) = h
+judged-refused types terms start b n p k m q = proper-bounds (subst (Proper 3 7 b) q (proper-judged types terms start b k m))
 
 -- The declared type ends where the term starts, and the term where the file ends.
-proper-words : (ws : List ℕ) → Proper 1 (length ws) (checkWords ws)
+proper-words : (ws : List ℕ) → Proper 1 7 (length ws) (checkWords ws)
 unfolding checkWords
 proper-words ws =
-    proper-unless 1 (length ws) 2 0 (omega arith) (isHeader ws) (λ h. let i = header-iff ws .0 h in behind (omega (arith, i .0 .1, i .1)))
+    proper-unless (length ws) 2 0 (omega arith) (isHeader ws) (λ h. let i = header-iff ws .0 h in behind (omega (arith, i .0 .1, i .1)))
   where
-    behind : 4 + typeCount ws ≤ length ws → Proper 1 (length ws) (judged (typeWords ws) (termWords ws) (4 + typeCount ws))
+    behind : 4 + typeCount ws ≤ length ws → Proper 1 7 (length ws) (judged (typeWords ws) (termWords ws) (4 + typeCount ws))
     behind b =
         let start = 4 + typeCount ws in
         let l : length (drop 4 ws) ≡ length ws - 4 = length-drop 4 ws in
@@ -150,9 +104,9 @@ proper-words ws =
 pub words-within : (ws : List ℕ) → PlaceWithin (length ws) (checkWords ws)
 words-within ws = proper-within (proper-words ws)
 
-proper-check : (bytes : List ℕ) → Proper 1 (length (wordsOf bytes)) (check bytes)
+proper-check : (bytes : List ℕ) → Proper 1 7 (length (wordsOf bytes)) (check bytes)
 unfolding check
-proper-check bytes = proper-unless 1 (length (wordsOf bytes)) 1 0 (omega arith) (isSize (length bytes)) (λ h. proper-words (wordsOf bytes))
+proper-check bytes = proper-unless (length (wordsOf bytes)) 1 0 (omega arith) (isSize (length bytes)) (λ h. proper-words (wordsOf bytes))
 
 -- Of every file that is refused.
 pub place-in-file : (bytes : List ℕ) → PlaceWithin (length (wordsOf bytes)) (check bytes)

@@ -7,10 +7,12 @@ use lib.ListN.{length, getD, take, drop, replicate}
 use Rattle.calculus.specs.Trees.{Ty, ml, Term}
 use Rattle.calculus.specs.Words.{size}
 use Rattle.calculus.specs.Kinds.{Sort, type, term, Tree}
-use Rattle.calculus.specs.Verdicts.{Verdict, refused, passed, andThen, unless, orRefuse}
+use Rattle.calculus.specs.Verdicts.{found, Verdict, refused, passed, andThen, unless, orRefuse}
 use Rattle.calculus.specs.Reading.{later, walk, inOrder, readTree}
 use Rattle.calculus.specs.Scope.{scopeDue}
-use Rattle.calculus.specs.Inference.{sameType, infer}
+use Rattle.calculus.specs.Comparison.{compareTypes}
+use Rattle.calculus.specs.Inference.{infer}
+use Rattle.calculus.specs.Faults.{fault}
 use Rattle.calculus.specs.Run.{Result, run, uncounted, capacity}
 
 -- "little-endian words".
@@ -65,9 +67,13 @@ scoped ws p v = andThen (later p (walk scopeDue ws ([] ∷ []))) (λ n. v)
 abbrev pub Recipe : Type 0
 Recipe = Ty × Term ml
 
--- "6 | the term has no type", "7 | its type is not the declared one".
-unfoldable pub typed : Ty → Term ml → Verdict Recipe
-typed τ e = andThen (orRefuse (infer [] e) 6 0) (λ t. unless (sameType ml t τ) 7 0 (passed (τ, e)))
+-- "6 | the term has no type", "7 | its type is not the declared one", of a declared type that stands at p and a term that stands at q. Document 02:
+-- "Refusal 6 carries the lowest-numbered node that has no type, or is not well formed, while all its own parts are in order. Refusal 7 carries the
+-- first declared word that differs from the type found."
+unfoldable pub typed : ℕ → ℕ → Ty → Term ml → Verdict Recipe
+typed p q τ e =
+    andThen (orRefuse (infer [] e) 6 (fault q [] e)) (λ t.
+    found (compareTypes τ t) (passed (τ, e)) (λ d. refused 7 (p + d)))
 
 -- The trees that words in order are; words that are none have been refused by 3 already.
 abbrev pub withTree : {A : Type 0} → (s : Sort) → List ℕ → ℕ → (Tree s → Verdict A) → Verdict A
@@ -81,7 +87,7 @@ judged types terms start =
     (ordered (term ml) terms start
     (scoped terms start
     (withTree type types 4 (λ τ.
-    withTree (term ml) terms start (λ e. typed τ e)))))
+    withTree (term ml) terms start (λ e. typed 4 start τ e)))))
 
 -- Refusals 2 to 7 of a file's words: "Order: 1, 2; then 3 and 4 ..; 8. The check alone never gives 8."
 unfoldable pub checkWords : List ℕ → Verdict Recipe

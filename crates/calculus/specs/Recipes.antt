@@ -1,6 +1,6 @@
 -- Document 01, "Recipes tried by hand": those with a star, and the small inputs of the table of refusals, from the file's bytes to the
--- result; three recipes that tell classes of steps apart; one that an earlier engine saved; and six with lumps of owners. proofs/Recipes.antt
--- proves them all.
+-- result; three recipes that tell classes of steps apart; one that an earlier engine saved; six with lumps of owners; and six whose refusal points
+-- at a mismatch. proofs/Recipes.antt proves them all.
 use Prim.Native.Nat.{ℕ}
 use mathlib.Core.List.{List, [], _∷_, _++_}
 use mathlib.Core.Path.{_≡_}
@@ -87,8 +87,8 @@ pub record Owned : Type 0 where
   pub resealed : EndsAs (fileOf (1 ∷ []) (takenBy9 (30 ∷ 2306 ∷ 45 ∷ 1794 ∷ 30 ∷ 1794 ∷ 1057 ∷ []))) plenty
       valued 0 (counting 4 1 3 0) (1041 ∷ []) 0
   -- Owner 7's lump is not owner 9's: e is ms L7 4; and ms L7 4 at the declared type L9
-  pub handed-over : Refuses (fileOf (1 ∷ []) (takenBy9 (30 ∷ 1794 ∷ 1057 ∷ []))) plenty 6 0
-  pub declared-otherwise : Refuses (fileOf (2306 ∷ []) (30 ∷ 1794 ∷ 1057 ∷ [])) plenty 7 0
+  pub handed-over : Refuses (fileOf (1 ∷ []) (takenBy9 (30 ∷ 1794 ∷ 1057 ∷ []))) plenty 6 9
+  pub declared-otherwise : Refuses (fileOf (2306 ∷ []) (30 ∷ 1794 ∷ 1057 ∷ [])) plenty 7 4
   -- "an owner, 0 to 255 .. A larger owner is refusal 3": ms L255 4 is a value; 256 declared, and at the ms
   pub last : EndsAs (fileOf (65282 ∷ []) (30 ∷ 65282 ∷ 1057 ∷ [])) plenty valued 0 (counting 0 0 0 0) (30 ∷ 65282 ∷ 1057 ∷ []) 0
   pub larger-declared : Refuses (fileOf (65538 ∷ []) (30 ∷ 65538 ∷ 1057 ∷ [])) plenty 3 4
@@ -101,8 +101,21 @@ pub record Refused : Type 0 where
   pub no-kind : Refuses (1 ∷ 4 ∷ 1 ∷ 5 ∷ 1 ∷ 99 ∷ []) plenty 3 5
   pub nested : Refuses (fileOf (1 ∷ []) (replicate 256 20 ++ 17 ∷ [])) plenty 4 261
   pub unbound : Refuses (1 ∷ 4 ∷ 1 ∷ 5 ∷ 1 ∷ 16 ∷ []) plenty 5 5
-  pub untyped : Refuses (fileOf (1 ∷ []) (19 ∷ 17 ∷ 17 ∷ [])) plenty 6 0
-  pub mistyped : Refuses (1 ∷ 4 ∷ 1 ∷ 5 ∷ 2 ∷ 17 ∷ []) plenty 7 0
+  pub untyped : Refuses (fileOf (1 ∷ []) (19 ∷ 17 ∷ 17 ∷ [])) plenty 6 5
+  pub mistyped : Refuses (1 ∷ 4 ∷ 1 ∷ 5 ∷ 2 ∷ 17 ∷ []) plenty 7 4
   pub no-room : Refuses (1 ∷ 4 ∷ 1 ∷ 5 ∷ 1 ∷ 17 ∷ []) (allowed 1000000 0) 8 0
   pub other-language : Refuses (fileOf (4 ∷ 1 ∷ 1 ∷ []) (18 ∷ 1 ∷ 30 ∷ 1 ∷ 32 ∷ [])) plenty 5 11
   pub kind-first : Refuses (fileOf (1 ∷ []) (replicate 256 20 ++ 99 ∷ [])) plenty 3 261
+
+-- Document 02, "Point at the mismatch".
+pub record Pointed : Type 0 where
+  -- if0 (nil N) (hd 3) 1: hd, because all parts of a node come before it; if0 (nil N) 0 1: if0 itself
+  pub part-first : Refuses (fileOf (1 ∷ []) (23 ∷ 24 ∷ 1 ∷ 26 ∷ 785 ∷ 273 ∷ [])) plenty 6 8
+  pub node-itself : Refuses (fileOf (1 ∷ []) (23 ∷ 24 ∷ 1 ∷ 17 ∷ 273 ∷ [])) plenty 6 5
+  -- add (hd 3) (tl 4): the lower of two
+  pub lowest : Refuses (fileOf (1 ∷ []) (21 ∷ 26 ∷ 785 ∷ 27 ∷ 1041 ∷ [])) plenty 6 6
+  -- ms N (sm N (nil N)): sm
+  pub at-boundary : Refuses (fileOf (1 ∷ []) (30 ∷ 1 ∷ 45 ∷ 1 ∷ 24 ∷ 1 ∷ [])) plenty 6 7
+  -- fn N (fn N 0), declared N to (N to {N}): the word of the list; fn N (ms L4 0), declared N to L3: the owner's word
+  pub in-result : Refuses (fileOf (4 ∷ 1 ∷ 4 ∷ 1 ∷ 3 ∷ 1 ∷ []) (18 ∷ 1 ∷ 18 ∷ 1 ∷ 17 ∷ [])) plenty 7 8
+  pub in-owner : Refuses (fileOf (4 ∷ 1 ∷ 770 ∷ []) (18 ∷ 1 ∷ 30 ∷ 1026 ∷ 33 ∷ [])) plenty 7 6

@@ -1,0 +1,103 @@
+-- Refusal 6 carries the lowest faulty node, refusal 7 the first declared word that differs from the type found, and neither carries anything else.
+-- Assumes nothing.
+use Prim.Native.Nat.{ℕ, _+_, _≤_}
+use mathlib.Core.List.{List, []}
+use mathlib.Core.Logic.{_↔_}
+use mathlib.Core.Option.{Option, none, some}
+use mathlib.Core.Path.{_≡_, refl, sym, ap, _∙_, subst}
+use lib.ListN.{length}
+use native.Mathlib.Omega.{arith}
+use Rattle.calculus.specs.Trees.{Ty, ml, Term}
+use Rattle.calculus.specs.Words.{sizeTy}
+use Rattle.calculus.specs.Verdicts.{found, Verdict, refused, passed, andThen, orRefuse}
+use Rattle.calculus.specs.Comparison.{compareTypes}
+use Rattle.calculus.specs.Inference.{infer}
+use Rattle.calculus.specs.Faults.{fault}
+use Rattle.calculus.specs.File.{Recipe, typed, judged, check}
+use Rattle.calculus.specs.Accepted.{Spelt, Filed}
+use Rattle.calculus.specs.Mismatches.{FaultAt, MismatchAt, Points}
+use Rattle.calculus.proofs.Verdicts.{not-both, refused-injective}
+use Rattle.calculus.proofs.Comparison.{compares}
+use Rattle.calculus.proofs.Inference.{infer-iff}
+use Rattle.calculus.proofs.Faults.{fault-lowest, lowest-untyped}
+use Rattle.calculus.proofs.Checks.{judged-typed, judged-as, filed-judged, checked-as}
+
+-- The typing's answer for a type that stands at p and a term that stands at q, by the type inferred and by its difference.
+module _ (p q : ℕ) (τ : Ty) (e : Term ml) (r : ℕ) where
+  abbrev compared : Option ℕ → Verdict Recipe
+  compared o = found o (passed (τ, e)) (λ d. refused 7 (p + d))
+
+  abbrev inferred : Option Ty → Verdict Recipe
+  inferred o = andThen (orRefuse o 6 (fault q [] e)) (λ t. compared (compareTypes τ t))
+
+  six-iff : (typed p q τ e ≡ refused 6 r) ↔ FaultAt q e r
+  unfolding typed
+  six-iff = (
+    λ z. by (infer [] e) refl z,
+    λ f. let u = lowest-untyped q [] e r f in rw (u .0, u .1),
+  )
+    where
+      no-six : (o : Option ℕ) → ¬ (compared o ≡ refused 6 r)
+      no-six none z = not-both 6 r (τ, e) (sym z)
+      no-six (some d) z = omega (arith, refused-injective z .0)
+
+      by : (o : Option Ty) → infer [] e ≡ o → inferred o ≡ refused 6 r → FaultAt q e r
+      by none i z = subst (FaultAt q e) (refused-injective z .1) (fault-lowest q [] e i)
+      by (some t) i z = absurd (no-six (compareTypes τ t) z)
+
+  seven-iff : (typed p q τ e ≡ refused 7 r) ↔ MismatchAt p τ e r
+  unfolding typed
+  seven-iff = (
+    λ z. by (infer [] e) refl z,
+    λ m. rw (infer-iff [] e (m .found) .1 (m .typed), compares .differ τ (m .found) (m .before) .1 (m .differ), m .place),
+  )
+    where
+      differing : (t : Ty) → infer [] e ≡ some t → (o : Option ℕ) → compareTypes τ t ≡ o → compared o ≡ refused 7 r → MismatchAt p τ e r
+      differing t i none c z = absurd (not-both 7 r (τ, e) (sym z))
+      differing t i (some d) c z =
+          record {
+            found = t;
+            typed = infer-iff [] e t .0 i;
+            before = d;
+            place = sym (refused-injective z .1);
+            differ = compares .differ τ t d .0 c;
+          }
+
+      by : (o : Option Ty) → infer [] e ≡ o → inferred o ≡ refused 7 r → MismatchAt p τ e r
+      by none i z = absurd (omega (arith, refused-injective z .0))
+      by (some t) i z = differing t i (compareTypes τ t) refl z
+
+-- A number over 5 is not one of those of the words' order.
+past-five : {n r : ℕ} → 6 ≤ n → (m p : ℕ) → m ≤ 5 → ¬ (_≡_ {A = Verdict Recipe} (refused m p) (refused n r))
+past-five h m p l q = omega (arith, h, l, refused-injective q .0)
+
+-- What is said of the typing's answer is said of the check's.
+module _ (P : Ty → Term ml → ℕ → ℕ → Type 0) (n : ℕ) (late : 6 ≤ n) where
+  abbrev Said : Type 0
+  Said = (q : ℕ) (τ : Ty) (e : Term ml) (r : ℕ) → (typed 4 q τ e ≡ refused n r) ↔ P τ e q r
+
+  of-words : Said → (types terms : List ℕ) (start r : ℕ)
+      → (judged types terms start ≡ refused n r) ↔ ((τ : Ty) × (e : Term ml) × Spelt types terms τ e × P τ e start r)
+  of-words said types terms start r = (
+    λ z.
+        let j = judged-as types terms start z (past-five late) in
+        (j .0, j .1, j .2, said start (j .0) (j .1) r .0 (j .3)),
+    λ h. judged-typed types terms start (h .2) ∙ said start (h .0) (h .1) r .1 (h .3),
+  )
+
+  of-files : Said → (bytes : List ℕ) (r : ℕ) → (check bytes ≡ refused n r) ↔ ((τ : Ty) × (e : Term ml) × Filed bytes τ e × P τ e (4 + sizeTy τ) r)
+  of-files said bytes r = (
+    λ z.
+        let j = checked-as bytes z (past-five late) in
+        (j .0, j .1, j .2, said _ (j .0) (j .1) r .0 (j .3)),
+    λ h. filed-judged bytes (h .2) .1 ∙ said _ (h .0) (h .1) r .1 (h .3),
+  )
+
+pub points : Points
+points =
+    record {
+      six = of-files (λ τ e q r. FaultAt q e r) 6 (omega arith) (six-iff 4);
+      seven = of-files (λ τ e q r. MismatchAt 4 τ e r) 7 (omega arith) (seven-iff 4);
+      six-of-words = λ types terms. of-words (λ τ e q r. FaultAt q e r) 6 (omega arith) (six-iff 4) types terms (4 + length types);
+      seven-of-words = λ types terms. of-words (λ τ e q r. MismatchAt 4 τ e r) 7 (omega arith) (seven-iff 4) types terms (4 + length types);
+    }
