@@ -13,7 +13,7 @@ use Rattle.calculus.specs.Trees.{Ty, N, L, list, _to_, ml}
 use Rattle.calculus.specs.Words.{word, putTy, wordsTy, sizeTy}
 use Rattle.calculus.specs.Kinds.{type}
 use Rattle.calculus.specs.Verdicts.{found}
-use Rattle.calculus.specs.Comparison.{furtherOn, firstDifference, compareTypes, DifferAt, Compares}
+use Rattle.calculus.specs.Comparison.{furtherOn, firstDifference, compareTypes, DifferAt, ComparesExactly}
 use Rattle.calculus.specs.Inference.{sameType, EqualByWords}
 use Rattle.calculus.proofs.Sizes.{tree-append, tree-length}
 use Rattle.calculus.proofs.Views.{view, sized}
@@ -208,7 +208,7 @@ differ-iff t u n = (
   differ-found (wordsTy t) (wordsTy u) n,
 )
 
-pub compares : Compares
+pub compares : ComparesExactly
 compares =
     record {
       equal = equal-iff;

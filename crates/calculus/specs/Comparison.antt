@@ -35,7 +35,7 @@ pub record DifferAt (xs ys : List ℕ) (n : ℕ) : Type 0 where
 
 -- What the comparison says, both ways; proofs/Comparison.antt proves it. The difference lies within both types, because neither type's words are
 -- the start of the other's.
-pub record Compares : Type 0 where
+pub record ComparesExactly : Type 0 where
   pub equal : (t u : Ty) → (compareTypes t u ≡ none) ↔ (t ≡ u)
   pub differ : (t u : Ty) (n : ℕ) → (compareTypes t u ≡ some n) ↔ DifferAt (wordsTy t) (wordsTy u) n
   pub no-start : (t u : Ty) (k : List ℕ) → wordsTy t ++ k ≡ wordsTy u → k ≡ []

@@ -1,5 +1,4 @@
 pub mod Pairs
-pub mod Differences
 pub mod Matching
 pub mod Meanings
 pub mod Frames

@@ -1,17 +1,24 @@
--- Two types: of one form, or not the same; and whether types of one form are the same, by their parts. Assumes nothing.
-use Prim.Native.Nat.{ℕ, _+_}
-use mathlib.Core.Bool.{Bool, true, false, _&&_, and-eq-true-iff}
+-- Two types: of one shape, or different in their first words; and two lumps. Assumes nothing.
+use Prim.Native.Nat.{ℕ, _+_, _%_}
+use mathlib.Core.Bool.{Bool, true, false, cond}
+use mathlib.Core.List.{[]}
 use mathlib.Core.Logic.{_↔_}
+use mathlib.Core.Option.{none, some}
 use mathlib.Core.Path.{_≡_, refl, sym, ap, _∙_}
-use borrow.Author.Tests.{eqb-true, eq-eqb}
+use borrow.Author.Tests.{eqb-true, eqb-false}
 use lib.Dec.{eqb}
+use lib.ListN.{getD}
 use native.Mathlib.Omega.{arith}
 use Rattle.calculus.specs.Trees.{Ty, N, L, list, _to_, ml}
+use Rattle.calculus.specs.Words.{word, putTy, wordsTy}
 use Rattle.calculus.specs.Kinds.{type}
+use Rattle.calculus.specs.Comparison.{compareTypes}
 use Rattle.calculus.specs.Inference.{sameType}
+use Rattle.calculus.proofs.Comparison.{at-first, equal-iff}
 use Rattle.calculus.proofs.Inference.{same-iff}
 use Rattle.calculus.proofs.Types.{kindTy, by-pairs}
-use Rattle.nodes.specs.Table.{shapeNumber}
+use Rattle.nodes.specs.Table.{rowOf, shapeNumber}
+use Rattle.nodes.proofs.Shapes.{shape-first}
 
 -- Two tests that hold on one condition are equal.
 one-test : (a b : Bool) → (a ≡ true) ↔ (b ≡ true) → a ≡ b
@@ -19,37 +26,14 @@ one-test true b h = sym (h .0 refl)
 one-test false true h = h .1 refl
 one-test false false h = refl
 
-pub same-refl : (t : Ty) → sameType ml t t ≡ true
-same-refl t = same-iff ml t t .1 refl
-
 pub same-sym : (t u : Ty) → sameType ml t u ≡ sameType ml u t
 same-sym t u = one-test _ _ (λ q. same-iff ml u t .1 (sym (same-iff ml t u .0 q)), λ q. same-iff ml t u .1 (sym (same-iff ml u t .0 q)))
-
-pub same-lumps : (o u : ℕ) → sameType ml (L o) (L u) ≡ eqb o u
-same-lumps o u =
-    one-test _ _ (
-      λ q. let e = same-iff ml (L o) (L u) .0 q in eq-eqb o u cc,
-      λ q. same-iff ml (L o) (L u) .1 (ap L (eqb-true o u q)),
-    )
 
 pub same-lists : (t u : Ty) → sameType ml (list t) (list u) ≡ sameType ml t u
 same-lists t u =
     one-test _ _ (
       λ q. let e = same-iff ml (list t) (list u) .0 q in same-iff ml t u .1 cc,
       λ q. same-iff ml (list t) (list u) .1 (ap list (same-iff ml t u .0 q)),
-    )
-
-pub same-functions : (s t u v : Ty) → sameType ml (s to t) (u to v) ≡ sameType ml s u && sameType ml t v
-same-functions s t u v =
-    one-test _ _ (
-      λ q.
-          let e = same-iff ml (s to t) (u to v) .0 q in
-          and-eq-true-iff _ _ .1 (same-iff ml s u .1 cc, same-iff ml t v .1 cc),
-      λ q.
-          let h = and-eq-true-iff (sameType ml s u) (sameType ml t v) .0 q in
-          let a = same-iff ml s u .0 (h .0) in
-          let b = same-iff ml t v .0 (h .1) in
-          same-iff ml (s to t) (u to v) .1 (rw (a, b)),
     )
 
 -- Types of two kinds have two shapes.
@@ -62,13 +46,25 @@ other-kinds t u n e = n (omega (arith, e, shape-kind t, shape-kind u))
     shape-kind (list t) = refl
     shape-kind (t to u) = refl
 
--- Types of two shapes are not the same.
-pub other-shapes : (t u : Ty) → (shapeNumber type t ≡ shapeNumber type u → ⊥) → sameType ml t u ≡ false
-other-shapes t u d = by (sameType ml t u) refl
+-- Types that differ in their first words; and types of two shapes do.
+pub other-firsts : (t u : Ty) → ¬ (getD (wordsTy t) 0 0 ≡ getD (wordsTy u) 0 0) → compareTypes t u ≡ some 0
+other-firsts t u d = at-first (wordsTy t) (wordsTy u) d
+
+pub other-shapes : (t u : Ty) → ¬ (shapeNumber type t ≡ shapeNumber type u) → compareTypes t u ≡ some 0
+other-shapes t u d =
+    other-firsts t u (λ e. d (sym (shape-first type t []) ∙ ap (λ (j : ℕ). rowOf (j % 256) .shape) e ∙ shape-first type u []))
+
+pub not-same : (t u : Ty) → ¬ (shapeNumber type t ≡ shapeNumber type u) → sameType ml t u ≡ false
+not-same t u d = rw (other-shapes t u d)
+
+-- Lumps are equal if their words are.
+pub lumps-compared : (o u : ℕ) → compareTypes (L o) (L u) ≡ cond (eqb (word 2 o) (word 2 u)) none (some 0)
+unfolding putTy
+lumps-compared o u = by (eqb (word 2 o) (word 2 u)) refl
   where
-    by : (b : Bool) → sameType ml t u ≡ b → sameType ml t u ≡ false
-    by true q = absurd (d (ap (shapeNumber type) (same-iff ml t u .0 q)))
-    by false q = q
+    by : (b : Bool) → eqb (word 2 o) (word 2 u) ≡ b → compareTypes (L o) (L u) ≡ cond b none (some 0)
+    by true q = equal-iff (L o) (L u) .1 (ap L (omega (arith, eqb-true (word 2 o) (word 2 u) q)))
+    by false q = other-firsts (L o) (L u) (eqb-false (word 2 o) (word 2 u) q)
 
 -- Two types of one shape, by the shape.
 pub one-shape : (P : Ty → Ty → Type 0) (h : ℕ) → (h ≡ 10 → P N N) → (h ≡ 11 → (o u : ℕ) → P (L o) (L u)) → (h ≡ 12 → (t u : Ty) → P (list t) (list u))

@@ -9,8 +9,10 @@ use lib.Dec.{eqb}
 use native.Mathlib.Omega.{arith}
 use Rattle.calculus.specs.Trees.{Ty, N, L, list, _to_, ml}
 use Rattle.calculus.specs.Inference.{sameType, element as elementType}
+use Rattle.calculus.proofs.Inference.{same-iff}
 use Rattle.types.specs.References.{formerAt, Means}
 use Rattle.types.specs.Comparisons.{TypeEnd}
+use Rattle.types.proofs.Pairs.{not-same}
 use Rattle.types.proofs.Meanings.{behind, means-former, argument-written}
 use Rattle.typing.specs.Operators.{argumentEnd, ArgumentEnd, elementOf}
 
@@ -74,8 +76,10 @@ module _ (w : List ℕ) (t r : ℕ) (e : r ≡ elementOf w t) where
 module _ (w : List ℕ) (t f : ℕ) (e : f ≡ formerAt w t) (ls : List ℕ) (lo hi : ℕ) where
   pub is-number : f ≡ 10 → (s : Ty) → Means w ls lo hi t s → sameType ml s N ≡ true
   is-number h =
-      by-former w t f e ls lo hi (λ s. sameType ml s N ≡ true) (λ k. refl) (λ k. absurd (omega arith)) (λ k. absurd (omega arith))
+      by-former w t f e ls lo hi (λ s. sameType ml s N ≡ true) (λ k. same-iff ml N N .1 refl) (λ k. absurd (omega arith)) (λ k. absurd (omega arith))
       (λ k. absurd (omega arith))
 
   pub no-number : (f ≡ 10 → ⊥) → (s : Ty) → Means w ls lo hi t s → sameType ml s N ≡ false
-  no-number n = by-former w t f e ls lo hi (λ s. sameType ml s N ≡ false) (λ h. absurd (n h)) (λ h o. refl) (λ h x. refl) (λ h x y. refl)
+  no-number n =
+      by-former w t f e ls lo hi (λ s. sameType ml s N ≡ false) (λ h. absurd (n h)) (λ h o. not-same (L o) N (λ e. omega (arith, e)))
+      (λ h x. not-same (list x) N (λ e. omega (arith, e))) (λ h x y. not-same (x to y) N (λ e. omega (arith, e)))

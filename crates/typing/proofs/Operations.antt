@@ -9,7 +9,7 @@ use Rattle.calculus.specs.Trees.{Ty, N, L, list, _to_, ml, FIX, APP, CONS}
 use Rattle.calculus.specs.Inference.{sameType, element as elementType, result2}
 use Rattle.calculus.proofs.Inference.{same-iff}
 use Rattle.types.specs.References.{Means, codomain}
-use Rattle.types.proofs.Pairs.{same-lists}
+use Rattle.types.proofs.Pairs.{same-lists, not-same}
 use Rattle.types.proofs.Meanings.{written-means, argument-written, element-written}
 use Rattle.types.proofs.Frames.{means-codomain}
 use Rattle.typing.specs.Operators.{Finds, ArgumentEnd, elementOf, IfSame, Finds1, Finds2}
@@ -72,10 +72,10 @@ module _ (w ls : List ℕ) (t u e : ℕ) (he : e ≡ elementOf w u) where
   cons-other z s v lo hi few m mu = not-list s v (no-list w u e he z ls lo hi v mu)
     where
       not-list : (s v : Ty) → elementType ml v ≡ none → Finds w ls lo hi (result2 ml CONS s v) 0
-      not-list s N q = refl
-      not-list s (L o) q = refl
+      not-list s N q = rw (not-same N (list s) (λ e. omega (arith, e))) refl
+      not-list s (L o) q = rw (not-same (L o) (list s) (λ e. omega (arith, e))) refl
       not-list s (list v) q = absurd (Option·none-ne-some v (sym q))
-      not-list s (u to v) q = refl
+      not-list s (u to v) q = rw (not-same (u to v) (list s) (λ e. omega (arith, e))) refl
 
   pub cons-rule : (e ≡ 0 → ⊥) → (r : ℕ) → IfSame w ls e t u r → Finds2 CONS w ls t u r
   cons-rule n r same s v lo hi few m mu =
