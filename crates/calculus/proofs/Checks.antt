@@ -49,6 +49,23 @@ pub record Disordered (types terms : List ℕ) (start b : ℕ) : Type 0 where
 abbrev pub Ways : List ℕ → List ℕ → ℕ → ℕ → Type 0
 Ways types terms start b = ((τ : Ty) × (e : Term ml) × Spelt types terms τ e) ⊎ Disordered types terms start b
 
+-- A type and a term in order, whose variables the walk finds to have their lambdas.
+pub spelt-by : (types terms : List ℕ) (t : Ordered type types) (e : Ordered (term ml) terms) (n : ℕ) → walk scopeDue terms ([] ∷ []) ≡ passed n
+    → Spelt types terms (t .tree) (e .tree)
+spelt-by types terms t e n q =
+    record {
+      types-are = t .spelt;
+      terms-are = e .spelt;
+      order =
+          record {
+            nestsTy = t .nests;
+            nests = e .nests;
+            rangedTy = t .ranged;
+            ranged = e .ranged;
+            closed = passes-scoped [] (e .tree) n (ap (λ (ws : List ℕ). walk scopeDue ws ([] ∷ [])) (sym (e .spelt)) ∙ q);
+          };
+    }
+
 module _ (types terms : List ℕ) (start : ℕ) where
   -- Words that are a type and a term in order and in scope are judged by their types.
   module _ {τ : Ty} {e : Term ml} (s : Spelt types terms τ e) where
@@ -86,22 +103,7 @@ module _ (types terms : List ℕ) (start : ℕ) where
               near = omega (arith, i .2, few-terms);
             })
         of-scope t e (passed n) q h =
-            inl (
-              t .tree,
-              e .tree,
-              record {
-                types-are = t .spelt;
-                terms-are = e .spelt;
-                order =
-                    record {
-                      nestsTy = t .nests;
-                      nests = e .nests;
-                      rangedTy = t .ranged;
-                      ranged = e .ranged;
-                      closed = passes-scoped [] (e .tree) n (ap (λ (ws : List ℕ). walk scopeDue ws ([] ∷ [])) (sym (e .spelt)) ∙ q);
-                    };
-              },
-            )
+            inl (t .tree, e .tree, spelt-by types terms t e n q)
 
         of-terms : Ordered type types → (v : Verdict ℕ) → inOrder (term ml) terms ≡ v → Proper 3 5 (length terms) v
             → Ways types terms start b

@@ -1,18 +1,23 @@
 -- Refusals 6 and 7: what the inference and the comparison answer. Assumes nothing.
 use Prim.Native.Nat.{ℕ}
-use mathlib.Core.Bool.{Bool, true, false}
 use mathlib.Core.List.{List, []}
 use mathlib.Core.Option.{some}
-use mathlib.Core.Path.{_≡_, refl, sym, _∙_}
+use mathlib.Core.Path.{_≡_, refl, sym, ap, _∙_}
 use lib.ListN.{length, drop}
 use native.Mathlib.Omega.{arith}
 use Rattle.calculus.specs.Trees.{Ty, ml, Term}
 use Rattle.calculus.specs.Words.{words}
-use Rattle.calculus.specs.Inference.{sameType, infer}
+use Rattle.calculus.specs.Comparison.{compareTypes}
+use Rattle.calculus.specs.Inference.{infer}
+use Rattle.calculus.specs.Verdicts.{refused}
+use Rattle.calculus.specs.Faults.{fault}
 use Rattle.calculus.specs.File.{typed}
 use Rattle.nodes.specs.declared.refusals.Refusal.the-variants.{Untyped, Mistyped}
 use Rattle.types.specs.References.{Written}
-use Rattle.types.specs.Comparisons.{Equality}
+use Rattle.types.specs.Comparisons.{Says, Compared}
+use Rattle.types.specs.declared.Comparison.{Comparison}
+use Rattle.types.specs.declared.Comparison.the-variants.{Equal, At}
+use Rattle.types.proofs.Comparing.{said-equal, said-at}
 use Rattle.types.proofs.Meanings.{written-means}
 use Rattle.typing.specs.Answers.{Answer, whole, bad}
 use Rattle.typing.specs.Variables.{Scope}
@@ -30,24 +35,33 @@ module _ {w ls ls′ : List ℕ} {start : ℕ} {r : Answer ml} (I : Infers ml w 
   answer : (e : Term ml) → drop start w ≡ words e → Told ml w ls′ start [] e r
   answer e d = I .is e [] [] d (outermost w ls start)
 
-  pub no-type : {b : ℕ} → r ≡ bad b → Decides w start (Refused (Untyped 0))
+  pub no-type : {f : ℕ} → r ≡ bad f → Decides w start (Refused (Untyped f))
   unfolding typed
-  no-type q τ e x d = rw (no-part (answer e d) q .0)
+  no-type {f} q τ e x d =
+      let u = no-part (answer e d) q in
+      let b : _≡_ {A = Answer ml} (bad f) (bad (fault start [] e)) = sym q ∙ u .1 in
+      let z : f ≡ fault start [] e = cc in
+      rw (u .0) (ap (refused 6) z)
 
-  module _ {t n : ℕ} (q : r ≡ whole t n) (b : Bool) (E : Equality w ls′ t 4 b) where
-    told : (τ : Ty) (e : Term ml) → Written w 4 τ → drop start w ≡ words e → (s : Ty) × (infer [] e ≡ some s) × (b ≡ sameType ml s τ)
+  -- The type found, and how the declared one compares with it.
+  module _ {t n : ℕ} (q : r ≡ whole t n) (c : Comparison) (C : Compared w ls′ 4 t c) where
+    told : (τ : Ty) (e : Term ml) → Written w 4 τ → drop start w ≡ words e
+        → (s : Ty) × (infer [] e ≡ some s) × Says w 4 τ (compareTypes τ s) c
     told τ e x d =
         let g = good-part (answer e d) q in
         let i = advanced start (length w) n q (I .advances) in (
           g .static,
           g .typed,
-          E (g .static) τ start n start n (i .1) (g .refers) (written-means w ls′ start n 4 τ (omega arith) x),
+          C τ (g .static) start n start n (i .1) (written-means w ls′ start n 4 τ (omega arith) x) (g .refers),
         )
 
-    pub declared-one : b ≡ true → Decides w start Accepted
+    pub declared-one : c ≡ Equal → Decides w start Accepted
     unfolding typed
-    declared-one h τ e x d = let y = told τ e x d in rw (y .1, sym (y .2) ∙ h)
+    declared-one h τ e x d = let y = told τ e x d in rw (y .1, said-equal w 4 τ (compareTypes τ (y .0)) c h (y .2))
 
-    pub other-one : b ≡ false → Decides w start (Refused (Mistyped 0))
+    pub other-one : (i : ℕ) → c ≡ At i → Decides w start (Refused (Mistyped i))
     unfolding typed
-    other-one h τ e x d = let y = told τ e x d in rw (y .1, sym (y .2) ∙ h)
+    other-one i h τ e x d =
+        let y = told τ e x d in
+        let z = said-at w 4 τ (compareTypes τ (y .0)) c i h (y .2) in
+        rw (y .1, z .1) (ap (refused 7) (z .2 x))

@@ -17,7 +17,7 @@ use Rattle.calculus.specs.File.{Recipe, typed, withTree}
 use Rattle.calculus.proofs.Nesting.{Ordered, passes-ordered}
 use Rattle.calculus.proofs.Walks.{later-passed}
 use Rattle.calculus.proofs.Verdicts.{then-passed}
-use Rattle.calculus.proofs.Checks.{tree-read}
+use Rattle.calculus.proofs.Checks.{spelt-by, judged-typed}
 use Rattle.nodes.specs.declared.refusals.Refusal.{Refusal}
 use Rattle.nodes.specs.Refusals.{refusal}
 use Rattle.nodes.specs.Walks.{bothOrdered}
@@ -42,7 +42,7 @@ module _ (ws : List ℕ) (n : ℕ) (b : 4 + n ≤ length ws) where
   closing = later (4 + n) (walk scopeDue terms ([] ∷ []))
 
   abbrev trees : Verdict Recipe
-  trees = withTree type types 4 (λ τ. withTree (term ml) terms (4 + n) (λ e. typed τ e))
+  trees = withTree type types 4 (λ τ. withTree (term ml) terms (4 + n) (λ e. typed 4 (4 + n) τ e))
 
   types-count : length types ≡ n
   types-count = length-take-le n (drop 4 ws) (omega (arith, length-drop 4 ws, b))
@@ -85,10 +85,9 @@ module _ (ws : List ℕ) (n : ℕ) (b : 4 + n ≤ length ws) where
       let o = both i q in
       let t = o .0 in
       let e = o .1 in
-      let k : trees ≡ typed (t .tree) (e .tree) = tree-read type types 4 (λ τ. withTree (term ml) terms (4 + n) (λ e. typed τ e)) t
-      ∙ tree-read (term ml) terms (4 + n) (λ e. typed (t .tree) e) e in
+      let k = later-passed (4 + n) (walk scopeDue terms ([] ∷ [])) m (sym c) in
       d (t .tree) (e .tree) (written t) (e .spelt)
-      ∙ sym (past-order i q ∙ ap (λ (v : Verdict ℕ). accepting (andThen v (λ m. trees))) (sym c) ∙ ap (λ (v : Verdict Recipe). accepting v) k)
+      ∙ sym (ap accepting (judged-typed types terms (4 + n) (spelt-by types terms t e (k .0) (k .1))))
 
   -- The words as the code takes them.
   pub ordered-is : (v : Verdict ℕ) → v ≡ bothOrdered (take (4 + n - 4) (drop 4 ws)) (take (length ws - (4 + n)) (drop (4 + n) ws))

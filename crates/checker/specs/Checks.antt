@@ -37,4 +37,4 @@ admitting bytes = andThen (check bytes) (λ x. passed (typeCount (wordsOf bytes)
 
 -- Refusals 6 and 7 of the declared type, which is written at 4, and of the term, whose words are the words from a place on.
 abbrev pub Decides : List ℕ → ℕ → Checked → Type 0
-Decides ws start r = (τ : Ty) (e : Term ml) → Written ws 4 τ → drop start ws ≡ words e → checked r ≡ accepting (typed τ e)
+Decides ws start r = (τ : Ty) (e : Term ml) → Written ws 4 τ → drop start ws ≡ words e → checked r ≡ accepting (typed 4 start τ e)

@@ -7,7 +7,8 @@ use nodes::refusals::Refusal;
 use nodes::scopes::scoped;
 use nodes::walks::Walked;
 use nodes::walks::ordered;
-use types::same;
+use types::Comparison;
+use types::compare;
 use typing::infer;
 use typing::rules::Inferred;
 ghost use mathlib.Core.Path.{_≡_};
@@ -24,19 +25,19 @@ pub enum Checked {
     Accepted,
 }
 
-// Refusals 6 and 7 of a file's words, whose declared type stands at 4 and whose term starts at `start`, with a link for each word. Their places
-// are 0.
+// Refusals 6 and 7 of a file's words, whose declared type stands at 4 and whose term starts at `start`, with a link for each word: 6 at the term's
+// fault, 7 at the first declared word that differs from the type found.
 fn typed_by(table: &Kinds, words: &[u32], start: usize, link: &mut [u16]) -> Checked
     requires { ⌜ Linked (now table) (now words) (now link) × TermAt (now words) start ⌝ }
     ensures { λ r. ⌜ Decides (now (words .entry)) start r ⌝ }
 {
-    let Inferred::Typed(t, _) = infer(table, words, &words[start..], start, link, 0) else {
-        return Checked::Refused(Refusal::Untyped(0));
-    };
-    if same(table, words, link, t, 4) {
-        return Checked::Accepted;
+    match infer(table, words, &words[start..], start, link, 0) {
+        Inferred::Bad(fault) => Checked::Refused(Refusal::Untyped(fault)),
+        Inferred::Typed(t, _) => match compare(table, words, link, 4, t) {
+            Comparison::Equal => Checked::Accepted,
+            Comparison::At(difference) => Checked::Refused(Refusal::Mistyped(difference)),
+        },
     }
-    Checked::Refused(Refusal::Mistyped(0))
 }
 
 // The same, with links of its own.

@@ -20,27 +20,35 @@ infer-requires c κs =
     }
 
 returns : tie.Need-returns
-returns c = no-type (c .before .before .before .before .infer .ensures) (ap inferred (c .enum-told .given .1))
+returns c =
+    let f = c .before in
+    no-type (f .before .before .before .before .infer .ensures) (ap inferred (f .fault .given .1))
 
--- The moment when the type has been inferred.
+-- The moment when the type has been inferred, and that when it was told; and when it has been compared.
 abbrev after-infer : tie.After-t → tie.After-infer
 after-infer c = c .before .before .before .before
 
-same-requires : tie.Need-same-requires
-same-requires c κs =
+abbrev found : tie.After-compare → tie.After-t
+found c = c .before .before .before
+
+compare-requires : tie.Need-compare-requires
+compare-requires c κs =
     let i = after-infer (c .before .before) in
     let s = i .before .before .before .before .before in
     record { tabled = s .pre .0 .tabled; linked = i .infer .ensures .same ∙ s .pre .0 .linked }
 
 returns-2 : tie.Need-returns-2
 returns-2 c =
-    let t = c .before .before .before .before in
-    declared-one (after-infer t .infer .ensures) (ap inferred (t .t .given .1)) (c .before .same .result) (c .before .same .ensures) (c .if1 .taken)
+    let k = c .before .before in
+    let t = found k in
+    declared-one (after-infer t .infer .ensures) (ap inferred (t .t .given .1)) (k .compare .result) (k .compare .ensures) (c .enum-told .given .1)
 
 returns-3 : tie.Need-returns-3
 returns-3 c =
-    let t = c .before .before .before .before in
-    other-one (after-infer t .infer .ensures) (ap inferred (t .t .given .1)) (c .before .same .result) (c .before .same .ensures) (c .if1 .left)
+    let d = c .before in
+    let k = d .before .before in
+    let t = found k in
+    other-one (after-infer t .infer .ensures) (ap inferred (t .t .given .1)) (k .compare .result) (k .compare .ensures) _ (d .difference .given .1)
 
 pub typed-by-spec : {M : Type 1} → statement M
 typed-by-spec =
@@ -53,9 +61,11 @@ typed-by-spec =
     infer-requires
     (λ c. search needs)
     (λ c. search needs)
+    compare-requires
+    (λ c. search needs)
+    (λ c. search needs)
     (λ c. search needs)
     returns
-    same-requires
     (λ c. search needs)
     returns-2
     (λ c. search needs)
