@@ -3,7 +3,9 @@ use mathlib.Core.Path.{refl}
 use Rattle.calculus.specs.Words.{put, putTy, size, sizeTy}
 use Rattle.calculus.specs.Kinds.{rowFor}
 use Rattle.calculus.specs.Reading.{walk, inOrder, read, readTree}
+use Rattle.calculus.specs.Comparison.{firstDifference}
 use Rattle.calculus.specs.Inference.{infer}
+use Rattle.calculus.specs.Faults.{fault}
 use Rattle.calculus.specs.Reduction.{form, onNumber, contract2, onNumbers, amiss, contract, fill, turn, step}
 use Rattle.calculus.specs.Run.{run}
 use Rattle.calculus.specs.File.{wordsOf, typed, checkWords, check, runIn}
@@ -17,7 +19,7 @@ use Rattle.card.specs.Cards.{Tried}
 
 pub tried : Tried
 unfolding carding card pumpLines pumpLine lastLine decimal pricing billed runIn check checkWords typed wordsOf run step turn fill contract contract2
-    onNumbers amiss onNumber form infer read readTree inOrder walk rowFor put putTy size sizeTy items itemsIn charges total within allWithin
+    onNumbers amiss onNumber form infer fault firstDifference read readTree inOrder walk rowFor put putTy size sizeTy items itemsIn charges total within allWithin
 tried =
     record {
       edges = refl;

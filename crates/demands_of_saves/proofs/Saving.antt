@@ -14,7 +14,7 @@ use Rattle.calculus.specs.Counting.{later}
 use Rattle.calculus.specs.Endings.{Ending}
 use Rattle.calculus.specs.File.{bytesOf, fileOf, Recipe, operate, padded, leftBy}
 use Rattle.calculus.specs.Accepted.{Accepted}
-use Rattle.calculus.proofs.Types.{equal-by-words}
+use Rattle.calculus.proofs.Comparison.{equal-by-words}
 use Rattle.calculus.proofs.Verdicts.{not-both, passed-injective, refused-injective}
 use Rattle.calculus.proofs.Checks.{accepted-once, operate-iff}
 use Rattle.calculus.proofs.Bounds.{operate-bounded}

@@ -119,6 +119,6 @@ module _ (bytes : List ℕ) (limit : ℕ) {first second first′ second′ : Lis
       let o = m .opened in
       let i = passes-in-order (wordsOf bytes) e (sym (o .check-is) ∙ m .accepted) in
       let w : take (n - (4 + types)) (drop (4 + types) all) ≡ words (e .1) = part-of all (4 + types) n
-      ∙ ap (drop (4 + types)) (o .words-are) ∙ ap (λ (k : ℕ). drop (4 + k) (wordsOf bytes)) (o .types-are) ∙ i .contains .2 in
+      ∙ ap (drop (4 + types)) (o .words-are) ∙ ap (λ (k : ℕ). drop (4 + k) (wordsOf bytes)) (o .types-are) ∙ i .1 .terms-are in
       answered-as (ap (λ (v : Verdict Recipe). andThen v (λ y. runIn limit (spec.capacity (length first) (length second)) y)) (sym (m .accepted)))
-      (b .of (e .1) (e .0) w (record { ranged = i .ranged; type = e .0; typed = i .typed }))
+      (b .of (e .1) (e .0) w (record { ranged = i .1 .order .ranged; type = e .0; typed = i .2 }))

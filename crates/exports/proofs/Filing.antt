@@ -35,7 +35,7 @@ module _ (types terms : List ℕ) (room : ℕ) (a : Saved) (h : spoken a ≡ len
   pub save-bytes : (n : ℕ) → a ≡ File n → n ≤ 16384
   save-bytes n q =
       let f = passed-by (saving types terms room) n (sym (ap spoken q) ∙ h) in
-      omega (arith, f .2, exactly types terms room .saves (f .0) .0 (f .1) .0 .accepted .most)
+      omega (arith, f .2, exactly types terms room .saves (f .0) .0 (f .1) .0 .accepted .filed .most)
 
   -- Either case of an answer.
   pub saved-as : (v : Verdict ℕ) (x : RecipeSaved) → spoken a ≡ v → x ≡ savedNumbers v → x ≡ savedNumbersOf types terms room

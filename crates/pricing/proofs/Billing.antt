@@ -16,7 +16,7 @@ use Rattle.calculus.specs.Run.{End, valued, uncounted, Result, run, capacity}
 use Rattle.calculus.specs.File.{wordsOf, Recipe, check, runIn, padded, firstAfter, secondAfter}
 use Rattle.calculus.proofs.Checks.{passes-in-order}
 use Rattle.calculus.proofs.Inference.{same-iff}
-use Rattle.calculus.proofs.Types.{equal-by-words}
+use Rattle.calculus.proofs.Comparison.{equal-by-words}
 use Rattle.calculus.proofs.Verdicts.{not-both, unless-iff, passed-injective}
 use Rattle.calculus.specs.Kinds.{term}
 use Rattle.calculus.proofs.Padding.{padded-take}
@@ -268,8 +268,8 @@ recipe-in {bytes} {all} {types} {n} m =
     let o = m .opened in
     let i = passes-in-order (wordsOf bytes) (m .recipe) (sym (o .check-is) ∙ m .accepted) in
     record {
-      types-are = rw (o .words-are, o .types-are) (i .contains .1);
-      term-is = record { words-are = rw (o .words-are, o .types-are) (i .contains .2); ranged = i .ranged; typed = i .typed };
+      types-are = rw (o .words-are, o .types-are) (i .1 .types-are);
+      term-is = record { words-are = rw (o .words-are, o .types-are) (i .1 .terms-are); ranged = i .1 .order .ranged; typed = i .2 };
     }
 
 pub recipes : {bytes all : List ℕ} {types n : ℕ} → Admits bytes all types n → Recipes (take n all) types

@@ -16,10 +16,10 @@ use Rattle.calculus.specs.Verdicts.{refused, passed}
 use Rattle.calculus.specs.Run.{End, valued, spent, error, full, Open, uncounted, Result, run, capacity}
 use Rattle.calculus.specs.Counting.{later}
 use Rattle.calculus.specs.File.{Recipe, judged, operate}
-use Rattle.calculus.specs.Accepted.{Accepted}
+use Rattle.calculus.specs.Accepted.{InOrder, Accepted}
 use Rattle.calculus.proofs.Verdicts.{not-both, refused-injective}
 use Rattle.calculus.proofs.Reading.{one-tree}
-use Rattle.calculus.proofs.Types.{equal-by-words}
+use Rattle.calculus.proofs.Comparison.{equal-by-words}
 use Rattle.calculus.proofs.Typing.{typed-scoped}
 use Rattle.calculus.proofs.Nesting.{Ordered, ordered-passes, deeper-refused}
 use Rattle.calculus.proofs.Runs.{lastTerm}
@@ -45,8 +45,9 @@ judged-fine τ t start r h g n p q = by (leb (nesting t) 256) refl
 
     by : (b : Bool) → leb (nesting t) 256 ≡ b → n ≡ 4
     by true e =
-        let terms : Ordered (term ml) (words t) = record { tree = t; spelt = refl; ranged = g .ranged; nests = leb-true (nesting t) 256 e } in
-        let j = judged-iff (wordsTy τ) (words t) start (τ, t) .1 (types, terms, typed-scoped [] t τ (g .typed), g .typed, refl) in
+        let o : InOrder τ t =
+        record { nestsTy = h; nests = leb-true (nesting t) 256 e; rangedTy = r; ranged = g .ranged; closed = typed-scoped [] t τ (g .typed) } in
+        let j = judged-iff (wordsTy τ) (words t) start (τ, t) .1 (record { types-are = refl; terms-are = refl; order = o }, g .typed) in
         absurd (not-both n p (τ, t) (sym q ∙ j))
     by false e =
         let i = deeper-refused (term ml) t (g .ranged) (leb-false (nesting t) 256 e) in
@@ -86,7 +87,7 @@ module _ (bytes : List ℕ) (k first second : ℕ) (τ : Ty) (r : Result) (h : P
   t = lastTerm k cap e
 
   fine : Fine τ t
-  fine = run-fine k cap τ e (record { ranged = left .accepted .ranged; typed = left .accepted .typed })
+  fine = run-fine k cap τ e (record { ranged = left .accepted .filed .order .ranged; typed = left .accepted .typed })
 
   only-by : (room n p : ℕ) → saving (wordsTy τ) (r .left) room ≡ refused n p → (n ≡ 4) ⊎ (n ≡ 12) ⊎ (n ≡ 13)
   only-by room n p q =
@@ -98,7 +99,7 @@ module _ (bytes : List ℕ) (k first second : ℕ) (τ : Ty) (r : Result) (h : P
       by : Numbered (wordsTy τ) (r .left) n p
           → (n ≤ 7 → judged (wordsTy τ) (r .left) (4 + length (wordsTy τ)) ≡ refused n p) → (n ≡ 4) ⊎ (n ≡ 12) ⊎ (n ≡ 13)
       by (inl i) j =
-          let a = left .accepted in
+          let a = left .accepted .filed .order in
           inl (judged-fine τ t (4 + length (wordsTy τ)) (a .rangedTy) (a .nestsTy) fine n p (rw (left .words-are) at j (i .1)))
       by (inr i) j = inr (i .0)
 
@@ -106,7 +107,7 @@ module _ (bytes : List ℕ) (k first second : ℕ) (τ : Ty) (r : Result) (h : P
   saved : (file : List ℕ) → FileOf (wordsTy τ) (r .left) file → Accepted file τ t
   saved file f =
       let p = equal-by-words .equal (f .declared) τ .1 (sym (f .types-are)) in
-      let q = one-tree (term ml) (f .term) t [] [] (f .accepted .ranged) (fine .ranged) (sym (f .terms-are) ∙ left .words-are) .0 in
+      let q = one-tree (term ml) (f .term) t [] [] (f .accepted .filed .order .ranged) (fine .ranged) (sym (f .terms-are) ∙ left .words-are) .0 in
       subst (λ (u : Term ml). Accepted file τ u) q (subst (λ (σ : Ty). Accepted file σ (f .term)) p (f .accepted))
 
   as-one : (room : ℕ) (file : List ℕ) → saving (wordsTy τ) (r .left) room ≡ passed file → (j : ℕ) → 1 ≤ j

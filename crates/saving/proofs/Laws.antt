@@ -54,29 +54,29 @@ module _ (types terms : List ℕ) where
   judged-file : (x : Recipe) → bytes ≤ 16384 → judged types terms start ≡ passed x → FileOf types terms file
   judged-file x few q =
       let j = judged-iff types terms start x .0 q in
-      let t = j .0 in
-      let e = j .1 in
+      let τ = x .0 in
+      let e = x .1 in
+      let s = j .0 in
       let n = file-bytes types terms in
-      let τ-long : length types ≡ sizeTy (t .tree) = ap length (t .spelt) ∙ types-length (t .tree) in
-      let e-long : length terms ≡ size (e .tree) = ap length (e .spelt) ∙ terms-length (e .tree) in
+      let τ-long : length types ≡ sizeTy τ = ap length (s .types-are) ∙ types-length τ in
+      let e-long : length terms ≡ size e = ap length (s .terms-are) ∙ terms-length e in
       record {
         bytes-are = refl;
-        declared = t .tree;
-        term = e .tree;
-        types-are = t .spelt;
-        terms-are = e .spelt;
+        declared = τ;
+        term = e;
+        types-are = s .types-are;
+        terms-are = s .terms-are;
         accepted =
             record {
-              least = omega (arith, n, τ-long, e-long, sized (view type (t .tree)), sized (view (term ml) (e .tree)));
-              most = omega (arith, n, few);
-              whole = omega (arith, n);
-              spelt = words-back (fileOf types terms) ∙ file-of types terms (t .tree) (e .tree) (t .spelt) (e .spelt);
-              nestsTy = t .nests;
-              nests = e .nests;
-              rangedTy = t .ranged;
-              ranged = e .ranged;
-              closed = j .2;
-              typed = j .3;
+              filed =
+                  record {
+                    least = omega (arith, n, τ-long, e-long, sized (view type τ), sized (view (term ml) e));
+                    most = omega (arith, n, few);
+                    whole = omega (arith, n);
+                    spelt = words-back (fileOf types terms) ∙ file-of types terms τ e (s .types-are) (s .terms-are);
+                    order = s .order;
+                  };
+              typed = j .1;
             };
       }
 
@@ -84,12 +84,13 @@ module _ (types terms : List ℕ) where
   file-judged : (bs : List ℕ) (f : FileOf types terms bs) → judged types terms start ≡ passed (f .declared, f .term)
   file-judged bs f =
       let a = f .accepted in
-      let t : Ordered type types = record { tree = f .declared; spelt = f .types-are; ranged = a .rangedTy; nests = a .nestsTy } in
-      let e : Ordered (term ml) terms = record { tree = f .term; spelt = f .terms-are; ranged = a .ranged; nests = a .nests } in
-      judged-iff types terms start (f .declared, f .term) .1 (t, e, a .closed, a .typed, refl)
+      judged-iff types terms start (f .declared, f .term) .1 (
+        record { types-are = f .types-are; terms-are = f .terms-are; order = a .filed .order },
+        a .typed,
+      )
 
   file-few : (bs : List ℕ) → FileOf types terms bs → bytes ≤ 16384
-  file-few bs f = omega (arith, f .accepted .most, ap length (f .bytes-are), file-bytes types terms)
+  file-few bs f = omega (arith, f .accepted .filed .most, ap length (f .bytes-are), file-bytes types terms)
 
   -- What comes of the words handed in, and of a buffer of so many bytes.
   data Way (room : ℕ) : Verdict (List ℕ) → Type 0 where
@@ -239,7 +240,7 @@ resaves = record { same = λ bytes τ e room b a n. saves (wordsTy τ) (words e)
     file-is : (bytes : List ℕ) (τ : Ty) (e : Term ml) → Bytes bytes → Accepted bytes τ e → FileOf (wordsTy τ) (words e) bytes
     file-is bytes τ e b a =
         record {
-          bytes-are = sym (bytes-back bytes b (a .whole)) ∙ ap bytesOf (a .spelt ∙ sym (file-words τ e));
+          bytes-are = sym (bytes-back bytes b (a .filed .whole)) ∙ ap bytesOf (a .filed .spelt ∙ sym (file-words τ e));
           declared = τ;
           term = e;
           types-are = refl;

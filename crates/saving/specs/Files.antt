@@ -35,11 +35,11 @@ pub record Tried : Type 0 where
   pub no-type : saving [] (17 ∷ []) 16384 ≡ refused 3 4
   pub no-term : saving (4 ∷ 1 ∷ 1 ∷ []) [] 16384 ≡ refused 3 7
   pub no-kind : saving (4 ∷ 1 ∷ 1 ∷ []) (99 ∷ []) 16384 ≡ refused 3 7
-  -- 4, 5, 6 and 7 before 13
+  -- 4, 5, 6 and 7 before 13; 6 and 7 with places in the file, behind a declared type of three words and within one
   pub nested : saving (1 ∷ []) (replicate 256 20 ++ 17 ∷ []) 0 ≡ refused 4 261
   pub unbound : saving (1 ∷ []) (16 ∷ []) 0 ≡ refused 5 5
-  pub untyped : saving (1 ∷ []) (19 ∷ 17 ∷ 17 ∷ []) 0 ≡ refused 6 0
-  pub mistyped : saving (2 ∷ []) (17 ∷ []) 0 ≡ refused 7 0
+  pub untyped : saving (4 ∷ 1 ∷ 1 ∷ []) (19 ∷ 17 ∷ 17 ∷ []) 0 ≡ refused 6 7
+  pub mistyped : saving (4 ∷ 1 ∷ 2 ∷ []) (18 ∷ 1 ∷ 17 ∷ []) 0 ≡ refused 7 6
 
 -- 4 really occurs: a recipe that is accepted, nested 256 levels, whose term after one step nests two levels deeper.
 pub record TooDeep : Type 0 where
