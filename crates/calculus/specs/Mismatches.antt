@@ -29,23 +29,23 @@ pub record MismatchAt (p : ℕ) (τ : Ty) (e : Term ml) (r : ℕ) : Type 0 where
   pub differ : DifferAt (wordsTy τ) (wordsTy found) before
 
 -- A file refused 6 at r: its words are a type and a term in order and in scope, and r is the place of the lowest faulty node.
-abbrev pub Untyped : List ℕ → ℕ → Type 0
-Untyped bytes r = (τ : Ty) × (e : Term ml) × Filed bytes τ e × FaultAt (4 + sizeTy τ) e r
+abbrev pub NoTypeAt : List ℕ → ℕ → Type 0
+NoTypeAt bytes r = (τ : Ty) × (e : Term ml) × Filed bytes τ e × FaultAt (4 + sizeTy τ) e r
 
 -- A file refused 7 at r: the term has a type that is not the declared one, the declared words before r agree with it and the word at r differs.
-abbrev pub Mistyped : List ℕ → ℕ → Type 0
-Mistyped bytes r = (τ : Ty) × (e : Term ml) × Filed bytes τ e × MismatchAt 4 τ e r
+abbrev pub OtherTypeAt : List ℕ → ℕ → Type 0
+OtherTypeAt bytes r = (τ : Ty) × (e : Term ml) × Filed bytes τ e × MismatchAt 4 τ e r
 
 -- The same of the words that are handed in, of a file that is still to be written.
-abbrev pub UntypedWords : List ℕ → List ℕ → ℕ → Type 0
-UntypedWords types terms r = (τ : Ty) × (e : Term ml) × Spelt types terms τ e × FaultAt (4 + length types) e r
+abbrev pub NoTypeOf : List ℕ → List ℕ → ℕ → Type 0
+NoTypeOf types terms r = (τ : Ty) × (e : Term ml) × Spelt types terms τ e × FaultAt (4 + length types) e r
 
-abbrev pub MistypedWords : List ℕ → List ℕ → ℕ → Type 0
-MistypedWords types terms r = (τ : Ty) × (e : Term ml) × Spelt types terms τ e × MismatchAt 4 τ e r
+abbrev pub OtherTypeOf : List ℕ → List ℕ → ℕ → Type 0
+OtherTypeOf types terms r = (τ : Ty) × (e : Term ml) × Spelt types terms τ e × MismatchAt 4 τ e r
 
 -- What the check points at, of a file and of words handed in.
 pub record Points : Type 0 where
-  pub six : (bytes : List ℕ) (r : ℕ) → (check bytes ≡ refused 6 r) ↔ Untyped bytes r
-  pub seven : (bytes : List ℕ) (r : ℕ) → (check bytes ≡ refused 7 r) ↔ Mistyped bytes r
-  pub six-of-words : (types terms : List ℕ) (r : ℕ) → (judged types terms (4 + length types) ≡ refused 6 r) ↔ UntypedWords types terms r
-  pub seven-of-words : (types terms : List ℕ) (r : ℕ) → (judged types terms (4 + length types) ≡ refused 7 r) ↔ MistypedWords types terms r
+  pub six : (bytes : List ℕ) (r : ℕ) → (check bytes ≡ refused 6 r) ↔ NoTypeAt bytes r
+  pub seven : (bytes : List ℕ) (r : ℕ) → (check bytes ≡ refused 7 r) ↔ OtherTypeAt bytes r
+  pub six-of-words : (types terms : List ℕ) (r : ℕ) → (judged types terms (4 + length types) ≡ refused 6 r) ↔ NoTypeOf types terms r
+  pub seven-of-words : (types terms : List ℕ) (r : ℕ) → (judged types terms (4 + length types) ≡ refused 7 r) ↔ OtherTypeOf types terms r

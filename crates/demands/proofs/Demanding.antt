@@ -2,7 +2,7 @@
 use Prim.Native.Nat.{ℕ}
 use mathlib.Core.Bool.{cond}
 use mathlib.Core.List.{List}
-use mathlib.Core.Logic.{_↔_}
+use mathlib.Core.Logic.{_↔_, Iff·trans}
 use mathlib.Core.Path.{_≡_, refl, sym, ap, _∙_, subst}
 use lib.Dec.{eqb}
 use Rattle.calculus.specs.Verdicts.{Verdict, refused, passed}
@@ -10,6 +10,7 @@ use Rattle.calculus.specs.File.{check}
 use Rattle.calculus.specs.File as calculus
 use Rattle.calculus.proofs.Verdicts.{not-both}
 use Rattle.calculus.proofs.Checks.{check-iff, accepted-once}
+use Rattle.calculus.proofs.Mismatches.{points}
 use Rattle.calculus.proofs.Refusing.{Numbered, number-in-table}
 use Rattle.calculus.proofs.Demands.{typed-safe, from-every-term}
 use Rattle.nodes.specs.declared.refusals.Refusal.{Refusal}
@@ -20,7 +21,7 @@ use Rattle.checker.specs.declared.Checked.the-variants.{Refused, Accepted}
 use Rattle.checker.specs.Checks.{checked, accepting}
 use Rattle.demands.specs.Demanded.{RecipeOf, Checks, Twice}
 use Rattle.engine.specs.Lent.{Lent, Returned}
-use Rattle.demands.proofs.Running.{Promised, grow}
+use Rattle.demands.proofs.Running.{Promised, once, grow}
 use Rattle.demands.proofs.Leaving.{leaves}
 
 -- A refusal is its number and place.
@@ -92,14 +93,18 @@ module _ (bytes : List ℕ) where
           accepts = accepts-iff;
           one = one-recipe;
           refuses = refuses-iff;
-          seven = λ x q. subst Numbered (refuses-iff x .0 q) (number-in-table bytes);
+          in-table = λ x q. subst Numbered (refuses-iff x .0 q) (number-in-table bytes);
+          six = λ p. Iff·trans (refuses-iff (r.Untyped p)) (points .six bytes p);
+          seven = λ p. Iff·trans (refuses-iff (r.Mistyped p)) (points .seven bytes p);
         }
 
 pub twice : (c : Checked) (l m : Lent) (g h : Returned) → l .bytes ≡ m .bytes → checked c ≡ accepting (check (l .bytes)) → Promised l g → Promised m h
     → Twice c l g m h
 twice c l m g h b k p q =
     record {
-      accepts = accepts-iff (l .bytes) c k;
+      checks = checks (l .bytes) c k;
+      first = once l g p;
+      second = once m h q;
       safe = λ τ e a. typed-safe e τ (a .typed);
       leaves = λ τ e a x q n. leaves l g p τ e a x q n;
       from-every-term = from-every-term;

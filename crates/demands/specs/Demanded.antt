@@ -13,9 +13,10 @@ use Rattle.calculus.specs.Counting.{Counted}
 use Rattle.calculus.specs.Endings.{Ending}
 use Rattle.calculus.specs.File.{check, padded}
 use Rattle.calculus.specs.Accepted.{Accepted}
+use Rattle.calculus.specs.Mismatches.{NoTypeAt, OtherTypeAt}
 use Rattle.calculus.specs.Demands.{Sound, Safe, FromEveryTerm}
 use Rattle.nodes.specs.declared.refusals.Refusal.{Refusal}
-use Rattle.nodes.specs.declared.refusals.Refusal.the-variants.{Capacity}
+use Rattle.nodes.specs.declared.refusals.Refusal.the-variants.{Untyped, Mistyped, Capacity}
 use Rattle.nodes.specs.Refusals.{numberOf, placeOf, refusal}
 use Rattle.checker.specs.declared.Checked.{Checked}
 use Rattle.checker.specs.declared.Checked.the-variants as checked
@@ -35,12 +36,15 @@ pub data Finishes (l : Lent) (g : Returned) : Type 0 where
 abbrev pub RecipeOf : List ℕ → Type 0
 RecipeOf bytes = (τ : Ty) × (e : Term ml) × Accepted bytes τ e
 
--- Demand 2 of the check, and its refusals: the number and place of the table, 1 to 7. A file is of one recipe at most.
+-- Demand 2 of the check, and its refusals: the number and place of the table, 1 to 7. A file is of one recipe at most. Document 02: 6 points at the
+-- lowest node that is at fault, and 7 at the first declared word that differs from the type found.
 pub record Checks (bytes : List ℕ) (r : Checked) : Type 0 where
   pub accepts : (r ≡ checked.Accepted) ↔ RecipeOf bytes
   pub one : (x y : RecipeOf bytes) → (x .0 ≡ y .0) × (x .1 ≡ y .1)
   pub refuses : (x : Refusal) → (r ≡ checked.Refused x) ↔ (check bytes ≡ refusal x)
-  pub seven : (x : Refusal) → r ≡ checked.Refused x → (1 ≤ numberOf x) × (numberOf x ≤ 7)
+  pub in-table : (x : Refusal) → r ≡ checked.Refused x → (1 ≤ numberOf x) × (numberOf x ≤ 7)
+  pub six : (p : ℕ) → (r ≡ checked.Refused (Untyped p)) ↔ NoTypeAt bytes p
+  pub seven : (p : ℕ) → (r ≡ checked.Refused (Mistyped p)) ↔ OtherTypeAt bytes p
 
 -- "The end of a run, its code, its count of steps and the words it leaves are exactly those of the published reductions, taken in their order
 -- of evaluation under the limits lent": those of the term's one ending by `⟶`. Document 02: "For every run the three add up to the steps made, each
@@ -101,9 +105,11 @@ pub record Leaves (τ : Ty) (e : Term ml) (x : Report) (g : Returned) : Type 0 w
 
 -- Demand 3. "Whatever recipe the check accepts", all that its reduction reaches is sound, what a run leaves too; document 02: so it is "from every
 -- well-typed term". "And whatever file is run twice, .. let the second run be lent at least as many steps and at least the capacity of the first. If
--- the first ends as a value or an error, the second gives the same" as it.
+-- the first ends as a value or an error, the second gives the same" as it. The check and both runs are held to demands 1 and 2.
 pub record Twice (c : Checked) (l : Lent) (g : Returned) (m : Lent) (h : Returned) : Type 0 where
-  pub accepts : (c ≡ checked.Accepted) ↔ RecipeOf (l .bytes)
+  pub checks : Checks (l .bytes) c
+  pub first : Once l g
+  pub second : Once m h
   pub safe : (τ : Ty) (e : Term ml) → Accepted (l .bytes) τ e → Safe τ e
   pub leaves : (τ : Ty) (e : Term ml) → Accepted (l .bytes) τ e → (x : Report) → g .answer ≡ Ended x → ¬ (endOf (x .end) ≡ error) → Leaves τ e x g
   pub from-every-term : FromEveryTerm

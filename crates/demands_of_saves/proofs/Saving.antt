@@ -133,6 +133,12 @@ module _ (h : Handed) (x : Saved) (out′ : List ℕ) (s : Saves (h .types) (h .
         (length file, is-file x verdict file (s .answer-is) v),
   )
 
+  refused-iff : (n p : ℕ) {P : Type 0} → (verdict ≡ refused n p) ↔ P → RefusedBy x n p ↔ P
+  refused-iff n p i = (
+    λ r. i .0 (refuses-as (r .refusal) (r .refused) ∙ rw (r .number, r .place)),
+    λ q. is-refused x verdict n p (s .answer-is) (i .1 q),
+  )
+
   pub saved-once : SavedOnce h x out′
   saved-once =
       record {
@@ -142,10 +148,9 @@ module _ (h : Handed) (x : Saved) (out′ : List ℕ) (s : Saves (h .types) (h .
           λ q. law .twelve .0 (refuses-as u.Long q),
           λ i. let r = is-refused x verdict 12 0 (s .answer-is) (law .twelve .1 i) in r .refused ∙ ap Refused (is-long (r .refusal) (r .number)),
         );
-        others = λ n p i. (
-          λ r. law .others n p i .0 (refuses-as (r .refusal) (r .refused) ∙ rw (r .number, r .place)),
-          λ q. is-refused x verdict n p (s .answer-is) (law .others n p i .1 q),
-        );
+        others = λ n p i. refused-iff n p (law .others n p i);
+        six = λ p. refused-iff 6 p (law .six p);
+        seven = λ p. refused-iff 7 p (law .seven p);
         thirteen = (
           λ q. law .thirteen .0 (refuses-as u.Short q),
           λ i. let r = is-refused x verdict 13 0 (s .answer-is) (law .thirteen .1 i) in r .refused ∙ ap Refused (is-short (r .refusal) (r .number)),

@@ -12,6 +12,7 @@ use Rattle.calculus.specs.Run.{Open, Result}
 use Rattle.calculus.specs.Counting.{later}
 use Rattle.calculus.specs.File.{bytesOf, fileOf, judged, check, operate}
 use Rattle.calculus.specs.Accepted.{Accepted}
+use Rattle.calculus.specs.Mismatches.{NoTypeOf, OtherTypeOf}
 use Rattle.saving.specs.Saving.{fileBytes, saving}
 
 -- A recipe file of the words handed in: the check accepts it, with the type and the term that they are.
@@ -27,14 +28,16 @@ pub record FileOf (types terms file : List ℕ) : Type 0 where
 abbrev pub Numbered : List ℕ → List ℕ → ℕ → ℕ → Type 0
 Numbered types terms n p = ((3 ≤ n) × (n ≤ 7) × (p ≤ 4 + length types + length terms)) ⊎ (((n ≡ 12) ⊎ (n ≡ 13)) × (p ≡ 0))
 
--- Of which words a file is made, and by what the others are refused: 12 by their lengths alone; 3 to 7 as the check refuses that file; 13 only if the
--- check accepts it.
+-- Of which words a file is made, and by what the others are refused: 12 by their lengths alone; 3 to 7 as the check refuses that file, with places in
+-- it, those of 6 and 7 said of trees; 13 only if the check accepts it.
 pub record Exactly (types terms : List ℕ) (room : ℕ) : Type 0 where
   pub saves : (file : List ℕ) → (saving types terms room ≡ passed file) ↔ (FileOf types terms file × (length file ≤ room))
   pub twelve : (saving types terms room ≡ refused 12 0) ↔ (16384 < fileBytes (length types) (length terms))
   pub others : (n p : ℕ) → n ≤ 7
       → (saving types terms room ≡ refused n p)
       ↔ ((fileBytes (length types) (length terms) ≤ 16384) × (judged types terms (4 + length types) ≡ refused n p))
+  pub six : (p : ℕ) → (saving types terms room ≡ refused 6 p) ↔ ((fileBytes (length types) (length terms) ≤ 16384) × NoTypeOf types terms p)
+  pub seven : (p : ℕ) → (saving types terms room ≡ refused 7 p) ↔ ((fileBytes (length types) (length terms) ≤ 16384) × OtherTypeOf types terms p)
   pub thirteen : (saving types terms room ≡ refused 13 0)
       ↔ (FileOf types terms (bytesOf (fileOf types terms)) × (room < fileBytes (length types) (length terms)))
   pub no-other : (n p : ℕ) → saving types terms room ≡ refused n p
