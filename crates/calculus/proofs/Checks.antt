@@ -3,7 +3,7 @@ use Prim.Native.Nat.{ℕ, _+_, _≤_}
 use mathlib.Core.List.{List, [], _∷_}
 use mathlib.Core.Bool.{Bool, true, false}
 use mathlib.Core.Logic.{_↔_, _⊎_, inl, inr}
-use mathlib.Core.Option.{Option, none, some}
+use mathlib.Core.Option.{some}
 use mathlib.Core.Path.{_≡_, refl, sym, ap, _∙_, subst}
 use lib.Dec.{leb}
 use lib.ListN.{length, getD}
@@ -12,18 +12,17 @@ use borrow.Author.Tests.{leb-true, le-leb}
 use Rattle.calculus.specs.Trees.{Ty, ml, Term}
 use Rattle.calculus.specs.Words.{size, sizeTy}
 use Rattle.calculus.specs.Kinds.{Sort, type, term, Tree}
-use Rattle.calculus.specs.Verdicts.{found, Verdict, refused, passed, unless, orRefuse}
+use Rattle.calculus.specs.Verdicts.{Verdict, refused, passed, unless, orRefuse}
 use Rattle.calculus.specs.Reading.{walk, inOrder, readTree}
 use Rattle.calculus.specs.Scope.{scopeDue}
 use Rattle.calculus.specs.Typing.{Typed}
 use Rattle.calculus.specs.Comparison.{compareTypes}
 use Rattle.calculus.specs.Inference.{infer}
-use Rattle.calculus.specs.Faults.{fault}
 use Rattle.calculus.specs.Run.{Result, run, uncounted, capacity}
 use Rattle.calculus.specs.File.{wordsOf, isSize, isHeader, typeCount, typeWords, termWords, Recipe, typed, withTree, judged}
 use Rattle.calculus.specs.File.{checkWords, check, runIn, operate}
 use Rattle.calculus.specs.Accepted.{fileWords, InOrder, Spelt, Filed, Accepted}
-use Rattle.calculus.proofs.Verdicts.{not-both, passed-injective, then-passed, unless-iff, refuse-iff}
+use Rattle.calculus.proofs.Verdicts.{not-both, passed-injective, then-passed, unless-iff, refuse-iff, none-refused}
 use Rattle.calculus.proofs.Ordering.{Proper, proper-bounds, proper-order, proper-scope}
 use Rattle.calculus.proofs.Reading.{whole-tree}
 use Rattle.calculus.proofs.Nesting.{Ordered, ordered-passes, passes-ordered}
@@ -146,16 +145,12 @@ typed-iff : (p q : ℕ) (τ : Ty) (e : Term ml) (x : Recipe) → (typed p q τ e
 unfolding typed
 typed-iff p q τ e x = (
   λ z.
-      let i = then-passed (orRefuse (infer [] e) 6 (fault q [] e)) _ x z in
-      let j = by (compareTypes τ (i .0)) (i .2) in
+      let i = then-passed (orRefuse (infer [] e) 6 _) _ x z in
+      let j = none-refused (compareTypes τ (i .0)) 7 _ (passed (τ, e)) x (i .2) in
       let t = equal-iff τ (i .0) .0 (j .0) in
-      (infer-iff [] e τ .0 (refuse-iff (infer [] e) 6 (fault q [] e) (i .0) .0 (i .1) ∙ ap some (sym t)), sym (j .1)),
+      (infer-iff [] e τ .0 (refuse-iff (infer [] e) 6 _ (i .0) .0 (i .1) ∙ ap some (sym t)), sym (passed-injective _ x (j .1))),
   λ h. rw (infer-iff [] e τ .1 (h .0), equal-iff τ τ .1 refl, h .1),
 )
-  where
-    by : (o : Option ℕ) → found o (passed (τ, e)) (λ d. refused 7 (p + d)) ≡ passed x → (o ≡ none) × ((τ, e) ≡ x)
-    by none z = (refl, passed-injective _ x z)
-    by (some d) z = absurd (not-both 7 (p + d) x z)
 
 pub judged-iff : (types terms : List ℕ) (start : ℕ) (x : Recipe)
     → (judged types terms start ≡ passed x) ↔ (Spelt types terms (x .0) (x .1) × Typed [] (x .1) (x .0))

@@ -1,7 +1,7 @@
 -- The comparison of two types: none where they are equal; else the first word in which they differ, which lies within both. Assumes nothing.
 use Prim.Native.Nat.{ℕ, zero, suc, _+_, _%_, _<_}
 use mathlib.Core.Bool.{Bool, true, false, cond, false≢true}
-use mathlib.Core.List.{List, [], _∷_, _++_}
+use mathlib.Core.List.{List, [], _∷_}
 use mathlib.Core.Logic.{_↔_, _⊎_, inl, inr}
 use mathlib.Core.Option.{Option, none, some, Option·none-ne-some, Option·some-injective}
 use mathlib.Core.Path.{_≡_, refl, sym, ap, _∙_, subst}
@@ -17,7 +17,7 @@ use Rattle.calculus.specs.Comparison.{furtherOn, firstDifference, compar
 use Rattle.calculus.specs.Inference.{sameType, EqualByWords}
 use Rattle.calculus.proofs.Sizes.{tree-append, tree-length}
 use Rattle.calculus.proofs.Views.{view, sized}
-use Rattle.calculus.proofs.Types.{kindTy, kind-first, by-pairs, words-tell}
+use Rattle.calculus.proofs.Types.{kind-first, by-pairs, words-tell}
 
 -- Further on, and further on again.
 pub further-twice : (n m k : ℕ) (o : Option ℕ) → k ≡ n + m → furtherOn n (furtherOn m o) ≡ furtherOn k o

@@ -35,12 +35,14 @@ starred =
     }
 
 pub classified : Classified
-unfolding operate runIn check checkWords typed wordsOf run step turn fill contract toML contract2 amiss onNumber onLambda form infer fault firstDifference read
+unfolding operate runIn check checkWords typed wordsOf run step turn fill contract toML contract2 amiss onNumber onLambda form infer fault
+    firstDifference read
     readTree inOrder walk rowFor put putTy size sizeTy
 classified = record { failed-call = refl; failed-conversion = refl; own-step = refl }
 
 pub saved-before : SavedBefore
-unfolding operate runIn check checkWords typed wordsOf run step turn fill contract amiss onNumber form infer fault firstDifference read readTree inOrder walk
+unfolding operate runIn check checkWords typed wordsOf run step turn fill contract amiss onNumber form infer fault firstDifference read
+    readTree inOrder walk
     rowFor put putTy size sizeTy
 saved-before = record { goes-on = refl }
 

@@ -81,7 +81,7 @@ proper-judged types terms start b n m = by (ways types terms start b n m)
         (proper-typed b 4 start (x .0) (x .1)
         (omega (arith, n, ap length (s .types-are), tree-length type (x .0) []))
         (omega (arith, m, ap length (s .terms-are), tree-length (term ml) (x .1) [])))
-    by (inr d) = subst (Proper 3 7 b) (sym (d .is)) (refusing (d .number) (d .place) (omega (arith, d .least, d .most), omega (arith, d .most), d .near))
+    by (inr d) = subst (Proper 3 7 b) (sym (d .is)) (refusing (d .number) (d .place) (d .least, omega (arith, d .most), d .near))
 
 pub judged-refused : (types terms : List ℕ) (start b n p : ℕ) → 4 + length types ≤ b → start + length terms ≤ b
     → judged types terms start ≡ refused n p → (3 ≤ n) × (n ≤ 7) × (p ≤ b)

@@ -1,7 +1,7 @@
 -- Two types: induction over both; and the words that a list begins with are those of one type at most, of all owners, in range or not. Assumes
 -- nothing.
 use Prim.Native.Nat.{ℕ, _%_}
-use mathlib.Core.List.{List, [], _∷_}
+use mathlib.Core.List.{List, _∷_}
 use mathlib.Core.Path.{_≡_, refl, sym, ap, _∙_}
 use lib.ListN.{getD}
 use native.Mathlib.Omega.{arith}

@@ -19,7 +19,8 @@ use Rattle.card.specs.Cards.{Tried}
 
 pub tried : Tried
 unfolding carding card pumpLines pumpLine lastLine decimal pricing billed runIn check checkWords typed wordsOf run step turn fill contract contract2
-    onNumbers amiss onNumber form infer fault firstDifference read readTree inOrder walk rowFor put putTy size sizeTy items itemsIn charges total within allWithin
+    onNumbers amiss onNumber form infer fault firstDifference read readTree inOrder walk rowFor put putTy size sizeTy items itemsIn
+    charges total within allWithin
 tried =
     record {
       edges = refl;

@@ -15,7 +15,8 @@ use Rattle.pricing.specs.Pricing.{billed, pricing}
 use Rattle.pricing.specs.Cans.{Tried}
 
 pub tried : Tried
-unfolding pricing billed runIn check checkWords typed wordsOf run step turn fill contract contract2 onNumbers amiss onNumber form infer fault firstDifference read readTree
+unfolding pricing billed runIn check checkWords typed wordsOf run step turn fill contract contract2 onNumbers amiss onNumber form infer fault
+    firstDifference read readTree
     inOrder walk rowFor put putTy size sizeTy items itemsIn charges total within allWithin
 tried =
     record {

@@ -102,7 +102,8 @@ module _ (prices : Prices) (bytes : List ℕ) (limit first second : ℕ) where
   gives (unaccepted w n p q) = rw (tested .all-within prices .1 w, q)
   gives (of-another-type w τ e a h) = accepted-is τ e w a ∙ rw (not-same τ h)
   gives (too-large w e a h) = accepted-is (list N) e w a ∙ rw (same-iff ml (list N) (list N) .1 refl, lt-leb (size e) cap h)
-  gives (run-of w e a h) = subst (Costs prices (run limit cap uncounted e)) (sym (run-is e w a h)) (costs prices limit cap e (a .filed .order .ranged) (a .typed))
+  gives (run-of w e a h) =
+      subst (Costs prices (run limit cap uncounted e)) (sym (run-is e w a h)) (costs prices limit cap e (a .filed .order .ranged) (a .typed))
 
 pub exactly : Exactly
 exactly = record { way = way; gives = gives }
@@ -135,7 +136,8 @@ module _ (prices : Prices) (bytes : List ℕ) (limit first second : ℕ) where
       × (b ≡ chargedFor prices (b .run) ns)
   billed-items b q v =
       let y = billed-run b q in
-      let l = run-listed limit (capacity first second) (y .0) (y .2 .filed .order .ranged) (y .2 .typed) (ap (λ (r : Result). r .end) (sym (y .4)) ∙ v) in
+      let a = y .2 in
+      let l = run-listed limit (capacity first second) (y .0) (a .filed .order .ranged) (a .typed) (ap (λ (r : Result). r .end) (sym (y .4)) ∙ v) in
       let left : b .run .left ≡ words (listOf (l .0)) = ap (λ (r : Result). r .left) (y .4) ∙ l .1 in
       let items = ap itemsIn left ∙ items-in (l .0) (l .2) in
       let is : verdict ≡ bill prices (b .run) valued =

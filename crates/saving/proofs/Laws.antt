@@ -165,7 +165,8 @@ module _ (types terms : List ℕ) where
         back h e = rw (le-leb bytes 16384 h, e)
 
     -- What is said of the words judged is said of the save, where the file would not be too long.
-    of-words : (n p : ℕ) {P : Type 0} → n ≤ 7 → (judged types terms start ≡ refused n p) ↔ P → (saving types terms room ≡ refused n p) ↔ ((bytes ≤ 16384) × P)
+    of-words : (n p : ℕ) {P : Type 0} → n ≤ 7 → (judged types terms start ≡ refused n p) ↔ P
+        → (saving types terms room ≡ refused n p) ↔ ((bytes ≤ 16384) × P)
     of-words n p small i = Iff·trans (others n p small) (Iff·and Iff·rfl i)
 
     thirteen : (saving types terms room ≡ refused 13 0) ↔ (FileOf types terms file × (room < bytes))

@@ -101,7 +101,8 @@ module _ (w ls : List ℕ) (p q room : ℕ) where
       pub no-parts : (f ≡ 11 → ⊥) → f < 12 → Compares w ls p q room Equal
       unfolding Says
       no-parts other small =
-          by-shape Equal (λ e lo hi lo′ hi′ mp mq less. rw (equal-iff N N .1 refl) refl) (λ e. absurd (other e)) (λ e. absurd (omega arith)) (λ e. absurd (omega arith))
+          by-shape Equal (λ e lo hi lo′ hi′ mp mq less. rw (equal-iff N N .1 refl) refl) (λ e. absurd (other e)) (λ e. absurd (omega arith))
+          (λ e. absurd (omega arith))
 
   module _ {f g : ℕ} {m : Match} (B : OneShape w p q f g m) where
     by-parts : (r : Comparison) → (f ≡ 12 → (t u : Ty) → Right r (list t) (list u)) → (f ≡ 13 → (s t u v : Ty) → Right r (s to t) (u to v))

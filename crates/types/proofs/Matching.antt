@@ -108,7 +108,8 @@ module _ (x y : List ℕ) (at : ℕ) where
         record {
           within = (omega arith, omega (arith, pos-of-ne-zero (F .more-x)), omega (arith, pos-of-ne-zero (F .more-y)));
           is =
-              by-shape (Same (at + 1)) (λ e k l p q. rw (equal-iff N N .1 refl)) (λ e o u k l p q. rw (equal-iff (L o) (L u) .1 (one-owner o u k l p q)))
+              by-shape (Same (at + 1)) (λ e k l p q. rw (equal-iff N N .1 refl))
+              (λ e o u k l p q. rw (equal-iff (L o) (L u) .1 (one-owner o u k l p q)))
               (λ e. absurd (omega arith)) (λ e. absurd (omega arith));
         }
 

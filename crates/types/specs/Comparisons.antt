@@ -37,8 +37,8 @@ pub record TypeEnd (w : List ℕ) (at r : ℕ) : Type 0 where
   pub most : r ≤ length w
   pub is : (t : Ty) → Written w at t → r ≡ at + sizeTy t
 
--- What is answered of a type t, which p refers to, and another, by their comparison: equal; or, where t is written at p, the place of the first of its
--- words that differs.
+-- What is answered of a type t, which p refers to, and another, by their comparison: equal; or, where t is written at p, the place of the first of
+-- its words that differs.
 unfoldable pub Says : List ℕ → ℕ → Ty → Option ℕ → Comparison → Type 0
 Says w p t none r = r ≡ Equal
 Says w p t (some n) r = (d : ℕ) × (r ≡ At d) × (Written w p t → d ≡ p + n)
