@@ -3,7 +3,7 @@ use Prim.Native.Nat.{ℕ, _+_, _≤_}
 use mathlib.Core.List.{List, [], _∷_}
 use mathlib.Core.Bool.{Bool, true, false}
 use mathlib.Core.Logic.{_↔_, _⊎_, inl, inr}
-use mathlib.Core.Option.{some}
+use mathlib.Core.Option.{Option, none, some}
 use mathlib.Core.Path.{_≡_, refl, sym, ap, _∙_, subst}
 use lib.Dec.{leb}
 use lib.ListN.{length, getD}
@@ -12,17 +12,18 @@ use borrow.Author.Tests.{leb-true, le-leb}
 use Rattle.calculus.specs.Trees.{Ty, ml, Term}
 use Rattle.calculus.specs.Words.{size, sizeTy}
 use Rattle.calculus.specs.Kinds.{Sort, type, term, Tree}
-use Rattle.calculus.specs.Verdicts.{Verdict, refused, passed, unless, orRefuse}
+use Rattle.calculus.specs.Verdicts.{Verdict, refused, passed, unless}
 use Rattle.calculus.specs.Reading.{walk, inOrder, readTree}
 use Rattle.calculus.specs.Scope.{scopeDue}
 use Rattle.calculus.specs.Typing.{Typed}
 use Rattle.calculus.specs.Comparison.{compareTypes}
 use Rattle.calculus.specs.Inference.{infer}
+use Rattle.calculus.specs.Faults.{fault}
 use Rattle.calculus.specs.Run.{Result, run, uncounted, capacity}
 use Rattle.calculus.specs.File.{wordsOf, isSize, isHeader, typeCount, typeWords, termWords, Recipe, typed, withTree, judged}
 use Rattle.calculus.specs.File.{checkWords, check, runIn, operate}
 use Rattle.calculus.specs.Accepted.{fileWords, InOrder, Spelt, Filed, Accepted}
-use Rattle.calculus.proofs.Verdicts.{not-both, passed-injective, then-passed, unless-iff, refuse-iff, none-refused}
+use Rattle.calculus.proofs.Verdicts.{not-both, passed-injective, then-passed, unless-iff}
 use Rattle.calculus.proofs.Ordering.{Proper, proper-bounds, proper-order, proper-scope}
 use Rattle.calculus.proofs.Reading.{whole-tree}
 use Rattle.calculus.proofs.Nesting.{Ordered, ordered-passes, passes-ordered}
@@ -140,17 +141,49 @@ judged-as types terms start {v} q other = by (ways types terms start (4 + length
     by (inl x) = (x .0, x .1, x .2, sym (judged-typed types terms start (x .2)) ∙ q)
     by (inr d) = absurd (other (d .number) (d .place) (d .most) (sym (d .is) ∙ q))
 
+-- The typing's three answers for a declared type that stands at p and a term that stands at q.
+module _ (p q : ℕ) (τ : Ty) (e : Term ml) where
+  pub no-type : infer [] e ≡ none → typed p q τ e ≡ refused 6 (fault q [] e)
+  unfolding typed
+  no-type i = rw i
+
+  pub own-type : infer [] e ≡ some τ → typed p q τ e ≡ passed (τ, e)
+  unfolding typed
+  own-type i = rw (i, equal-iff τ τ .1 refl)
+
+  pub other-type : (t : Ty) (d : ℕ) → infer [] e ≡ some t → compareTypes τ t ≡ some d → typed p q τ e ≡ refused 7 (p + d)
+  unfolding typed
+  other-type t d i c = rw (i, c)
+
+  pub data Answer : Verdict Recipe → Type 0 where
+    untyped : infer [] e ≡ none → Answer (refused 6 (fault q [] e))
+    as-declared : infer [] e ≡ some τ → Answer (passed (τ, e))
+    mistyped : (t : Ty) (d : ℕ) → infer [] e ≡ some t → compareTypes τ t ≡ some d → Answer (refused 7 (p + d))
+
+  pub answer : Answer (typed p q τ e)
+  answer = inferred (infer [] e) refl
+    where
+      compared : (t : Ty) → infer [] e ≡ some t → (o : Option ℕ) → compareTypes τ t ≡ o → Answer (typed p q τ e)
+      compared t i none c =
+          let z : infer [] e ≡ some τ = i ∙ ap some (sym (equal-iff τ t .0 c)) in
+          subst Answer (sym (own-type z)) (as-declared z)
+      compared t i (some d) c = subst Answer (sym (other-type t d i c)) (mistyped t d i c)
+
+      inferred : (o : Option Ty) → infer [] e ≡ o → Answer (typed p q τ e)
+      inferred none i = subst Answer (sym (no-type i)) (untyped i)
+      inferred (some t) i = compared t i (compareTypes τ t) refl
+
 -- Refusals 6 and 7 are given to no term that has the declared type, and to every other.
 typed-iff : (p q : ℕ) (τ : Ty) (e : Term ml) (x : Recipe) → (typed p q τ e ≡ passed x) ↔ (Typed [] e τ × (x ≡ (τ, e)))
-unfolding typed
 typed-iff p q τ e x = (
-  λ z.
-      let i = then-passed (orRefuse (infer [] e) 6 _) _ x z in
-      let j = none-refused (compareTypes τ (i .0)) 7 _ (passed (τ, e)) x (i .2) in
-      let t = equal-iff τ (i .0) .0 (j .0) in
-      (infer-iff [] e τ .0 (refuse-iff (infer [] e) 6 _ (i .0) .0 (i .1) ∙ ap some (sym t)), sym (passed-injective _ x (j .1))),
-  λ h. rw (infer-iff [] e τ .1 (h .0), equal-iff τ τ .1 refl, h .1),
+  λ z. by (answer p q τ e) z,
+  λ h. own-type p q τ e (infer-iff [] e τ .1 (h .0)) ∙ ap passed (sym (h .1)),
 )
+  where
+    by : {v : Verdict Recipe} → Answer p q τ e v → v ≡ passed x → Typed [] e τ × (x ≡ (τ, e))
+    by (untyped i) z = absurd (not-both 6 (fault q [] e) x z)
+    by (as-declared i) z = (infer-iff [] e τ .0 i, sym (passed-injective (τ, e) x z))
+    by (mistyped t d i c) z = absurd (not-both 7 (p + d) x z)
 
 pub judged-iff : (types terms : List ℕ) (start : ℕ) (x : Recipe)
     → (judged types terms start ≡ passed x) ↔ (Spelt types terms (x .0) (x .1) × Typed [] (x .1) (x .0))

@@ -3,16 +3,12 @@
 use Prim.Native.Nat.{ℕ, _+_, _≤_}
 use mathlib.Core.List.{List, []}
 use mathlib.Core.Logic.{_↔_}
-use mathlib.Core.Option.{Option, none, some}
-use mathlib.Core.Path.{_≡_, refl, sym, _∙_, subst}
+use mathlib.Core.Path.{_≡_, sym, ap, _∙_, subst}
 use lib.ListN.{length}
 use native.Mathlib.Omega.{arith}
 use Rattle.calculus.specs.Trees.{Ty, ml, Term}
 use Rattle.calculus.specs.Words.{sizeTy}
-use Rattle.calculus.specs.Verdicts.{found, Verdict, refused, passed, andThen, orRefuse}
-use Rattle.calculus.specs.Comparison.{compareTypes}
-use Rattle.calculus.specs.Inference.{infer}
-use Rattle.calculus.specs.Faults.{fault}
+use Rattle.calculus.specs.Verdicts.{Verdict, refused}
 use Rattle.calculus.specs.File.{Recipe, typed, judged, check}
 use Rattle.calculus.specs.Accepted.{Spelt, Filed}
 use Rattle.calculus.specs.Mismatches.{FaultAt, MismatchAt, Points}
@@ -20,41 +16,33 @@ use Rattle.calculus.proofs.Verdicts.{not-both, refused-injective}
 use Rattle.calculus.proofs.Comparison.{compares}
 use Rattle.calculus.proofs.Inference.{infer-iff}
 use Rattle.calculus.proofs.Faults.{fault-lowest, lowest-untyped}
-use Rattle.calculus.proofs.Checks.{judged-typed, judged-as, filed-judged, checked-as}
+use Rattle.calculus.proofs.Checks.{judged-typed, judged-as, filed-judged, checked-as, no-type, other-type, Answer, untyped, as-declared, mistyped, answer}
 
--- The typing's answer for a type that stands at p and a term that stands at q, by the type inferred and by its difference.
+-- Of a type that stands at p and a term that stands at q.
 module _ (p q : ℕ) (τ : Ty) (e : Term ml) (r : ℕ) where
-  abbrev compared : Option ℕ → Verdict Recipe
-  compared o = found o (passed (τ, e)) (λ d. refused 7 (p + d))
-
-  abbrev inferred : Option Ty → Verdict Recipe
-  inferred o = andThen (orRefuse o 6 (fault q [] e)) (λ t. compared (compareTypes τ t))
-
   six-iff : (typed p q τ e ≡ refused 6 r) ↔ FaultAt q e r
-  unfolding typed
   six-iff = (
-    λ z. by (infer [] e) refl z,
-    λ f. let u = lowest-untyped q [] e r f in rw (u .0, u .1),
+    λ z. by (answer p q τ e) z,
+    λ f. let u = lowest-untyped q [] e r f in no-type p q τ e (u .0) ∙ ap (refused 6) (u .1),
   )
     where
-      no-six : (o : Option ℕ) → ¬ (compared o ≡ refused 6 r)
-      no-six none z = not-both 6 r (τ, e) (sym z)
-      no-six (some d) z = omega (arith, refused-injective z .0)
-
-      by : (o : Option Ty) → infer [] e ≡ o → inferred o ≡ refused 6 r → FaultAt q e r
-      by none i z = subst (FaultAt q e) (refused-injective z .1) (fault-lowest q [] e i)
-      by (some t) i z = absurd (no-six (compareTypes τ t) z)
+      by : {v : Verdict Recipe} → Answer p q τ e v → v ≡ refused 6 r → FaultAt q e r
+      by (untyped i) z = subst (FaultAt q e) (refused-injective z .1) (fault-lowest q [] e i)
+      by (as-declared i) z = absurd (not-both 6 r (τ, e) (sym z))
+      by (mistyped t d i c) z = absurd (omega (arith, refused-injective z .0))
 
   seven-iff : (typed p q τ e ≡ refused 7 r) ↔ MismatchAt p τ e r
-  unfolding typed
   seven-iff = (
-    λ z. by (infer [] e) refl z,
-    λ m. rw (infer-iff [] e (m .found) .1 (m .typed), compares .differ τ (m .found) (m .before) .1 (m .differ), m .place),
+    λ z. by (answer p q τ e) z,
+    λ m.
+        let i = infer-iff [] e (m .found) .1 (m .typed) in
+        other-type p q τ e (m .found) (m .before) i (compares .differ τ (m .found) (m .before) .1 (m .differ)) ∙ ap (refused 7) (sym (m .place)),
   )
     where
-      differing : (t : Ty) → infer [] e ≡ some t → (o : Option ℕ) → compareTypes τ t ≡ o → compared o ≡ refused 7 r → MismatchAt p τ e r
-      differing t i none c z = absurd (not-both 7 r (τ, e) (sym z))
-      differing t i (some d) c z =
+      by : {v : Verdict Recipe} → Answer p q τ e v → v ≡ refused 7 r → MismatchAt p τ e r
+      by (untyped i) z = absurd (omega (arith, refused-injective z .0))
+      by (as-declared i) z = absurd (not-both 7 r (τ, e) (sym z))
+      by (mistyped t d i c) z =
           record {
             found = t;
             typed = infer-iff [] e t .0 i;
@@ -62,10 +50,6 @@ module _ (p q : ℕ) (τ : Ty) (e : Term ml) (r : ℕ) where
             place = sym (refused-injective z .1);
             differ = compares .differ τ t d .0 c;
           }
-
-      by : (o : Option Ty) → infer [] e ≡ o → inferred o ≡ refused 7 r → MismatchAt p τ e r
-      by none i z = absurd (omega (arith, refused-injective z .0))
-      by (some t) i z = differing t i (compareTypes τ t) refl z
 
 -- A number over 5 is not one of those of the words' order.
 past-five : {n r : ℕ} → 6 ≤ n → (m p : ℕ) → m ≤ 5 → ¬ (_≡_ {A = Verdict Recipe} (refused m p) (refused n r))

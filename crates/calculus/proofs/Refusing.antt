@@ -4,7 +4,6 @@ use Prim.Native.Nat.{ℕ, _+_, _-_, _≤_}
 use mathlib.Core.Bool.{Bool, true, false}
 use mathlib.Core.List.{List, []}
 use mathlib.Core.Logic.{inl, inr}
-use mathlib.Core.Option.{Option, none, some}
 use mathlib.Core.Path.{_≡_, refl, sym, ap, subst}
 use lib.Dec.{leb}
 use lib.ListN.{length, drop, length-drop}
@@ -12,9 +11,7 @@ use lib.Seq.{length-take-le}
 use native.Mathlib.Omega.{arith}
 use Rattle.calculus.specs.Trees.{Ty, ml, Term}
 use Rattle.calculus.specs.Kinds.{type, term}
-use Rattle.calculus.specs.Verdicts.{found, Verdict, refused, passed, andThen, unless, orRefuse}
-use Rattle.calculus.specs.Comparison.{compareTypes}
-use Rattle.calculus.specs.Inference.{infer}
+use Rattle.calculus.specs.Verdicts.{Verdict, refused, passed, andThen, unless}
 use Rattle.calculus.specs.Faults.{fault}
 use Rattle.calculus.specs.File.{wordsOf, isSize, isHeader, typeCount, typeWords, termWords, Recipe, typed, judged, checkWords, check, runIn}
 use Rattle.calculus.specs.File.{operate}
@@ -26,7 +23,7 @@ use Rattle.calculus.proofs.Ordering.{Proper, refusing, passing, proper-
 use Rattle.calculus.proofs.Comparison.{differ-apart}
 use Rattle.calculus.proofs.Faults.{fault-within}
 use Rattle.calculus.proofs.Files.{header-iff}
-use Rattle.calculus.proofs.Checks.{Ways, ways, judged-typed}
+use Rattle.calculus.proofs.Checks.{Ways, ways, judged-typed, Answer, untyped, as-declared, mistyped, answer}
 
 -- A refusal's place is at most b.
 abbrev pub PlaceWithin : {A : Type 0} → ℕ → Verdict A → Type 0
@@ -58,17 +55,12 @@ proper-unless b n p h false f = refusing n p h
 
 -- Of a type, which stands at p, and of a term, which stands at q: the fault stands in the term, the difference in the type.
 proper-typed : (b p q : ℕ) (τ : Ty) (e : Term ml) → p + sizeTy τ ≤ b → q + size e ≤ b → Proper 3 7 b (typed p q τ e)
-unfolding typed
-proper-typed b p q τ e m n = by (infer [] e)
+proper-typed b p q τ e m n = by (answer p q τ e)
   where
-    of-difference : (t : Ty) (o : Option ℕ) → compareTypes τ t ≡ o → Proper {A = Recipe} 3 7 b (found o (passed (τ, e)) (λ d. refused 7 (p + d)))
-    of-difference t none z = passing
-    of-difference t (some d) z = refusing 7 (p + d) (omega (arith, differ-apart τ t d z .0))
-
-    by : (o : Option Ty)
-        → Proper {A = Recipe} 3 7 b (andThen (orRefuse o 6 (fault q [] e)) (λ t. found (compareTypes τ t) (passed (τ, e)) (λ d. refused 7 (p + d))))
-    by none = refusing 6 (fault q [] e) (omega (arith, fault-within q [] e))
-    by (some t) = of-difference t (compareTypes τ t) refl
+    by : {v : Verdict Recipe} → Answer p q τ e v → Proper 3 7 b v
+    by (untyped i) = refusing 6 (fault q [] e) (omega (arith, fault-within q [] e))
+    by (as-declared i) = passing
+    by (mistyped t d i c) = refusing 7 (p + d) (omega (arith, differ-apart τ t d c .0))
 
 -- Of the words of a type, which stands at 4, and of those of a term: one of 3 to 7.
 proper-judged : (types terms : List ℕ) (start b : ℕ) → 4 + length types ≤ b → start + length terms ≤ b → Proper 3 7 b (judged types terms start)

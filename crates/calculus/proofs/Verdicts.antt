@@ -25,12 +25,7 @@ pub then-passed : {A B : Type 0} (v : Verdict A) (f : A → Verdict B) (b : B) �
 then-passed (refused n p) f b q = absurd (not-both n p b q)
 then-passed (passed a) f b q = (a, refl, q)
 
--- A test that is passed, and something that is found; and what passes where nothing is found that would be refused.
-pub none-refused : {A B : Type 0} (o : Option A) (n : ℕ) (k : A → ℕ) (v : Verdict B) (b : B) → found o v (λ a. refused n (k a)) ≡ passed b
-    → (o ≡ none) × (v ≡ passed b)
-none-refused none n k v b q = (refl, q)
-none-refused (some a) n k v b q = absurd (not-both n (k a) b q)
-
+-- A test that is passed, and something that is found.
 pub unless-iff : {A : Type 0} (b : Bool) (n p : ℕ) (v : Verdict A) (a : A) → (unless b n p v ≡ passed a) ↔ ((b ≡ true) × (v ≡ passed a))
 unless-iff true n p v a = (λ q. (refl, q), λ h. h .1)
 unless-iff false n p v a = (λ q. absurd (not-both n p a q), λ h. absurd (false≢true (h .0)))

@@ -11,7 +11,8 @@ use Rattle.calculus.specs.Comparison.{compareTypes}
 use Rattle.calculus.specs.Inference.{infer}
 use Rattle.calculus.specs.Verdicts.{refused}
 use Rattle.calculus.specs.Faults.{fault}
-use Rattle.calculus.specs.File.{typed}
+use Rattle.calculus.proofs.Comparison.{equal-iff}
+use Rattle.calculus.proofs.Checks as checks
 use Rattle.nodes.specs.declared.refusals.Refusal.the-variants.{Untyped, Mistyped}
 use Rattle.types.specs.References.{Written}
 use Rattle.types.specs.Comparisons.{Says, Compared}
@@ -23,7 +24,7 @@ use Rattle.typing.specs.Answers.{Answer, whole, bad}
 use Rattle.typing.specs.Variables.{Scope}
 use Rattle.typing.specs.Infers.{Told, Infers}
 use Rattle.typing.proofs.Lasting.{no-part, good-part, advanced}
-use Rattle.checker.specs.Checks.{Decides}
+use Rattle.checker.specs.Checks.{accepting, Decides}
 use Rattle.checker.specs.declared.Checked.the-variants.{Refused, Accepted}
 
 -- Nothing is around a recipe's term.
@@ -36,12 +37,11 @@ module _ {w ls ls′ : List ℕ} {start : ℕ} {r : Answer ml} (I : Infers ml w 
   answer e d = I .is e [] [] d (outermost w ls start)
 
   pub no-type : {f : ℕ} → r ≡ bad f → Decides w start (Refused (Untyped f))
-  unfolding typed
   no-type {f} q τ e x d =
       let u = no-part (answer e d) q in
       let b : _≡_ {A = Answer ml} (bad f) (bad (fault start [] e)) = sym q ∙ u .1 in
       let z : f ≡ fault start [] e = cc in
-      rw (u .0) (ap (refused 6) z)
+      ap (refused 6) z ∙ sym (ap accepting (checks.no-type 4 start τ e (u .0)))
 
   -- The type found, and how the declared one compares with it.
   module _ {t n : ℕ} (q : r ≡ whole t n) (c : Comparison) (C : Compared w ls′ 4 t c) where
@@ -56,12 +56,13 @@ module _ {w ls ls′ : List ℕ} {start : ℕ} {r : Answer ml} (I : Infers ml w 
         )
 
     pub declared-one : c ≡ Equal → Decides w start Accepted
-    unfolding typed
-    declared-one h τ e x d = let y = told τ e x d in rw (y .1, said-equal w 4 τ (compareTypes τ (y .0)) c h (y .2))
+    declared-one h τ e x d =
+        let y = told τ e x d in
+        let z = equal-iff τ (y .0) .0 (said-equal w 4 τ (compareTypes τ (y .0)) c h (y .2)) in
+        sym (ap accepting (checks.own-type 4 start τ e (y .1 ∙ ap some (sym z))))
 
     pub other-one : (i : ℕ) → c ≡ At i → Decides w start (Refused (Mistyped i))
-    unfolding typed
     other-one i h τ e x d =
         let y = told τ e x d in
         let z = said-at w 4 τ (compareTypes τ (y .0)) c i h (y .2) in
-        rw (y .1, z .1) (ap (refused 7) (z .2 x))
+        ap (refused 7) (z .2 x) ∙ sym (ap accepting (checks.other-type 4 start τ e (y .0) (z .0) (y .1) (z .1)))
