@@ -52,7 +52,7 @@ fn finds(engine: Check, model: &str, planted: &str) -> String {
 fn unequal(file: &[u8]) -> Option<Vec<Differing>> {
     let Recipe { declared, term } = read_recipe(file, DEEPEST).ok()?;
     let [due, found] = match untyped(&term) {
-        Some(node) => node.unequal?,
+        Some(node) => node.mismatch.unequal()?,
         None => [declared, type_of(&term)?],
     };
     differing(&due, &found)
@@ -61,7 +61,7 @@ fn unequal(file: &[u8]) -> Option<Vec<Differing>> {
 /// The right check, which accepts what is refused for owners alone if those that differ are such.
 fn blind(file: &[u8], such: fn(&Differing) -> bool) -> u64 {
     match stand_in::check(file) {
-        6 | 7 if unequal(file).is_some_and(|all| all.iter().all(such)) => 0,
+        answer if matches!(answer % 256, 6 | 7) && unequal(file).is_some_and(|all| all.iter().all(such)) => 0,
         answer => answer,
     }
 }
@@ -94,7 +94,7 @@ fn owners_that_are_compared_in_part() {
 fn blind_at(file: &[u8], kind: u32) -> u64 {
     let at = || {
         let Recipe { term, .. } = read_recipe(file, DEEPEST).ok()?;
-        Some(untyped(&term).map_or(0, |node| Node::Ml(&term).words()[node.before] % 256))
+        Some(untyped(&term).map_or(0, |node| node.kind))
     };
     match at() == Some(kind) {
         true => blind(file, |_| true),
@@ -466,7 +466,7 @@ fn saves_that_lose_an_owner_or_take_any() {
         }
         saved
     };
-    saving::answers(alike, "refused 7 at place 0", "");
+    saving::answers(alike, "refused 7 at place ", "");
 }
 
 /// The rows that a file of these words is counted in, and its run.

@@ -96,7 +96,7 @@ fn no_type(input: &Input) -> String {
     let Ok(Recipe { declared, term }) = read_recipe(&input.bytes, usize::MAX) else { return String::new() };
     let Some(node) = untyped(&term) else { return String::new() };
     let place = 4 + Node::Type(&declared).size() + node.before;
-    let owners = node.unequal.map_or(String::new(), |[due, found]| owners(&due, &found));
+    let owners = node.mismatch.unequal().map_or(String::new(), |[due, found]| owners(&due, &found));
     position(input, place) + &marked(&input.bytes, place) + &owners
 }
 
