@@ -11,6 +11,7 @@ mod counted;
 mod gone_on;
 mod lent;
 mod makers;
+mod mismatched;
 mod owned;
 mod planted;
 mod program;

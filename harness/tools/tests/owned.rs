@@ -1,6 +1,7 @@
 //! Planted errors in what the engine makes of the owners of lumps: each is found, and shrunk to a few words. The makers of owners
 //! make what they promise.
 
+use crate::common::checking::{finds, PLAN};
 use crate::common::pricing;
 use crate::common::saving;
 use model::check::read_recipe;
@@ -23,8 +24,6 @@ use tools::make::owners::{forgotten, lump, without_owners, OVER};
 use tools::make::{every_owner, every_sealed, every_two_owners, file_of_text};
 use tools::stand_in;
 
-const PLAN: Plan = Plan { files: 3_000, seed: 1, start: 0 };
-
 /// The words with other owners for their lumps.
 fn owned(words: &[u32], owner: fn(u32) -> u32) -> Vec<u32> {
     words.iter().map(|&word| if word % 256 == 2 { lump(owner(word / 256)) } else { word }).collect()
@@ -36,16 +35,6 @@ fn changed(file: &[u8], owner: fn(u32) -> u32) -> Vec<u8> {
         Ok(words) => bytes_of(&[&words[..4], &owned(&words[4..], owner)].concat()),
         Err(_) => file.to_vec(),
     }
-}
-
-/// What the comparison of checks shows of a wrong check: few words, and what the answers of model and engine start with.
-fn finds(engine: Check, model: &str, planted: &str) -> String {
-    let text = on_large_stack(|| compare_check(engine, PLAN)).err().expect("a difference");
-    let words = text.lines().find_map(|line| line.strip_prefix("words:    ")).expect("its words");
-    assert!(words.split(' ').count() <= 14, "{text}");
-    let due = text.contains(&format!("\nmodel:    {model}")) && text.contains(&format!("\nengine:   {planted}"));
-    assert!(due, "{text}");
-    text
 }
 
 /// The two types that a refusal 6 or 7 is about, and the owners that differ where they alone do.

@@ -2,6 +2,7 @@
 #![allow(dead_code)]
 
 pub mod carding;
+pub mod checking;
 pub mod pricing;
 pub mod saving;
 
