@@ -27,6 +27,11 @@ pub fn untyped(term: &Rc<Ml>) -> Option<Untyped> {
     judge(term).err().and_then(lowest)
 }
 
+/// The one of those nodes that stands behind so many words of the term, if it is one of them.
+pub fn untyped_at(term: &Rc<Ml>, before: usize) -> Option<Untyped> {
+    judge(term).err()?.into_iter().find(|node| node.before == before)
+}
+
 /// The lowest-numbered of some nodes.
 pub fn lowest(nodes: Vec<Untyped>) -> Option<Untyped> {
     nodes.into_iter().min_by_key(|node| node.before)

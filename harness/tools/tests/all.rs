@@ -16,6 +16,7 @@ mod owned;
 mod planted;
 mod program;
 mod recipe_card;
+mod recipe_mismatch;
 mod recipe_outline;
 mod recipe_owners;
 mod recipe_price;
