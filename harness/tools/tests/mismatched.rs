@@ -13,7 +13,7 @@ use model::untyped::{judge, untyped};
 use model::{check, on_large_stack, Recipe, Refusal};
 use std::collections::BTreeSet;
 use tools::compare::mismatches::{around, MismatchCounts};
-use tools::compare::{compare_check, compare_run, compare_save, missing, SavingEngine};
+use tools::compare::{compare_check, compare_run, compare_save, compare_saved_stack, missing, SavingEngine};
 use tools::engine::{Check, RecipeRun, RecipeSaved, Run, Save};
 use tools::make::mismatches::{begins, FAULTY, FITTING, UNFIT};
 use tools::make::{every_mismatch, mismatched_file};
@@ -346,6 +346,21 @@ fn unplaced<const REFUSAL: u32>(file: &[u8], limit: u32, first: &mut [u32], seco
         run if run.refusal == REFUSAL => RecipeRun { place: 0, ..run },
         run => run,
     }
+}
+
+#[test]
+fn the_deepest_that_are_refused_are_known_beforehand() {
+    let right = compare_saved_stack(right_save, 64 << 20).expect("no difference");
+    assert_eq!(right.iter().filter(|told| told.contains(": refused 6 ") || told.contains(": refused 7 ")).count(), 2);
+    for (number, save) in [(6, unplaced_save::<6> as Save), (7, unplaced_save::<7>)] {
+        let shown = compare_saved_stack(save, 64 << 20).expect_err("a difference");
+        assert!(shown.contains(&format!("refusal: {number}, place: 0")), "{shown}");
+    }
+}
+
+/// The right save without the place of a refusal.
+fn unplaced_save<const REFUSAL: u32>(declared: &[u32], term: &[u32], out: &mut [u8]) -> RecipeSaved {
+    saved_at(declared, term, out, REFUSAL, |_, _| 0)
 }
 
 #[test]
