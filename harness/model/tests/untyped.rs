@@ -3,7 +3,7 @@
 use crate::common::*;
 use model::node::Node;
 use model::read::read_ml;
-use model::untyped::{judge, untyped};
+use model::untyped::{judge, untyped, untyped_at};
 
 /// The words before each node that is named, and its kind.
 fn named(words: &[u32]) -> Vec<(usize, u32)> {
@@ -42,6 +42,14 @@ fn two_types_that_were_to_be_equal() {
     assert_eq!(unequal(&[18, w(2, 3), 30, 1, 45, 2, 16]), types(&[2], &[w(2, 3)]));
     // A number applied, hd of a number: no two types were to be equal.
     assert_eq!([unequal(&[19, 17, 17]), unequal(&[26, 17])], [None, None]);
+}
+
+#[test]
+fn a_node_is_found_by_its_place_if_it_is_one_that_might_be_named() {
+    // add (hd 0) (tl 0): the root has parts without a type, the numbers have one, and word 9 is behind the term.
+    let term = read_ml(&[21, 26, 17, 27, 17], 0, usize::MAX).expect("words in order");
+    let kinds: Vec<Option<u32>> = [0, 1, 2, 3, 4, 9].map(|at| untyped_at(&term, at).map(|node| node.kind)).into();
+    assert_eq!(kinds, [None, Some(26), None, Some(27), None, None]);
 }
 
 #[test]
