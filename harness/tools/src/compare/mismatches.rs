@@ -87,9 +87,6 @@ const MOST_WORDS: usize = MOST_BYTES / 4;
 impl MismatchCounts {
     /// Counts a file by the answer to it: none is a refusal.
     pub fn file(&mut self, bytes: &[u8], refusal: Option<&Refusal>) {
-        if !matches!(refusal, Some(Refusal { number: 6 | 7, .. })) {
-            return;
-        }
         let Ok(words) = words_of(bytes) else { return };
         if let Ok(regions) = regions(&words) {
             self.words(regions.declared, regions.term, refusal);
@@ -145,13 +142,11 @@ impl MismatchCounts {
             standing.map(move |(standing, count)| (format!("refusal 6 at {way}, {standing}"), *count))
         });
         let inside = INSIDE.iter().zip(self.inside).map(|(inside, count)| (format!("refusal 6 {inside}"), count));
-        let differences = |name: &'static str, counts: &[u64; DIFFERENCES.len()]| {
-            let counts = *counts;
+        let differences = |name: &'static str, counts: [u64; DIFFERENCES.len()]| {
             DIFFERENCES.iter().zip(counts).map(move |(row, count)| (format!("{name} {row}"), count))
         };
-        // Two types that were both found in a term have together at most twice its words.
-        let unequal = differences("refusal 6 by a type that differs", &self.unequal);
-        let declared = differences("refusal 7 by a declared type that differs", &self.declared);
+        let unequal = differences("refusal 6 by a type that differs", self.unequal);
+        let declared = differences("refusal 7 by a declared type that differs", self.declared);
         ways.chain(inside).chain(unequal).chain(declared).collect()
     }
 
