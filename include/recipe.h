@@ -47,8 +47,10 @@ extern "C" {
  *      declared type or of the term run out [one past them]; or some remain [the first that remains]
  *   4  nesting over 256 levels [the first word that is too deep]
  *   5  a variable without a lambda of its own language [that variable's word]
- *   6  the term has no type; also where two types in it are equal but for an owner
- *   7  the term's type is not the declared one, if only by an owner
+ *   6  the term has no type; also where two types in it are equal but for an owner [of all nodes that have no type, or in
+ *      Scheme are not well formed, while all their own parts are in order, the one with the lowest place]
+ *   7  the term's type is not the declared one, if only by an owner [the first word of the declared type that differs from
+ *      the type that the term has]
  *   8  the term has more words than the capacity (recipe_run, recipe_price and recipe_card)
  *   9  the declared type is not {N}, a list of numbers (recipe_price and recipe_card alone, as are the next two)
  *  10  the value has more than nine items
@@ -58,11 +60,12 @@ extern "C" {
  *  14  the buffer is shorter than the card (recipe_card alone)
  *
  * Where several fit, the first in this order is given: 11, before the file is read; 1; 2; 3 and 4, by whichever word comes
- * first; 5; 6; 7; 9; 8; and when the run has come to a value, 10 and then 14.
+ * first; 5; 6; 7; 9; 8; and when the run has come to a value, 10 and then 14. Earlier archives told place 0 with 6 and 7.
  *
  * recipe_save is handed words, not a file, and gives, in this order: 12, from the two lengths alone; 3 and 4, by whichever
- * word comes first, the declared type's before the term's; 5; 6; 7; 13. Places are those in the file to be written: the
- * declared type begins at place 4, the term behind it. An empty type is 3 at place 4, an empty term 3 one past the type. */
+ * word comes first, the declared type's before the term's; 5; 6; 7; 13. Places, those of 3 to 7, are those in the file to be
+ * written: the declared type begins at place 4, the term behind it. An empty type is 3 at place 4, an empty term 3 one past
+ * the type. */
 enum {
     RECIPE_SIZE = 1,
     RECIPE_HEADER = 2,

@@ -21,9 +21,9 @@ static const char *sentence(uint64_t number)
     case RECIPE_SCOPE:
         return "This variable has no lambda of its own language at its operand.";
     case RECIPE_NO_TYPE:
-        return "The term has no type.";
+        return "The term has no type: this node's parts are in order, but do not fit together.";
     case RECIPE_OTHER_TYPE:
-        return "The term's type is not the declared one.";
+        return "The term's type is not the declared one: this declared word is the first that differs.";
     default:
         return "The engine gave a number that this program does not know.";
     }
@@ -43,7 +43,7 @@ static void explain(const char *name, uint64_t answer, size_t length)
     uint64_t number = answer % 256, place = answer / 256;
     const char *why = number == RECIPE_WORD ? word_sentence(place, length) : sentence(number);
     printf("%s: refused %" PRIu64, name, number);
-    if (number >= RECIPE_WORD && number <= RECIPE_SCOPE)
+    if (number >= RECIPE_WORD && number <= RECIPE_OTHER_TYPE)
         printf(" at word %" PRIu64, place);
     printf(". %s\n", why);
 }

@@ -57,6 +57,10 @@ same() {
     words 3 4 5 7 4 1 1 18 1 30 1 32 >scope
     words 1 4 3 5 1 19 17 17 >no-type
     words 1 4 1 5 2 17 >other-type
+    # if0 (nil N) (hd 3) 1, of which hd is named; ms N (sm {N} 0); and nil N, declared {L}.
+    words 1 4 6 5 1 23 24 1 26 785 273 >no-type-inside
+    words 1 4 6 5 1 30 1 45 3 1 17 >no-type-script
+    words 2 4 2 6 3 2 24 1 >other-type-inside
     words 1 4 8 5 1 19 30 4 1 1 34 32 1809 >wrapped
     words 1 4 3 5 1 26 24 1 >hd-nil
     words 2 4 3 6 3 1 27 24 1 >tl-nil
@@ -125,6 +129,8 @@ cd "$out"
 word="This word has no kind or operand that is due here, or the type or the term is complete before it, or the type ends too early."
 header="The header is wrong: a count is 0, an offset is not the one due, or the words do not add up to the file's length."
 size="The file's size is wrong: a recipe has 24 to 16,384 bytes, a multiple of 4."
+no_type="The term has no type: this node's parts are in order, but do not fit together."
+other_type="The term's type is not the declared one: this declared word is the first that differs."
 same add 0 "add: accepted" ./panel add
 same empty 1 "empty: refused 1. $size" ./panel empty
 same odd 1 "odd: refused 1. $size" ./panel odd
@@ -136,15 +142,18 @@ same term-out 1 "term-out: refused 3 at word 7. The file ends here, before the t
 same remains 1 "remains: refused 3 at word 6. $word" ./panel remains
 same deep 1 "deep: refused 4 at word 261. This word lies deeper than 256 levels." ./panel deep
 same scope 1 "scope: refused 5 at word 11. This variable has no lambda of its own language at its operand." ./panel scope
-same no-type 1 "no-type: refused 6. The term has no type." ./panel no-type
-same other-type 1 "other-type: refused 7. The term's type is not the declared one." ./panel other-type
+same no-type 1 "no-type: refused 6 at word 5. $no_type" ./panel no-type
+same no-type-inside 1 "no-type-inside: refused 6 at word 8. $no_type" ./panel no-type-inside
+same no-type-script 1 "no-type-script: refused 6 at word 7. $no_type" ./panel no-type-script
+same other-type 1 "other-type: refused 7 at word 4. $other_type" ./panel other-type
+same other-type-inside 1 "other-type-inside: refused 7 at word 5. $other_type" ./panel other-type-inside
 same owner 0 "owner: accepted" ./panel owner
 same owner-last 0 "owner-last: accepted" ./panel owner-last
 same owner-resealed 0 "owner-resealed: accepted" ./panel owner-resealed
 same owner-over 1 "owner-over: refused 3 at word 4. $word" ./panel owner-over
 same owner-over-inside 1 "owner-over-inside: refused 3 at word 10. $word" ./panel owner-over-inside
-same owner-handed 1 "owner-handed: refused 6. The term has no type." ./panel owner-handed
-same other-owner 1 "other-owner: refused 7. The term's type is not the declared one." ./panel other-owner
+same owner-handed 1 "owner-handed: refused 6 at word 9. $no_type" ./panel owner-handed
+same other-owner 1 "other-owner: refused 7 at word 4. $other_type" ./panel other-owner
 same several 1 "add: accepted
 header: refused 2. $header
 wrapped: accepted" ./panel add header wrapped
@@ -177,7 +186,9 @@ if [ "${1:-}" = run ]; then
 1 calls, 3 conversions, 0 others
 1041" ./run owner-resealed
     same run-owner-over 1 "refused 3 at word 4" ./run owner-over
-    same run-owner-handed 1 "refused 6 at word 0" ./run owner-handed
+    same run-owner-handed 1 "refused 6 at word 9" ./run owner-handed
+    same run-no-type-inside 1 "refused 6 at word 8" ./run no-type-inside
+    same run-other-type-inside 1 "refused 7 at word 5" ./run other-type-inside
 
     (cd ../.. && ${CC:-cc} $flags -o "$out/price" panel/price.c "$archive")
     # 125,000 x 8; 12,400 x 27; none of pump 3; 850 x 41: in thousandths of a cent.
@@ -204,6 +215,8 @@ pump 9: 15133048 cents
 total: 15207859 cents" ./price nine-items prices
     same price-error 0 "error after 2 steps: no charge" ./price tl-nil prices
     same price-kind 1 "refused 3, place 5" ./price kind prices
+    same price-no-type 1 "refused 6, place 8" ./price no-type-inside prices
+    same price-other-type 1 "refused 7, place 5" ./price other-type-inside prices
     same price-not-numbers 1 "refused 9, place 0" ./price add prices
     same price-items 1 "refused 10, place 0" ./price ten-items prices
     same price-over 1 "refused 11, place 0" ./price no-items over
@@ -234,6 +247,8 @@ PRICES has nine rows of three prices: cents for 1,000 pulses." ./price no-items 
     same card-error-printed 1 "" sh -c './card tl-nil prices 2>/dev/null'
     same card-short-printed 1 "" sh -c './card one-item prices 81 2>/dev/null'
     same card-kind 1 "refused 3, place 5" ./card kind prices 0
+    same card-no-type 1 "refused 6, place 8" ./card no-type-inside prices 0
+    same card-other-type 1 "refused 7, place 5" ./card other-type-inside prices 0
     same card-not-numbers 1 "refused 9, place 0" ./card add prices 0
     same card-items 1 "refused 10, place 0" ./card ten-items prices 0
     same card-over 1 "refused 11, place 0" ./card empty over 0

@@ -1,10 +1,12 @@
 //! The check of a file: refusals 1 to 7 in document 01's order, or the recipe.
 
 use crate::file::{regions, words_of};
+use crate::node::Node;
 use crate::read::{read_ml, read_type, DEEPEST};
 use crate::scope::unbound;
 use crate::tree::{Ml, Type};
-use crate::typing::type_of;
+use crate::typing::difference;
+use crate::untyped::{judge, lowest};
 use std::rc::Rc;
 
 /// An accepted file's declared type and term.
@@ -12,6 +14,16 @@ use std::rc::Rc;
 pub struct Recipe {
     pub declared: Rc<Type>,
     pub term: Rc<Ml>,
+}
+
+/// The place of the declared type's first word, behind the header.
+pub const DECLARED: usize = 4;
+
+impl Recipe {
+    /// The place of the term's first word in the recipe's file.
+    pub fn start(&self) -> usize {
+        DECLARED + Node::Type(&self.declared).size()
+    }
 }
 
 #[derive(Clone, Copy, Debug, PartialEq, Eq)]
@@ -35,8 +47,8 @@ pub fn read_recipe(bytes: &[u8], deepest: usize) -> Result<Recipe, Refusal> {
 
 /// Reads the words of a declared type and of a term, with places in the file that has them: refusals 3 and 4.
 pub fn read_words(declared: &[u32], term: &[u32], deepest: usize) -> Result<Recipe, Refusal> {
-    let start = 4 + declared.len();
-    let declared = read_type(declared, 4, deepest)?;
+    let start = DECLARED + declared.len();
+    let declared = read_type(declared, DECLARED, deepest)?;
     let term = read_ml(term, start, deepest)?;
     Ok(Recipe { declared, term })
 }
@@ -45,17 +57,21 @@ pub fn check(bytes: &[u8]) -> Result<Recipe, Refusal> {
     judged(read_recipe(bytes, DEEPEST)?)
 }
 
-/// A recipe that is read, unless it is refused by 5, 6 or 7.
+/// A recipe that is read, unless it is refused by 5, 6 or 7. "Refusal 7 carries the first declared word that differs from the type
+/// found."
 pub fn judged(recipe: Recipe) -> Result<Recipe, Refusal> {
+    let start = recipe.start();
     if let Some(before) = unbound(&recipe.term) {
-        let first = 4 + crate::node::Node::Type(&recipe.declared).size();
-        return Err(Refusal::new(5, first + before));
+        return Err(Refusal::new(5, start + before));
     }
-    let found = type_of(&recipe.term).ok_or(Refusal::new(6, 0))?;
-    if found != recipe.declared {
-        return Err(Refusal::new(7, 0));
+    let found = judge(&recipe.term).map_err(|nodes| {
+        let node = lowest(nodes).expect("a term without a type has such a node");
+        Refusal::new(6, start + node.before)
+    })?;
+    match difference(&recipe.declared, &found) {
+        Some(word) => Err(Refusal::new(7, DECLARED + word)),
+        None => Ok(recipe),
     }
-    Ok(recipe)
 }
 
 /// The check's answer as one number: 0 for accepted, else the refusal's number + 256 x its place.

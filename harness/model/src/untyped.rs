@@ -1,91 +1,102 @@
-//! Where a term fails to have a type: the first node that has none although its parts are in order.
+//! Where a term fails to have a type, from document 02's request U9: "Refusal 6 carries the lowest-numbered node that has no type,
+//! or is not well formed, while all its own parts are in order."
 
 use crate::node::Node;
 use crate::tree::{Ml, Scheme, Type};
-use crate::typing::{infer, well_formed, Lambdas};
+use crate::typing::{ml_rule, scheme_rule, Lambdas, Mismatch};
 use std::rc::Rc;
 
-/// That node: how many words come before it, and the type that was due of a part and the one found, where two were to be equal.
-#[derive(Debug, PartialEq, Eq)]
+/// A node that has no type, or is not well formed, while all its own parts are in order: how many words of the term come before
+/// it, its kind, and why.
+#[derive(Clone, Debug, PartialEq, Eq)]
 pub struct Untyped {
     pub before: usize,
-    pub unequal: Option<[Rc<Type>; 2]>,
+    pub kind: u32,
+    pub mismatch: Mismatch,
 }
 
-/// The node, if the term has no type. Each variable has its own lambda.
+/// The type of a closed term; or if it has none, all nodes of that sort. There is one then, since a node without a type has one
+/// in it.
+pub fn judge(term: &Rc<Ml>) -> Result<Rc<Type>, Vec<Untyped>> {
+    let mut walk = Walk { lambdas: Vec::new(), words: 0, untyped: Vec::new() };
+    walk.ml(term).ok_or(walk.untyped)
+}
+
+/// The lowest-numbered of those nodes, if the term has no type.
 pub fn untyped(term: &Rc<Ml>) -> Option<Untyped> {
-    find(Node::Ml(term), &mut Vec::new(), &mut 0)
+    judge(term).err().and_then(lowest)
 }
 
-/// The same of any node under the lambdas around it; `words` counts the words before it.
-fn find(node: Node<'_>, lambdas: &mut Lambdas, words: &mut usize) -> Option<Untyped> {
-    let before = *words;
-    if in_order(node, lambdas) {
-        *words += node.size();
-        return None;
-    }
-    *words += 1;
-    let around = lambdas.len();
-    lambdas.extend(own_lambda(node));
-    let inside = node.parts().into_iter().flatten().find_map(|part| find(part, lambdas, words));
-    lambdas.truncate(around);
-    inside.or_else(|| Some(Untyped { before, unequal: unequal(node, lambdas) }))
+/// The one of those nodes that stands behind so many words of the term, if it is one of them.
+pub fn untyped_at(term: &Rc<Ml>, before: usize) -> Option<Untyped> {
+    judge(term).err()?.into_iter().find(|node| node.before == before)
 }
 
-/// Whether a node has a type, or is well formed.
-fn in_order(node: Node<'_>, lambdas: &mut Lambdas) -> bool {
-    match node {
-        Node::Type(_) => true,
-        Node::Ml(e) => infer(e, lambdas).is_some(),
-        Node::Scheme(e) => well_formed(e, lambdas),
-    }
+/// The lowest-numbered of some nodes.
+pub fn lowest(nodes: Vec<Untyped>) -> Option<Untyped> {
+    nodes.into_iter().min_by_key(|node| node.before)
 }
 
-/// What a lambda adds around its parts.
-fn own_lambda(node: Node<'_>) -> Option<Option<Rc<Type>>> {
-    match node {
-        Node::Ml(e) => match &**e {
+/// One walk over all the nodes of a term: each is judged when all its parts are.
+struct Walk {
+    /// Around the node that comes next.
+    lambdas: Lambdas,
+    /// How many words come before it.
+    words: usize,
+    untyped: Vec<Untyped>,
+}
+
+impl Walk {
+    /// The type of an ML term, if it has one.
+    fn ml(&mut self, term: &Rc<Ml>) -> Option<Rc<Type>> {
+        let own = match &**term {
             Ml::Lambda(t, _) => Some(Some(t.clone())),
             _ => None,
-        },
-        Node::Scheme(e) => matches!(**e, Scheme::Lambda(_)).then_some(None),
-        Node::Type(_) => None,
+        };
+        let before = self.words;
+        let parts = self.parts(Node::Ml(term), own)?;
+        self.kept(before, Node::Ml(term), ml_rule(term, &parts, &self.lambdas))
     }
-}
 
-/// The first two types of a node's parts that were to be equal and are not: the one due and the one found. The parts have types.
-fn unequal(node: Node<'_>, lambdas: &mut Lambdas) -> Option<[Rc<Type>; 2]> {
-    let mut pairs = match node {
-        Node::Type(_) => vec![],
-        Node::Ml(e) => ml_pairs(e, lambdas)?,
-        Node::Scheme(e) => match &**e {
-            Scheme::Sm(t, e) => vec![[t.clone(), infer(e, lambdas)?]],
-            _ => vec![],
-        },
-    };
-    pairs.retain(|[due, found]| due != found);
-    pairs.into_iter().next()
-}
+    /// Whether a Scheme term is well formed.
+    fn scheme(&mut self, term: &Rc<Scheme>) -> Option<()> {
+        let own = matches!(**term, Scheme::Lambda(_)).then_some(None);
+        let before = self.words;
+        let parts = self.parts(Node::Scheme(term), own)?;
+        self.kept(before, Node::Scheme(term), scheme_rule(term, &parts))
+    }
 
-/// All pairs of types that are to be equal at an ML node.
-fn ml_pairs(node: &Ml, lambdas: &mut Lambdas) -> Option<Vec<[Rc<Type>; 2]>> {
-    let number = || Rc::new(Type::Number);
-    Some(match node {
-        Ml::Application(f, a) => match &*infer(f, lambdas)? {
-            Type::Function(t, _) => vec![[t.clone(), infer(a, lambdas)?]],
-            _ => vec![],
-        },
-        Ml::Fix(f) => match &*infer(f, lambdas)? {
-            Type::Function(t, u) => vec![[t.clone(), u.clone()]],
-            _ => vec![],
-        },
-        Ml::Add(a, b) | Ml::Subtract(a, b) => {
-            vec![[number(), infer(a, lambdas)?], [number(), infer(b, lambdas)?]]
+    /// The types of a node's parts, a Scheme term having none, if all of them are in order. Each is judged, whatever becomes of
+    /// those before it; a lambda stands around its parts.
+    fn parts(&mut self, node: Node<'_>, own: Option<Option<Rc<Type>>>) -> Option<Vec<Rc<Type>>> {
+        self.words += 1;
+        let around = self.lambdas.len();
+        self.lambdas.extend(own);
+        let (mut types, mut in_order) = (Vec::new(), true);
+        for part in node.parts().into_iter().flatten() {
+            match self.part(part) {
+                Some(t) => types.extend(t),
+                None => in_order = false,
+            }
         }
-        Ml::If0(test, yes, no) => {
-            vec![[number(), infer(test, lambdas)?], [infer(yes, lambdas)?, infer(no, lambdas)?]]
+        self.lambdas.truncate(around);
+        in_order.then_some(types)
+    }
+
+    /// What a part has, if it is in order: a type, or as a Scheme term none.
+    fn part(&mut self, part: Node<'_>) -> Option<Option<Rc<Type>>> {
+        match part {
+            Node::Type(t) => {
+                self.words += part.size();
+                Some(Some(t.clone()))
+            }
+            Node::Ml(e) => self.ml(e).map(Some),
+            Node::Scheme(e) => self.scheme(e).map(|()| None),
         }
-        Ml::Cons(head, tail) => vec![[Rc::new(Type::List(infer(head, lambdas)?)), infer(tail, lambdas)?]],
-        _ => vec![],
-    })
+    }
+
+    /// What a rule gives; a node to which it gives nothing is put with the others.
+    fn kept<T>(&mut self, before: usize, node: Node<'_>, judged: Result<T, Mismatch>) -> Option<T> {
+        judged.map_err(|mismatch| self.untyped.push(Untyped { before, kind: node.word() % 256, mismatch })).ok()
+    }
 }

@@ -7,6 +7,7 @@ mod earlier;
 mod edges;
 mod nodes;
 mod owners;
+mod places;
 mod price;
 mod recipes;
 mod refusals;

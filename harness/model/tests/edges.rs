@@ -12,7 +12,7 @@ use model::{on_large_stack, End};
 fn found_types_larger_than_any_file() {
     let wide = balanced(4, 1, 2_043);
     let lambda = [&[18][..], &wide, &[16]].concat();
-    assert_eq!(refused_bytes(&file(&[1], &lambda)), (7, 0));
+    assert_eq!(refused_bytes(&file(&[1], &lambda)), (7, 4));
     // null? (fix (fn {t} v0)), |{t}| = 4,086: a type of 8,173 words is found inside an accepted recipe.
     let inside = [&[28, 20, 18, 3][..], &wide, &[16]].concat();
     let bytes = file(&[1], &inside);
@@ -24,7 +24,7 @@ fn found_types_larger_than_any_file() {
 fn found_types_deeper_than_256() {
     let deep = chain(&[3], 253, &[1]);
     let term = [&[18][..], &deep, &chain(&[18, 1], 254, &[w(16, 254)])].concat();
-    assert_eq!(refused_bytes(&file(&[1], &term)), (7, 0));
+    assert_eq!(refused_bytes(&file(&[1], &term)), (7, 4));
 }
 
 #[test]

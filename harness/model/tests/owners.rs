@@ -59,7 +59,7 @@ fn an_owner_is_0_to_255_wherever_a_type_stands_in_a_term() {
 #[test]
 fn an_owner_out_of_range_goes_before_the_nesting_at_its_word() {
     let deep = |lists: usize, owner: u32| told(&chain(&[3], lists, &[lump(owner)]), &[17]);
-    assert_eq!([deep(255, 255), deep(256, 255), deep(257, 255)], [(7, 0), (4, 260), (4, 260)]);
+    assert_eq!([deep(255, 255), deep(256, 255), deep(257, 255)], [(7, 4), (4, 260), (4, 260)]);
     assert_eq!([deep(255, 256), deep(256, 256), deep(257, 256)], [(3, 259), (3, 260), (4, 260)]);
 }
 
@@ -67,7 +67,7 @@ fn an_owner_out_of_range_goes_before_the_nesting_at_its_word() {
 fn files_written_so_far_say_owner_0() {
     // L's word was 2, which is owner 0's.
     assert_eq!((lump(0), told(&[2], &[30, 2, 39])), (2, (0, 0)));
-    assert_eq!(told(&[2], &[30, lump(1), 39]), (7, 0));
+    assert_eq!(told(&[2], &[30, lump(1), 39]), (7, 4));
 }
 
 /// Whether a part of one owner's type fits where another's is due, at each rule that wants equal types; 7 is due of the last.
@@ -90,18 +90,23 @@ fn fits(due: &[u32], found: &[u32]) -> [(u32, u32); 6] {
 fn types_are_equal_only_if_the_owners_are() {
     for (one, other) in [(0, 1), (1, 0), (0, 255), (255, 254), (7, 9), (1, 129), (16, 0)] {
         let (one, other) = (lump(one), lump(other));
-        let shapes: [fn(u32) -> Vec<u32>; 6] = [
-            |o| vec![o],
-            |o| vec![3, o],
-            |o| vec![4, o, 1],
-            |o| vec![4, 1, o],
-            |o| vec![3, 4, 3, o, 2],
-            |o| vec![4, 2, 3, o],
+        // Each with the word that is the owner's.
+        let shapes: [(fn(u32) -> Vec<u32>, u32); 6] = [
+            (|o| vec![o], 0),
+            (|o| vec![3, o], 1),
+            (|o| vec![4, o, 1], 1),
+            (|o| vec![4, 1, o], 2),
+            (|o| vec![3, 4, 3, o, 2], 3),
+            (|o| vec![4, 2, 3, o], 3),
         ];
-        for shape in shapes {
+        for (shape, at) in shapes {
             assert_eq!(fits(&shape(one), &shape(one)), [(0, 0); 6]);
-            let six = (6, 0);
-            assert_eq!(fits(&shape(one), &shape(other)), [six, six, six, six, six, (7, 0)], "{one} {other}");
+            // The application and the cons stand at 5 and 6 behind N; an if0 and a fix right behind the type; the sm behind the
+            // type, an ms and its type; and the declared owner where it is in its type.
+            let length = shape(one).len() as u32;
+            let root = (6, 4 + length);
+            let due = [(6, 5), (6, 6), root, root, (6, 5 + 2 * length), (7, 4 + at)];
+            assert_eq!(fits(&shape(one), &shape(other)), due, "{one} {other}");
         }
     }
 }
@@ -132,7 +137,7 @@ fn opened(due: u32, found: u32) -> Rc<Scheme> {
 fn of_another_owners_ms_no_rule_fits() {
     for (due, found) in [(0, 1), (1, 0), (7, 9), (255, 0), (0, 255)] {
         assert!(scheme_rule(&opened(due, found)).is_none(), "{due} {found}");
-        assert_eq!(told(&[1], &[30, 1, 45, lump(due), 30, lump(found), w(33, 4)]), (6, 0));
+        assert_eq!(told(&[1], &[30, 1, 45, lump(due), 30, lump(found), w(33, 4)]), (6, 7));
     }
     assert!(scheme_rule(&opened(9, 9)).is_some());
 }
@@ -156,7 +161,7 @@ fn a_script_opens_a_lump_and_has_it_sealed_for_another_owner() {
     let sealed = [30, 1, 45, lump(9), 19, 18, lump(9), 16, 30, lump(9), w(33, 4)];
     leaves(&lent(&[1], &RESEALED, 1, 15), ended(End::Spent, 0, 1, 11, 0, [0, 1, 0]), &sealed);
     // Without that, one owner's lump handed to another has no type.
-    assert_eq!(told(&[1], &[30, 1, 45, lump(9), 19, 18, lump(9), 16, 30, lump(7), w(33, 4)]), (6, 0));
+    assert_eq!(told(&[1], &[30, 1, 45, lump(9), 19, 18, lump(9), 16, 30, lump(7), w(33, 4)]), (6, 9));
 }
 
 #[test]
@@ -254,7 +259,7 @@ fn owners_change_no_run() {
 #[test]
 fn a_recipe_that_is_refused_for_an_owner_may_be_accepted_without() {
     let refused = file(&[lump(9)], &[30, lump(7), 39]);
-    assert_eq!((refused_bytes(&refused), refused_bytes(&without_owners(&refused))), ((7, 0), (0, 0)));
+    assert_eq!((refused_bytes(&refused), refused_bytes(&without_owners(&refused))), ((7, 4), (0, 0)));
     assert_eq!(on_large_stack(|| try_ownerless(&refused, 5, [9, 9])), Ok(false));
 }
 

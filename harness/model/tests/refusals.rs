@@ -63,16 +63,16 @@ fn refusal_3_words_run_out_or_remain() {
 #[test]
 fn refusal_4_nesting() {
     assert_eq!(refused_bytes(&file(&[1], &chain(&[20], 256, &[17]))), (4, 261));
-    assert_eq!(refused_bytes(&file(&[1], &chain(&[20], 255, &[17]))), (6, 0));
+    assert_eq!(refused_bytes(&file(&[1], &chain(&[20], 255, &[17]))), (6, 259));
     assert_eq!(refused_bytes(&file(&chain(&[3], 256, &[1]), &[17])), (4, 260));
-    assert_eq!(refused_bytes(&file(&chain(&[3], 255, &[1]), &[17])), (7, 0));
+    assert_eq!(refused_bytes(&file(&chain(&[3], 255, &[1]), &[17])), (7, 4));
 }
 
 #[test]
 fn refusal_4_counts_types_among_the_parts() {
     assert_eq!(refused_bytes(&file(&[1], &chain(&[20], 255, &[24, 1]))), (4, 261));
     assert_eq!(refused_bytes(&file(&[1], &chain(&[20], 255, &[18, 1, 17]))), (4, 261));
-    assert_eq!(refused_bytes(&file(&[1], &chain(&[20], 254, &[30, 1, 39]))), (6, 0));
+    assert_eq!(refused_bytes(&file(&[1], &chain(&[20], 254, &[30, 1, 39]))), (6, 258));
 }
 
 #[test]
@@ -101,16 +101,16 @@ fn refusal_5_goes_before_6() {
 
 #[test]
 fn refusal_6_no_type() {
-    assert_eq!(refused(&[1, 4, 3, 5, 1, 19, 17, 17]), (6, 0));
+    assert_eq!(refused(&[1, 4, 3, 5, 1, 19, 17, 17]), (6, 5));
     // sm {N} of a number, and the two branches of an if0.
-    assert_eq!(refused(&[1, 4, 6, 5, 1, 30, 1, 45, 3, 1, 17]), (6, 0));
-    assert_eq!(refused(&[1, 4, 5, 5, 1, 23, 17, 17, 24, 1]), (6, 0));
+    assert_eq!(refused(&[1, 4, 6, 5, 1, 30, 1, 45, 3, 1, 17]), (6, 7));
+    assert_eq!(refused(&[1, 4, 5, 5, 1, 23, 17, 17, 24, 1]), (6, 5));
 }
 
 #[test]
 fn refusal_7_another_type() {
-    assert_eq!(refused(&[1, 4, 1, 5, 2, 17]), (7, 0));
-    assert_eq!(refused(&[2, 4, 2, 6, 3, 2, 24, 1]), (7, 0));
+    assert_eq!(refused(&[1, 4, 1, 5, 2, 17]), (7, 4));
+    assert_eq!(refused(&[2, 4, 2, 6, 3, 2, 24, 1]), (7, 5));
 }
 
 #[test]
@@ -121,5 +121,5 @@ fn refusal_8_capacity() {
     assert_eq!(run(&bytes, 0, 3, 0).result, Err(Refusal { number: 8, place: 0 }));
     assert_eq!(run(&bytes, 0, 3, 0).first, [0, 0, 0]);
     assert!(run(&bytes, 0, 1, 1).result.is_ok());
-    assert_eq!(run(&bytes_of(&[1, 4, 1, 5, 2, 17]), 0, 0, 0).result, Err(Refusal { number: 7, place: 0 }));
+    assert_eq!(run(&bytes_of(&[1, 4, 1, 5, 2, 17]), 0, 0, 0).result, Err(Refusal { number: 7, place: 4 }));
 }

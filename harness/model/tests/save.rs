@@ -61,7 +61,7 @@ fn refusal_12_in_bytes_from_the_lengths_alone() {
     assert_eq!(unsaved(&[3, 1], &most), (12, 0));
     assert_eq!(unsaved(&[1], &balanced(21, 17, 2_047)), (12, 0));
     // The type alone, and the term alone; whatever the words are.
-    assert_eq!(unsaved(&balanced(4, 1, 2_046), &[17]), (7, 0));
+    assert_eq!(unsaved(&balanced(4, 1, 2_046), &[17]), (7, 4));
     assert_eq!(unsaved(&balanced(4, 1, 2_047), &[]), (12, 0));
     assert_eq!(unsaved(&[99; 4_092], &[]), (3, 4));
     assert_eq!(unsaved(&[99; 4_093], &[]), (12, 0));
@@ -112,11 +112,11 @@ fn refusal_4_with_its_place() {
 fn refusals_5_to_7() {
     assert_eq!(unsaved(&[1], &[16]), (5, 5));
     assert_eq!(unsaved(&[4, 1, 1], &[18, 1, w(16, 1)]), (5, 9));
-    assert_eq!(unsaved(&[1], &[19, 17, 17]), (6, 0));
-    assert_eq!(unsaved(&[2], &[17]), (7, 0));
+    assert_eq!(unsaved(&[1], &[19, 17, 17]), (6, 5));
+    assert_eq!(unsaved(&[2], &[17]), (7, 4));
     // 5 before 6, and both before 7.
     assert_eq!(unsaved(&[2], &[21, 24, 1, 16]), (5, 8));
-    assert_eq!(unsaved(&[2], &[19, 17, 17]), (6, 0));
+    assert_eq!(unsaved(&[2], &[19, 17, 17]), (6, 5));
 }
 
 #[test]
@@ -124,8 +124,8 @@ fn refusal_13_after_all_others() {
     assert_eq!(unsaved_in(&[99], &[17], 0), (3, 4));
     assert_eq!(unsaved_in(&[1], &chain(&[20], 256, &[17]), 0), (4, 261));
     assert_eq!(unsaved_in(&[1], &[16], 0), (5, 5));
-    assert_eq!(unsaved_in(&[1], &[19, 17, 17], 0), (6, 0));
-    assert_eq!(unsaved_in(&[2], &[17], 0), (7, 0));
+    assert_eq!(unsaved_in(&[1], &[19, 17, 17], 0), (6, 5));
+    assert_eq!(unsaved_in(&[2], &[17], 0), (7, 4));
     assert_eq!(unsaved_in(&[1; 4_093], &[17], 0), (12, 0));
     assert_eq!(unsaved_in(&[1], &[17], 23), (13, 0));
 }

@@ -3,7 +3,7 @@
 use crate::common::*;
 use model::node::Node;
 use model::read::{read_ml, read_type};
-use model::text::{describe, flat, parse_recipe, pretty};
+use model::text::{describe, flat, flat_marked, parse_recipe, pretty};
 use std::rc::Rc;
 
 fn term(words: &[u32]) -> Rc<model::Ml> {
@@ -98,6 +98,8 @@ fn one_node_is_marked() {
     assert_eq!(pretty(Node::Ml(&t), Some(7)), "(app (ms (N to N) (fn v0)) [[7]])");
     let declared = read_type(&[4, 3, 1, 2], 0, usize::MAX).expect("a type");
     assert_eq!(pretty(Node::Type(&declared), Some(1)), "([[{N}]] to L)");
+    let marked = [2, 3, 4].map(|word| flat_marked(Node::Type(&declared), Some(word)));
+    assert_eq!(marked, ["({[[N]]} to L)", "({N} to [[L]])", "({N} to L)"]);
 }
 
 #[test]

@@ -125,7 +125,7 @@ fn renamed(declared: &[u32], term: &[u32], owner: u32, enough: &mut dyn FnMut(Ve
 
 /// The file of a term declared with the type that it has, if it has one.
 fn retyped(term: &[u32]) -> Option<Vec<u8>> {
-    let found = type_of(&*read_ml(term, 0, DEEPEST).ok()?)?;
+    let found = type_of(&read_ml(term, 0, DEEPEST).ok()?)?;
     Some(file(&Node::Type(&found).words(), term))
 }
 

@@ -146,7 +146,7 @@ fn other_words_left_by_a_run_of_one_step() {
 #[test]
 fn deep_saves_are_known_beforehand() {
     let right = on_large_stack(|| compare_saved_stack(right_save, 64 << 20)).expect("as known");
-    assert_eq!(right.len(), 4);
+    assert_eq!(right.len(), 6);
     let all: Save = |_, _, _| RecipeSaved::default();
     assert!(compare_saved_stack(all, 64 << 20).is_err());
     let kept: Save = |declared, term, out| {

@@ -1,6 +1,7 @@
 //! Planted errors in what the engine makes of the owners of lumps: each is found, and shrunk to a few words. The makers of owners
 //! make what they promise.
 
+use crate::common::checking::{finds, PLAN};
 use crate::common::pricing;
 use crate::common::saving;
 use model::check::read_recipe;
@@ -23,8 +24,6 @@ use tools::make::owners::{forgotten, lump, without_owners, OVER};
 use tools::make::{every_owner, every_sealed, every_two_owners, file_of_text};
 use tools::stand_in;
 
-const PLAN: Plan = Plan { files: 3_000, seed: 1, start: 0 };
-
 /// The words with other owners for their lumps.
 fn owned(words: &[u32], owner: fn(u32) -> u32) -> Vec<u32> {
     words.iter().map(|&word| if word % 256 == 2 { lump(owner(word / 256)) } else { word }).collect()
@@ -38,21 +37,11 @@ fn changed(file: &[u8], owner: fn(u32) -> u32) -> Vec<u8> {
     }
 }
 
-/// What the comparison of checks shows of a wrong check: few words, and what the answers of model and engine start with.
-fn finds(engine: Check, model: &str, planted: &str) -> String {
-    let text = on_large_stack(|| compare_check(engine, PLAN)).err().expect("a difference");
-    let words = text.lines().find_map(|line| line.strip_prefix("words:    ")).expect("its words");
-    assert!(words.split(' ').count() <= 14, "{text}");
-    let due = text.contains(&format!("\nmodel:    {model}")) && text.contains(&format!("\nengine:   {planted}"));
-    assert!(due, "{text}");
-    text
-}
-
 /// The two types that a refusal 6 or 7 is about, and the owners that differ where they alone do.
 fn unequal(file: &[u8]) -> Option<Vec<Differing>> {
     let Recipe { declared, term } = read_recipe(file, DEEPEST).ok()?;
     let [due, found] = match untyped(&term) {
-        Some(node) => node.unequal?,
+        Some(node) => node.mismatch.unequal()?,
         None => [declared, type_of(&term)?],
     };
     differing(&due, &found)
@@ -61,7 +50,7 @@ fn unequal(file: &[u8]) -> Option<Vec<Differing>> {
 /// The right check, which accepts what is refused for owners alone if those that differ are such.
 fn blind(file: &[u8], such: fn(&Differing) -> bool) -> u64 {
     match stand_in::check(file) {
-        6 | 7 if unequal(file).is_some_and(|all| all.iter().all(such)) => 0,
+        answer if matches!(answer % 256, 6 | 7) && unequal(file).is_some_and(|all| all.iter().all(such)) => 0,
         answer => answer,
     }
 }
@@ -94,7 +83,7 @@ fn owners_that_are_compared_in_part() {
 fn blind_at(file: &[u8], kind: u32) -> u64 {
     let at = || {
         let Recipe { term, .. } = read_recipe(file, DEEPEST).ok()?;
-        Some(untyped(&term).map_or(0, |node| Node::Ml(&term).words()[node.before] % 256))
+        Some(untyped(&term).map_or(0, |node| node.kind))
     };
     match at() == Some(kind) {
         true => blind(file, |_| true),
@@ -466,7 +455,7 @@ fn saves_that_lose_an_owner_or_take_any() {
         }
         saved
     };
-    saving::answers(alike, "refused 7 at place 0", "");
+    saving::answers(alike, "refused 7 at place ", "");
 }
 
 /// The rows that a file of these words is counted in, and its run.

@@ -116,7 +116,7 @@ fn check_points_at_the_place() {
     let (status, _, said) = seen(&["check"], b"(N to N)\n(fn N (ms N v0))");
     assert_eq!(status, 1);
     assert!(said.contains("line 2, column 13 of the text, word 11") && said.contains("(fn N (ms N [[v0]]))"), "{said}");
-    assert!(seen(&["check"], b"L 3").2.contains("declared: L\n  found:    N"));
+    assert!(seen(&["check"], b"L 3").2.contains("word 4 of the file\n  declared: [[L]]\n  found:    [[N]]\n"));
 }
 
 #[cfg(feature = "run")]

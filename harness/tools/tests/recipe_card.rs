@@ -103,7 +103,8 @@ fn an_end_without_a_charge_has_no_card() {
 fn other_refusals_are_explained_as_of_a_price_and_go_before_14() {
     let ten = format!("{{N}} {}(nil N){}", "(cons 1 ".repeat(10), ")".repeat(10));
     let cases: [(&[u8], &[&str], &str); 4] = [
-        (b"{N} 3", &[], "refused 7: the term's type is not the declared one\n  declared: {N}\n  found:    N\n"),
+        (b"{N} 3", &[], "refused 7: the term's type is not the declared one\n  line 1, column 1 of the text, word 4 of the file\n  \
+             declared: [[{N}]]\n  found:    [[N]]\n"),
         (
             b"{L} (nil L)",
             &[],

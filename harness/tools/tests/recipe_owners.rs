@@ -60,20 +60,25 @@ fn a_file_with_an_owner_over_255_is_explained_at_its_word() {
 #[test]
 fn a_mismatch_of_owners_is_explained_at_every_rule() {
     let alone = owners(7, 9, "", ": (ms L9 (sm L7 e))");
-    for (text, marked) in [
-        ("N (app (fn L9 1) (ms L7 2))", "[[(app (fn L9 1) (ms L7 2))]]"),
-        ("L9 (if0 0 (ms L9 1) (ms L7 1))", "[[(if0 0 (ms L9 1) (ms L7 1))]]"),
-        ("L9 (fix (fn L9 (ms L7 1)))", "[[(fix (fn L9 (ms L7 1)))]]"),
-        ("N (ms N (sm L9 (ms L7 4)))", "(ms N [[(sm L9 (ms L7 4))]])"),
-        ("N (app (fn L7 (ms N (sm L9 v0))) (ms L7 4))", "(app (fn L7 (ms N [[(sm L9 v0)]])) (ms L7 4))"),
+    let argument = "the second part of app is not of the type that the function takes\ndue:   L9\nfound: L7";
+    let branches = "the second and the third part of if0 are of two types\nsecond: L9\nthird:  L7";
+    let sides = "the function of fix takes one type and gives another\ntakes: L9\ngives: L7";
+    let term = "the term of sm is not of the type that sm names\ndue:   L9\nfound: L7";
+    for (text, marked, why) in [
+        ("N (app (fn L9 1) (ms L7 2))", "[[(app (fn L9 1) (ms L7 2))]]", argument),
+        ("L9 (if0 0 (ms L9 1) (ms L7 1))", "[[(if0 0 (ms L9 1) (ms L7 1))]]", branches),
+        ("L9 (fix (fn L9 (ms L7 1)))", "[[(fix (fn L9 (ms L7 1)))]]", sides),
+        ("N (ms N (sm L9 (ms L7 4)))", "(ms N [[(sm L9 (ms L7 4))]])", term),
+        ("N (app (fn L7 (ms N (sm L9 v0))) (ms L7 4))", "(app (fn L7 (ms N [[(sm L9 v0)]])) (ms L7 4))", term),
     ] {
-        assert_eq!(said(text, 6), format!("{marked}\n{alone}"), "{text}");
+        assert_eq!(said(text, 6), format!("{marked}\n{why}\n{alone}"), "{text}");
     }
     // The tail of a cons is to be a list of what its head is.
     let list = owners(7, 9, ": {L7} for {L9}", ": (ms {L9} (sm {L7} e))");
-    assert_eq!(said("{L9} (cons (ms L9 1) (nil L7))", 6), format!("[[(cons (ms L9 1) (nil L7))]]\n{list}"));
-    assert_eq!(said("L9 (ms L7 3)", 7), format!("declared: L9\nfound:    L7\n{alone}"));
-    assert_eq!(said("{L9} (nil L7)", 7), format!("declared: {{L9}}\nfound:    {{L7}}\n{list}"));
+    let tail = "the second part of cons is no list of what the first part is\ndue:   {[[L9]]}\nfound: {[[L7]]}";
+    assert_eq!(said("{L9} (cons (ms L9 1) (nil L7))", 6), format!("[[(cons (ms L9 1) (nil L7))]]\n{tail}\n{list}"));
+    assert_eq!(said("L9 (ms L7 3)", 7), format!("declared: [[L9]]\nfound:    [[L7]]\n{alone}"));
+    assert_eq!(said("{L9} (nil L7)", 7), format!("declared: {{[[L9]]}}\nfound:    {{[[L7]]}}\n{list}"));
 }
 
 #[test]
@@ -82,7 +87,7 @@ fn of_several_owners_the_first_that_differs_is_named() {
     let told = owners(0, 255, types, ": (ms (L1 to {L255}) (sm (L1 to {L}) e))");
     assert_eq!(
         said("(L1 to {L255}) (fn L1 (nil L))", 7),
-        format!("declared: (L1 to {{L255}})\nfound:    (L1 to {{L}})\n{told}")
+        format!("declared: (L1 to {{[[L255]]}})\nfound:    (L1 to {{[[L]]}})\n{told}")
     );
     let types = ": (L2 to L4) for (L1 to L3)";
     let told = owners(2, 1, types, ": (ms (L1 to L3) (sm (L2 to L4) e))");

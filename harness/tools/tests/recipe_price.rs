@@ -113,7 +113,8 @@ fn refusals_are_explained() {
     let prices = PriceFile::new(rows(&[]).as_bytes());
     let ten = format!("{{N}} {}(nil N){}", "(cons 1 ".repeat(10), ")".repeat(10));
     let cases: [(&[u8], &str); 4] = [
-        (b"{N} 3", "refused 7: the term's type is not the declared one\n  declared: {N}\n  found:    N\n"),
+        (b"{N} 3", "refused 7: the term's type is not the declared one\n  line 1, column 1 of the text, word 4 of the file\n  \
+             declared: [[{N}]]\n  found:    [[N]]\n"),
         (
             b"{L} (nil L)",
             "refused 9: the declared type is not {N}; only a list of numbers is priced\n  declared: {L}\n  due:      {N}\n",

@@ -155,6 +155,11 @@ fn other_refusals_are_told_with_their_places() {
     let said = said_of(|_, _, _| RecipeSaved { refusal: 5, place: 9, bytes: 0 });
     let due = "a variable has no lambda of its own language at its operand\n  word 9 of the file to be written\n";
     assert_eq!(said, format!("refused 5: {due}"));
+    let said = said_of(|_, _, _| RecipeSaved { refusal: 6, place: 9, bytes: 0 });
+    assert_eq!(said, "refused 6: the term has no type\n  word 9 of the file to be written\n");
+    let said = said_of(|_, _, _| RecipeSaved { refusal: 7, place: 4, bytes: 0 });
+    let due = "refused 7: the term's type is not the declared one\n  word 4 of the file to be written\n";
+    assert_eq!(said, due);
 }
 
 #[test]

@@ -1,5 +1,5 @@
-//! The recipes of document 01, the can, the lumps of two owners, the file saved by an earlier release and the damaged one in
-//! recipes/: each text makes its file, and the model lists it as written by hand.
+//! The recipes of document 01, the can, the lumps of two owners, the two whose types do not fit, the file saved by an earlier release
+//! and the damaged one in recipes/: each text makes its file, and the model lists it as written by hand.
 
 use model::earlier::before_u4;
 use model::file::file;
@@ -28,7 +28,7 @@ fn read(path: &Path, ending: &str) -> Vec<u8> {
 
 #[test]
 fn texts_make_the_files() {
-    assert_eq!(recipes().len(), 17);
+    assert_eq!(recipes().len(), 19);
     for path in recipes() {
         let text = String::from_utf8(read(&path, "txt")).expect("text");
         let parsed = parse_recipe(&text).expect("a recipe");

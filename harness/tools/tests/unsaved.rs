@@ -156,7 +156,7 @@ fn placed<const REFUSAL: u32>(declared: &[u32], term: &[u32], out: &mut [u8]) ->
 
 #[test]
 fn places_told_with_refusals_that_have_none() {
-    let saves: [(u32, Save); 4] = [(6, placed::<6>), (7, placed::<7>), (12, placed::<12>), (13, placed::<13>)];
+    let saves: [(u32, Save); 2] = [(12, placed::<12>), (13, placed::<13>)];
     for (number, save) in saves {
         answers(save, &format!("refused {number} at place 0"), &format!("refused {number} at place "));
     }

@@ -11,6 +11,6 @@ mod parse;
 mod print;
 mod tokens;
 
-pub use names::{describe, kind_name, lump_name};
+pub use names::{describe, head, kind_name, lump_name};
 pub use parse::{parse_recipe, Fault, Parsed};
-pub use print::{flat, pretty};
+pub use print::{flat, flat_marked, pretty};

@@ -19,13 +19,17 @@ struct Piece {
 
 /// The node on one line.
 pub fn flat(node: Node<'_>) -> String {
+    flat_marked(node, None)
+}
+
+/// The same, with the node that starts at the marked word, counted from the root's, in double brackets.
+pub fn flat_marked(node: Node<'_>, marked: Option<usize>) -> String {
     let mut text = String::new();
-    piece(node, &mut 0, None).flat(&mut text);
+    piece(node, &mut 0, marked).flat(&mut text);
     text
 }
 
-/// The node on as many lines as it needs. The node that starts at the marked word, counted from the root's, stands in
-/// double brackets.
+/// The node on as many lines as it needs, with one marked in the same way.
 pub fn pretty(node: Node<'_>, marked: Option<usize>) -> String {
     let mut text = String::new();
     piece(node, &mut 0, marked).lay_out(0, &mut text);

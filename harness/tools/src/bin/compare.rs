@@ -29,7 +29,8 @@ usage: compare check [--files N] [--seed S] [--start I] [--all-reached]
        compare stack [--kib K]
 
 check        every term of up to 3 words, files at the edges, owners in range and over it wherever a type may stand, every two
-             owners that are compared, and N random files (200000): number and place
+             owners that are compared, every way to have no type at many depths and beside others, types that differ in any
+             word, and N random files (200000), with every other a recipe with parts of other types: number and place
 run          every small recipe, every kind of value that if0 tests, every place of an owner, lumps opened and sealed for
              other owners, edges of files and of what is lent, and N random files (100000): result and every word of both
              buffers; and each accepted file that has an owner over 0 is run by the engine with owner 0 everywhere, too:
@@ -64,7 +65,9 @@ stack        the deepest runs of 16,384 words, and the deepest files, run, price
              size. Of all but cards, listings and nodes also: owner 0, 1 to 254 or 255 accepted; a refusal 6 or 7 for an owner
              alone, by the rule and by where in the type it stands; a refusal 3 for an owner over 255 by where its type
              stands; of runs, a lump opened, sealed for another owner, brought over in a list or a function, and a run as
-             without owners; of nodes, an L with each kind of owner, whole or not
+             without owners; of nodes, an L with each kind of owner, whole or not. Of checks and saves also: a refusal 6 at each
+             node that can have no type, in each way, at the root, inside, deep and the lowest of several, and a refusal 7 by
+             where the declared type differs; of all others but nodes, a 6 inside the term and a 7 behind the first word
 
 Status 0: no difference; 1: a difference, shrunk and shown; 2: not understood, or built without the engine.
 ";

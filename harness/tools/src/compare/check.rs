@@ -15,9 +15,18 @@ pub fn compare_check(engine: Check, plan: Plan) -> Result<Counts, String> {
     if plan.start == 0 {
         fixed(engine, &mut counts)?;
     }
-    plan.each_file(|index| compare(engine, &random_file(plan.seed, index), &mut counts))?;
+    plan.each_file(|index| {
+        compare(engine, &random_file(plan.seed, index), &mut counts)?;
+        match index.is_multiple_of(MISMATCHED_EVERY) {
+            true => compare(engine, &mismatched_file(&mut Random::new(plan.seed, index)), &mut counts),
+            false => Ok(()),
+        }
+    })?;
     Ok(counts)
 }
+
+/// With one random file of so many comes a recipe with parts of other types.
+const MISMATCHED_EVERY: u64 = 2;
 
 fn random_file(seed: u64, index: u64) -> Vec<u8> {
     let mut random = Random::new(seed, index);
@@ -50,7 +59,7 @@ fn compare(engine: Check, file: &[u8], counts: &mut Counts) -> Result<(), String
         Ok(_) => counts.accepted += 1,
         Err(refusal) => counts.refused(refusal),
     }
-    counts.owners.file(file, checked.as_ref().err());
+    counts.file(file, checked.as_ref().err());
     match engine(file) == answer(&checked) {
         true => Ok(()),
         false => Err(difference(engine, file)),

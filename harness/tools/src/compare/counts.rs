@@ -1,5 +1,7 @@
-//! What a comparison has reached: the outcomes of the rules, the ends and where the steps to them went, the refusals, owners.
+//! What a comparison has reached: the outcomes of the rules, the ends and where the steps to them went, the refusals and the places
+//! of 6 and 7, owners.
 
+use super::mismatches::MismatchCounts;
 use super::owners::OwnerCounts;
 use super::tested::TESTS;
 use model::rules::{Rule, RuleCounts};
@@ -20,9 +22,16 @@ pub struct Counts {
     /// By `TESTS`, of random recipes.
     tests: [u64; TESTS.len()],
     pub owners: OwnerCounts,
+    mismatches: MismatchCounts,
 }
 
 impl Counts {
+    /// Counts the answer to a file, a refusal or none, by its owners and by the types that do not fit.
+    pub fn file(&mut self, bytes: &[u8], refusal: Option<&Refusal>) {
+        self.owners.file(bytes, refusal);
+        self.mismatches.file(bytes, refusal);
+    }
+
     pub fn refused(&mut self, refusal: &Refusal) {
         self.refusals[refusal.number as usize - 1] += 1;
     }
@@ -43,19 +52,21 @@ impl Counts {
         self.tests.iter_mut().zip(kinds).for_each(|(count, is)| *count += u64::from(is));
     }
 
-    /// The table of a comparison of checks: the answers, and those that owners decide.
+    /// The table of a comparison of checks: the answers, those that owners decide, and the places of refusals 6 and 7.
     pub fn of_checks(&self) -> Vec<(String, u64)> {
         let mut rows = vec![("accepted".to_string(), self.accepted)];
         rows.extend(self.refusal_rows(7));
         rows.extend(self.owners.rows());
         rows.extend(self.owners.declared_rows());
+        rows.extend(self.mismatches.rows());
         rows
     }
 
     /// The table of a comparison of listings: 4 ends, 3 classes of steps to each, the refusals that a listing can show, and
     /// owners.
     pub fn of_listings(&self) -> Vec<(String, u64)> {
-        self.end_rows().chain(self.class_rows()).chain(self.refusal_rows(7)).chain(self.owners.few_rows()).collect()
+        let rows = self.end_rows().chain(self.class_rows()).chain(self.refusal_rows(7));
+        rows.chain(self.owners.few_rows()).chain(self.mismatches.few_rows()).collect()
     }
 
     /// The table of a comparison of runs: 49 outcomes of rules, 6 kinds of tests that are no numbers, 4 ends, 3 classes of
@@ -66,18 +77,20 @@ impl Counts {
             TESTS.iter().zip(self.tests).map(|(test, count)| (format!("random recipe that tests {test}"), count));
         let rows = rules.chain(tests).chain(self.end_rows());
         let rows = rows.chain(self.class_rows()).chain(self.refusal_rows(8));
-        rows.chain(self.owners.rows()).chain(self.owners.declared_rows()).chain(self.owners.step_rows()).collect()
+        let rows = rows.chain(self.owners.rows()).chain(self.owners.declared_rows()).chain(self.owners.step_rows());
+        rows.chain(self.mismatches.few_rows()).collect()
     }
 
     /// The rows that a comparison of pricings has of its runs: 4 ends, 3 classes of steps to each, 11 refusals, and owners.
     pub fn of_pricings(&self) -> Vec<(String, u64)> {
-        self.end_rows().chain(self.class_rows()).chain(self.refusal_rows(11)).chain(self.owners.rows()).collect()
+        let rows = self.end_rows().chain(self.class_rows()).chain(self.refusal_rows(11));
+        rows.chain(self.owners.rows()).chain(self.mismatches.few_rows()).collect()
     }
 
     /// The rows that a comparison of cards has of its runs: 4 ends, 3 classes of steps to each, and 12 refusals.
     pub fn of_cards(&self) -> Vec<(String, u64)> {
         let refusals = self.refusal_rows(11).into_iter().chain([refusal_row(14, &self.refusals)]);
-        self.end_rows().chain(self.class_rows()).chain(refusals).collect()
+        self.end_rows().chain(self.class_rows()).chain(refusals).chain(self.mismatches.few_rows()).collect()
     }
 
     fn end_rows(&self) -> impl Iterator<Item = (String, u64)> + '_ {

@@ -12,10 +12,15 @@ pub struct Known {
     pub left: Vec<u32>,
 }
 
-/// All of them: terms that grow as deep as the words allow, lambdas substituted into, and files nested 256 deep.
+/// All of them: terms that grow as deep as the words allow, lambdas substituted into, and files nested 256 deep, accepted or not.
 pub fn deepest() -> Vec<Known> {
     let grown = GROWING.iter().map(Growing::known);
-    grown.chain(WRAPS.iter().map(|wrap| wrap.known(&[2]))).chain([nested_choices(), nested_types()]).collect()
+    grown.chain(WRAPS.iter().map(|wrap| wrap.known(&[2]))).chain(nested_files()).collect()
+}
+
+/// The files nested 256 deep: two that are accepted, and two that are refused by 6 and by 7 at their deepest.
+fn nested_files() -> [Known; 4] {
+    [nested_choices(), nested_types(), nested_fault(), nested_difference()]
 }
 
 /// Those that can be priced: terms of type {N}. Their runs end as full, so there is no charge.
@@ -32,13 +37,13 @@ pub struct KnownSave {
     pub answer: RecipeSaved,
 }
 
-/// The files nested 256 deep, which are written as they are; and terms of as many words as a file may have, each nested in the
-/// one before, which the save leaves at the first word that is too deep.
+/// The files nested 256 deep, which are written as they are or refused; and terms of as many words as a file may have, each nested in
+/// the one before, which the save leaves at the first word that is too deep.
 pub fn deepest_saves() -> Vec<KnownSave> {
-    let written = [nested_choices(), nested_types()].map(|Known { name, file, .. }| {
+    let nested = nested_files().map(|Known { name, file, answer: RecipeRun { refusal, place, .. }, .. }| {
         let words = words_of(&file).expect("a file");
         let Regions { declared, term } = regions(&words).expect("a header in order");
-        let answer = RecipeSaved { bytes: file.len() as u32, ..RecipeSaved::default() };
+        let answer = RecipeSaved { refusal, place, bytes: if refusal == 0 { file.len() as u32 } else { 0 } };
         KnownSave { name, declared: declared.to_vec(), term: term.to_vec(), answer }
     });
     // The node at level 256 begins behind 255 of so many words each; its first part is too deep.
@@ -48,7 +53,7 @@ pub fn deepest_saves() -> Vec<KnownSave> {
         KnownSave { name, declared: vec![1], term, answer }
     };
     let fixes = too_deep("fix nested 4,091 deep", &[20]);
-    written.into_iter().chain([fixes, too_deep("if0 nested in the third part", &[23, 17, 17])]).collect()
+    nested.into_iter().chain([fixes, too_deep("if0 nested in the third part", &[23, 17, 17])]).collect()
 }
 
 /// Words of type and term that a file holds.
@@ -159,4 +164,20 @@ fn nested_types() -> Known {
     let term = [&[29 + 256 * 7][..], &declared].concat();
     let answer = RecipeRun { end: 2, code: 7, steps: 1, others: 1, ..RecipeRun::default() };
     Known { name: "a file of types nested 256 deep", file: file(&declared, &term), answer, left: vec![] }
+}
+
+/// if0 0 0 (if0 0 0 (.. (hd 0))): the hd at level 255 has no type, behind 254 of three words.
+fn nested_fault() -> Known {
+    let term = [[23, 17, 17].repeat(254), vec![26, 17]].concat();
+    let answer = RecipeRun { refusal: 6, place: 5 + 3 * 254, ..RecipeRun::default() };
+    Known { name: "a file of if0 nested 256 deep, the last of hd 0", file: file(&[1], &term), answer, left: vec![] }
+}
+
+/// A wrong of a type nested 255 deep in functions' second parts, which differs from the declared type in the last word of both.
+fn nested_difference() -> Known {
+    let arrows = [4, 1].repeat(254);
+    let [declared, found] = [1, 2].map(|last| [&arrows[..], &[last]].concat());
+    let answer = RecipeRun { refusal: 7, place: 4 + 2 * 254, ..RecipeRun::default() };
+    let file = file(&declared, &[&[29 + 256 * 7][..], &found].concat());
+    Known { name: "a file of types nested 256 deep that differ in the last word", file, answer, left: vec![] }
 }

@@ -79,7 +79,7 @@ fn compare(program: &Path, file: &[u8], counts: &mut Counts) -> Result<(), Strin
         Ok(ended) => counts.ended(ended),
         Err(refusal) => counts.refused(refusal),
     }
-    counts.owners.file(file, model.result.as_ref().err());
+    counts.file(file, model.result.as_ref().err());
     let (due, printed) = (text(&model), printed(program, file)?);
     match printed == due.as_bytes() {
         true => Ok(()),

@@ -9,6 +9,7 @@ mod deepest;
 mod faults;
 pub mod lent;
 mod list;
+pub mod mismatches;
 pub mod node;
 mod ownerless;
 pub mod owners;

@@ -111,14 +111,13 @@ impl OwnerCounts {
         }
         let node = untyped(&recipe.term);
         let types = match &node {
-            Some(node) => node.unequal.clone(),
+            Some(node) => node.mismatch.unequal(),
             None => typing::type_of(&recipe.term).map(|found| [recipe.declared.clone(), found]),
         };
         let first = types.and_then(|[due, found]| differing(&due, &found)?.first().copied());
         let row = &mut self.unequal[usize::from(node.is_none())];
         add(row, Within::ALL.map(|within| first.is_some_and(|first| first.within == within)));
-        let kind = node.and_then(|node| term.get(node.before)).map(|word| word % 256);
-        add(&mut self.at, AT.map(|(at, _)| kind == Some(at)));
+        add(&mut self.at, AT.map(|(at, _)| node.as_ref().is_some_and(|node| node.kind == at)));
     }
 
     /// Counts a run by the steps that it has made and the value that it comes to.

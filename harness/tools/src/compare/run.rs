@@ -27,7 +27,7 @@ pub fn compare_run(engine: Run, plan: Plan) -> Result<Counts, String> {
     Ok(counts)
 }
 
-/// How often the laws are tried on a recipe's whole reduction.
+/// How often the laws are tried on a recipe's whole reduction, and comes a recipe with parts of other types.
 const LAWS_EVERY: u64 = 8;
 
 /// A maker of random files.
@@ -42,10 +42,12 @@ fn random_file(engine: Run, seed: u64, index: u64, counts: &mut Counts) -> Resul
     let ran = compare_twice(engine, &case, &larger, counts)?;
     counts.tested(tested(&case.file, &ran));
     counts.owners.ran(&case.file, &ran);
-    if index.is_multiple_of(LAWS_EVERY) {
-        laws(&case.file, &ran, counts)?;
+    if !index.is_multiple_of(LAWS_EVERY) {
+        return Ok(());
     }
-    Ok(())
+    laws(&case.file, &ran, counts)?;
+    counts.files += 1;
+    compare(engine, &Case::new(mismatched_file(&mut random), 3, 9, 8), counts).map(drop)
 }
 
 /// A run, and if it ends as a value or an error a second that is lent at least as much and must end the same. Answers
@@ -125,7 +127,7 @@ fn compare(engine: Run, case: &Case, counts: &mut Counts) -> Result<model::Run, 
         Ok(ended) => counts.ended(ended),
         Err(refusal) => counts.refused(refusal),
     }
-    counts.owners.file(&case.file, model.result.as_ref().err());
+    counts.file(&case.file, model.result.as_ref().err());
     counts.rules(&model.rules);
     let seen = by_engine(engine, case);
     if seen_of(&model) != seen {

@@ -2,7 +2,7 @@
 //! card and without, and saved.
 
 use super::deepest::{deepest, deepest_cans, deepest_saves, Known, KnownSave};
-use crate::engine::{Card, Price, RecipeCard, RecipePriced, RecipePrices, Run, Save};
+use crate::engine::{Card, Price, RecipeCard, RecipePriced, RecipePrices, RecipeRun, Run, Save};
 use crate::parallel::for_each;
 use model::file::{file, MOST_BYTES};
 use model::run::MOST_WORDS;
@@ -80,5 +80,9 @@ fn compare<A: PartialEq + Debug + Send>(
     if seen != answer || !words.starts_with(&known.left) {
         return Err(format!("{name}: {answer:?} is due, not {seen:?}, or the words left are others"));
     }
-    Ok(format!("{name}: {} words after {} steps", known.answer.left, known.answer.steps))
+    let RecipeRun { refusal, place, left, steps, .. } = known.answer;
+    Ok(match refusal {
+        0 => format!("{name}: {left} words after {steps} steps"),
+        _ => format!("{name}: refused {refusal} at place {place}"),
+    })
 }

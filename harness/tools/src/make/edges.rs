@@ -1,5 +1,6 @@
 //! Files at the edges of what document 01 allows: sizes, headers, nesting, large types, deep and large runs.
 
+use super::mismatches::every_mismatch;
 use super::owners::{every_owner, every_two_owners, lump};
 use crate::random::Random;
 use model::file::{bytes_of, file};
@@ -20,7 +21,8 @@ pub fn balanced(join: u32, leaf: u32, leaves: usize) -> Vec<u32> {
 
 /// All of the edges that are the same in every comparison.
 pub fn edges() -> Vec<Vec<u8>> {
-    [edges_of_owner_0(), every_owner(), every_two_owners(), [0, 255].map(lump).map(compared_again).to_vec()].concat()
+    let again = [0, 255].map(lump).map(compared_again).to_vec();
+    [edges_of_owner_0(), every_owner(), every_two_owners(), again, every_mismatch()].concat()
 }
 
 /// Those in which every lump has owner 0, as in all files before U6.

@@ -79,7 +79,7 @@ fn with_owner(t: &[u32], owner: u32) -> Vec<u32> {
 }
 
 /// A wrong of a type, which stands for any term of it.
-fn wrong(t: &[u32]) -> Vec<u32> {
+pub fn wrong(t: &[u32]) -> Vec<u32> {
     [&[29 + 256], t].concat()
 }
 
@@ -133,7 +133,7 @@ const PAIRS: [(u32, u32); 10] =
 
 /// Recipes of two types that are to be equal: the parts of an application, a cons, an if0, a fix and an sm, and a term and its
 /// declared type.
-fn compared(due: &[u32], found: &[u32]) -> [Vec<u8>; 6] {
+pub fn compared(due: &[u32], found: &[u32]) -> [Vec<u8>; 6] {
     let list = |t: &[u32]| [&[3], t].concat();
     [
         file(&[1], &taken(due, &wrong(found))),

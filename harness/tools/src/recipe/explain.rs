@@ -1,16 +1,13 @@
 //! A refusal in a sentence, its place shown in the text or among the words.
 
 use super::input::Input;
+use super::mismatch::{another_type, no_type};
 use super::places::{around, due_at, header};
 use model::check::read_recipe;
 use model::file::words_of;
 use model::node::Node;
-use model::owners::{differing, Within};
 use model::text::{flat, pretty};
-use model::typing::type_of;
-use model::untyped::untyped;
-use model::{Recipe, Refusal, Type};
-use std::rc::Rc;
+use model::{Recipe, Refusal};
 
 /// What a refusal says, for the one who wrote the recipe.
 pub fn explain(input: &Input, refusal: &Refusal) -> String {
@@ -21,8 +18,8 @@ pub fn explain(input: &Input, refusal: &Refusal) -> String {
         3 => around(&input.bytes, place) + &due_at(&input.bytes, place),
         4 => position(input, place) + &around(&input.bytes, place),
         5 => position(input, place) + &marked(&input.bytes, place),
-        6 => no_type(input),
-        7 => another_type(&input.bytes),
+        6 => position(input, place) + &marked(&input.bytes, place) + &of_types(input, place, no_type),
+        7 => position(input, place) + &of_types(input, place, another_type),
         9 => not_numbers(&input.bytes),
         10 => "  pumps 1 to 9 take one item each; recipe run shows the value\n".into(),
         _ => String::new(),
@@ -40,7 +37,7 @@ pub fn explain_save(refusal: &Refusal, words: usize) -> String {
             format!("  word {place} of the file to be written; {WHEN}\n"),
         ),
         12 => (sentence(12), format!("  it would have {} bytes; {WHEN}\n", 16 + 4 * words)),
-        3 | 5 => (sentence(number), format!("  word {place} of the file to be written\n")),
+        3 | 5..=7 => (sentence(number), format!("  word {place} of the file to be written\n")),
         _ => (sentence(number), String::new()),
     };
     format!("refused {number}: {why}\n{details}")
@@ -76,54 +73,28 @@ fn position(input: &Input, place: usize) -> String {
     }
 }
 
-/// Lines of a term that are shown; of a longer one, the words around the place.
+/// Lines of a term that are shown; of a longer one so many before the line with the place, and that line and so many behind it.
 const MOST_LINES: usize = 40;
+const LINES_BEFORE: usize = 8;
+const LINES_BEHIND: usize = 12;
 
-/// The term with the word at a place in double brackets.
+/// The term with the word at a place in double brackets; of a long one, the lines around it.
 fn marked(bytes: &[u8], place: usize) -> String {
-    let Ok(Recipe { declared, term }) = read_recipe(bytes, usize::MAX) else { return around(bytes, place) };
-    let before = 4 + Node::Type(&declared).size();
-    let text = pretty(Node::Ml(&term), place.checked_sub(before)).replace('\n', "\n  ");
-    match text.lines().count() > MOST_LINES {
-        true => around(bytes, place),
-        false => format!("  {text}\n"),
-    }
+    let Ok(recipe) = read_recipe(bytes, usize::MAX) else { return around(bytes, place) };
+    let text = pretty(Node::Ml(&recipe.term), place.checked_sub(recipe.start()));
+    let lines: Vec<&str> = text.lines().collect();
+    let (from, to) = match lines.iter().position(|line| line.contains("[[")) {
+        _ if lines.len() <= MOST_LINES => (0, lines.len()),
+        Some(at) => (at.saturating_sub(LINES_BEFORE), lines.len().min(at + LINES_BEHIND)),
+        None => return around(bytes, place),
+    };
+    let [before, behind] = [from > 0, to < lines.len()].map(|cut| cut.then_some(".."));
+    before.iter().chain(&lines[from..to]).chain(&behind).map(|line| format!("  {line}\n")).collect()
 }
 
-/// The first node without a type whose parts are in order, and the owners where they alone are at fault; the refusal itself has no
-/// place.
-fn no_type(input: &Input) -> String {
-    let Ok(Recipe { declared, term }) = read_recipe(&input.bytes, usize::MAX) else { return String::new() };
-    let Some(node) = untyped(&term) else { return String::new() };
-    let place = 4 + Node::Type(&declared).size() + node.before;
-    let owners = node.unequal.map_or(String::new(), |[due, found]| owners(&due, &found));
-    position(input, place) + &marked(&input.bytes, place) + &owners
-}
-
-/// The declared type and the one that the term has, and the owners where they alone differ.
-fn another_type(bytes: &[u8]) -> String {
-    let Ok(Recipe { declared, term }) = read_recipe(bytes, usize::MAX) else { return String::new() };
-    let Some(found) = type_of(&term) else { return String::new() };
-    let both = format!("  declared: {}\n  found:    {}\n", flat(Node::Type(&declared)), flat(Node::Type(&found)));
-    both + &owners(&declared, &found)
-}
-
-/// Letters of a type that are shown in a line of advice.
-const MOST_LETTERS: usize = 40;
-
-/// Of two types that differ in owners alone, the first owners that do, and how a value gets from the one to the other.
-fn owners(due: &Rc<Type>, found: &Rc<Type>) -> String {
-    let first = differing(due, found).and_then(|all| all.into_iter().next());
-    let Some(first) = first else { return String::new() };
-    let [due, found] = [due, found].map(|t| flat(Node::Type(t)));
-    let short = due.len().max(found.len()) <= MOST_LETTERS;
-    let types = if first.within != Within::Alone && short { format!(": {found} for {due}") } else { String::new() };
-    let advice = if short { format!(": (ms {due} (sm {found} e))") } else { String::new() };
-    format!(
-        "  a lump of owner {} stands where one of owner {} is due{types}\n  \
-         a Scheme script may open it and have it sealed for the other owner{advice}\n",
-        first.found, first.due
-    )
+/// What is said of the types of a recipe whose words are in order.
+fn of_types(input: &Input, place: usize, say: fn(&Recipe, usize) -> String) -> String {
+    read_recipe(&input.bytes, usize::MAX).map_or(String::new(), |recipe| say(&recipe, place))
 }
 
 /// The declared type, and the one that a can is due to have.

@@ -6,6 +6,7 @@ mod check;
 mod explain;
 mod input;
 mod make;
+mod mismatch;
 mod outline;
 mod places;
 mod price;

@@ -2,6 +2,7 @@
 #![allow(dead_code)]
 
 pub mod carding;
+pub mod checking;
 pub mod pricing;
 pub mod saving;
 
@@ -32,14 +33,29 @@ pub fn typed_into(words: &[&str], input: &[u8], output: &mut (dyn Write + Send),
 pub fn typed_with(
     save: Save,
     words: &[&str],
+    input: &[u8],
+    output: &mut (dyn Write + Send),
+    errors: &mut dyn Write,
+) -> u8 {
+    typed_by(Engine { save: Some(save), ..model_as_engine() }, words, input, output, errors)
+}
+
+/// The model in the engine's place.
+pub fn model_as_engine() -> Engine {
+    let (check, run, price) =
+        (Some(stand_in::check as Check), Some(stand_in::run as Run), Some(stand_in::price as Price));
+    let (card, save, node) = (Some(stand_in::card as Card), Some(stand_in::save as Save), Some(stand_in::node as Node));
+    Engine { check, run, price, card, save, node }
+}
+
+/// The same with any engine.
+pub fn typed_by(
+    engine: Engine,
+    words: &[&str],
     mut input: &[u8],
     output: &mut (dyn Write + Send),
     errors: &mut dyn Write,
 ) -> u8 {
-    let (check, run, price) =
-        (Some(stand_in::check as Check), Some(stand_in::run as Run), Some(stand_in::price as Price));
-    let (card, node) = (Some(stand_in::card as Card), Some(stand_in::node as Node));
-    let engine = Engine { check, run, price, card, save: Some(save), node };
     let mut desk = Desk { engine, input: &mut input, output };
     program(words.iter().map(|word| word.to_string()).collect(), &mut desk, errors)
 }

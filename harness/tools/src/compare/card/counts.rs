@@ -81,6 +81,7 @@ impl CardCounts {
     /// Counts a refusal; of 14 also the card that was due.
     fn refused(&mut self, refusal: &Refusal, case: &CardCase, carded: &Carded) {
         self.runs.refused(refusal);
+        self.runs.file(&case.priced.lent.file, Some(refusal));
         add(&mut self.refused[refusal.number as usize], lent_without_a_card(case.room));
         if refusal.number != 14 {
             return;

@@ -39,7 +39,7 @@ impl PriceCounts {
     /// Counts a pricing, by what the model answers.
     pub fn count(&mut self, case: &PriceCase, priced: &Priced) {
         self.pricings += 1;
-        self.runs.owners.file(&case.lent.file, priced.run.result.as_ref().err());
+        self.runs.file(&case.lent.file, priced.run.result.as_ref().err());
         match &priced.run.result {
             Err(refusal) => self.refused(refusal, case, priced),
             Ok(ended) => {

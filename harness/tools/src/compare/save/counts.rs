@@ -1,10 +1,11 @@
 //! What a comparison of saves has reached: refusals, their places and their order, lengths of buffers, empty words, the ends
-//! of runs that were saved and went on, files that were saved before U4, and owners.
+//! of runs that were saved and went on, files that were saved before U4, owners, and the types that do not fit.
 
 use super::faults::ORDER;
 use super::going::{GoingOn, WentOn};
 use super::{EarlierCounts, SaveCase};
 use crate::compare::counts::{add, order_rows};
+use crate::compare::mismatches::MismatchCounts;
 use crate::compare::owners::OwnerCounts;
 use crate::engine::RecipeRun;
 use model::file::MOST_BYTES;
@@ -40,6 +41,7 @@ pub struct SaveCounts {
     unsaved: [u64; 14],
     pub earlier: EarlierCounts,
     owners: OwnerCounts,
+    mismatches: MismatchCounts,
 }
 
 /// Buffers for words that are otherwise in order.
@@ -82,7 +84,9 @@ impl SaveCounts {
     /// Counts a save, by what the model answers.
     pub fn saved(&mut self, case: &SaveCase, saved: &Saved) {
         self.saves += 1;
-        self.owners.words(&case.declared, &case.term, saved.result.as_ref().err());
+        let refusal = saved.result.as_ref().err();
+        self.owners.words(&case.declared, &case.term, refusal);
+        self.mismatches.words(&case.declared, &case.term, refusal);
         match &saved.result {
             Ok(_) => self.accepted += 1,
             Err(refusal) => self.refused(refusal, case),
@@ -171,7 +175,7 @@ impl SaveCounts {
         let rows = rows.chain(self.pair_rows()).chain(named("pair with ", &LENT, &self.lent));
         let classes = ["a call", "a conversion", "an other"].map(|class| format!("pair with {class} in both runs"));
         let rows = rows.chain(classes.into_iter().zip(self.classes)).chain(self.earlier.rows());
-        rows.chain(self.owners.rows()).chain(self.owners.declared_rows()).collect()
+        rows.chain(self.owners.rows()).chain(self.owners.declared_rows()).chain(self.mismatches.rows()).collect()
     }
 
     /// Pairs by their ends, how many times as many as are due, and refused saves of runs. A full run is full again in the

@@ -48,8 +48,8 @@ const PAIRS_EACH: usize = 3;
 /// With one random file of so many comes a recipe that was run and saved before U4.
 const EARLIER_EVERY: u64 = 4;
 
-/// Random words in a random buffer, a random recipe whose run is saved and goes on, and now and then one that was saved
-/// before U4.
+/// Random words in a random buffer, a random recipe whose run is saved and goes on, now and then one that was saved before U4,
+/// and one with parts of other types.
 fn random_file(engine: SavingEngine, seed: u64, index: u64, counts: &mut SaveCounts) -> Result<(), String> {
     let mut random = Random::new(seed, index);
     let (declared, term) = any_words(&mut random);
@@ -61,9 +61,12 @@ fn random_file(engine: SavingEngine, seed: u64, index: u64, counts: &mut SaveCou
     for _ in 0..PAIRS_EACH {
         any_going_on(&mut random, &file, &followed).compare(engine, counts)?;
     }
-    match index.is_multiple_of(EARLIER_EVERY) {
-        true => saved_before(engine, &mut random, counts),
-        false => Ok(()),
+    if index.is_multiple_of(EARLIER_EVERY) {
+        saved_before(engine, &mut random, counts)?;
+    }
+    match SaveCase::of_file(&mismatched_file(&mut random)) {
+        Some(case) => case.compare(engine.save, counts).map(drop),
+        None => Ok(()),
     }
 }
 
