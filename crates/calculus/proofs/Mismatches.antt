@@ -16,7 +16,8 @@ use Rattle.calculus.proofs.Verdicts.{not-both, refused-injective}
 use Rattle.calculus.proofs.Comparison.{compares}
 use Rattle.calculus.proofs.Inference.{infer-iff}
 use Rattle.calculus.proofs.Faults.{fault-lowest, lowest-untyped}
-use Rattle.calculus.proofs.Checks.{judged-typed, judged-as, filed-judged, checked-as, no-type, other-type, Answer, untyped, as-declared, mistyped, answer}
+use Rattle.calculus.proofs.Checks.{judged-typed, judged-as, filed-judged, checked-as}
+use Rattle.calculus.proofs.Checks.{no-type, other-type, Answer, untyped, as-declared, mistyped, answer}
 
 -- Of a type that stands at p and a term that stands at q.
 module _ (p q : ℕ) (τ : Ty) (e : Term ml) (r : ℕ) where
