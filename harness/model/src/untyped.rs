@@ -7,11 +7,12 @@ use crate::typing::{ml_rule, scheme_rule, Lambdas, Mismatch};
 use std::rc::Rc;
 
 /// A node that has no type, or is not well formed, while all its own parts are in order: how many words of the term come before
-/// it, its kind, and why.
+/// it, its kind, the types of an ML node's parts, and why.
 #[derive(Clone, Debug, PartialEq, Eq)]
 pub struct Untyped {
     pub before: usize,
     pub kind: u32,
+    pub parts: Vec<Rc<Type>>,
     pub mismatch: Mismatch,
 }
 
@@ -55,7 +56,8 @@ impl Walk {
         };
         let before = self.words;
         let parts = self.parts(Node::Ml(term), own)?;
-        self.kept(before, Node::Ml(term), ml_rule(term, &parts, &self.lambdas))
+        let judged = ml_rule(term, &parts, &self.lambdas);
+        self.kept(before, Node::Ml(term), parts, judged)
     }
 
     /// Whether a Scheme term is well formed.
@@ -63,7 +65,7 @@ impl Walk {
         let own = matches!(**term, Scheme::Lambda(_)).then_some(None);
         let before = self.words;
         let parts = self.parts(Node::Scheme(term), own)?;
-        self.kept(before, Node::Scheme(term), scheme_rule(term, &parts))
+        self.kept(before, Node::Scheme(term), Vec::new(), scheme_rule(term, &parts))
     }
 
     /// The types of a node's parts, a Scheme term having none, if all of them are in order. Each is judged, whatever becomes of
@@ -96,7 +98,14 @@ impl Walk {
     }
 
     /// What a rule gives; a node to which it gives nothing is put with the others.
-    fn kept<T>(&mut self, before: usize, node: Node<'_>, judged: Result<T, Mismatch>) -> Option<T> {
-        judged.map_err(|mismatch| self.untyped.push(Untyped { before, kind: node.word() % 256, mismatch })).ok()
+    fn kept<T>(
+        &mut self,
+        before: usize,
+        node: Node<'_>,
+        parts: Vec<Rc<Type>>,
+        judged: Result<T, Mismatch>,
+    ) -> Option<T> {
+        let kind = node.word() % 256;
+        judged.map_err(|mismatch| self.untyped.push(Untyped { before, kind, parts, mismatch })).ok()
     }
 }

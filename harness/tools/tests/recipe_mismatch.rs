@@ -17,7 +17,7 @@ const NO_TYPE: &str = "refused 6: the term has no type";
 const OTHER_TYPE: &str = "refused 7: the term's type is not the declared one";
 
 /// Of a recipe of one line: the column and the word of the node, the term with it, and what is said of it.
-fn explained(text: &str, column: usize, word: usize, marked: &str, lines: [&str; 3]) {
+fn explained(text: &str, column: usize, word: usize, marked: &str, lines: &[&str]) {
     let due = format!(
         "  line 1, column {column} of the text, word {word} of the file\n  {marked}\n  {}\n",
         lines.join("\n  ")
@@ -27,19 +27,26 @@ fn explained(text: &str, column: usize, word: usize, marked: &str, lines: [&str;
 
 #[test]
 fn what_is_no_function() {
-    let lines = ["the first part of app is no function", "due:   a function, (t to u)", "found: N"];
-    explained("N (add 3 (app 1 2))", 10, 7, "(add 3 [[(app 1 2)]])", lines);
-    let lines = ["the first part of app is no function", "due:   a function, (t to u)", "found: {(N to L7)}"];
-    explained("N (app (nil (N to L7)) 2)", 3, 5, "[[(app (nil (N to L7)) 2)]]", lines);
+    let why = "the first part of app is no function";
+    let lines = [why, "due:   a function, (t to u)", "found: N", "parts: N, N"];
+    explained("N (add 3 (app 1 2))", 10, 7, "(add 3 [[(app 1 2)]])", &lines);
+    let lines = [why, "due:   a function, (t to u)", "found: {(N to L7)}", "parts: {(N to L7)}, N"];
+    explained("N (app (nil (N to L7)) 2)", 3, 5, "[[(app (nil (N to L7)) 2)]]", &lines);
     let lines = ["the part of fix is no function", "due:   a function, (t to t)", "found: L7"];
-    explained("L7 (fix (ms L7 nil))", 4, 5, "[[(fix (ms L7 nil))]]", lines);
+    explained("L7 (fix (ms L7 nil))", 4, 5, "[[(fix (ms L7 nil))]]", &lines);
 }
 
 #[test]
 fn an_argument_that_does_not_fit() {
     let why = "the second part of app is not of the type that the function takes";
     let marked = "(add 1 [[(app (fn N v0) (nil N))]])";
-    explained("N (add 1 (app (fn N v0) (nil N)))", 10, 7, marked, [why, "due:   N", "found: {N}"]);
+    explained(
+        "N (add 1 (app (fn N v0) (nil N)))",
+        10,
+        7,
+        marked,
+        &[why, "due:   N", "found: {N}", "parts: (N to N), {N}"],
+    );
     // Both begin with a function from N.
     let text = "N (app (fn (N to {N}) 1) (fn N v0))";
     explained(
@@ -47,48 +54,66 @@ fn an_argument_that_does_not_fit() {
         3,
         5,
         "[[(app (fn (N to {N}) 1) (fn N v0))]]",
-        [why, "due:   (N to [[{N}]])", "found: (N to [[N]])"],
+        &[why, "due:   (N to [[{N}]])", "found: (N to [[N]])", "parts: ((N to {N}) to N), (N to N)"],
     );
 }
 
 #[test]
 fn sides_of_a_fix_that_are_unequal() {
     let why = "the function of fix takes one type and gives another";
-    explained("N (fix (fn N (nil N)))", 3, 5, "[[(fix (fn N (nil N)))]]", [why, "takes: N", "gives: {N}"]);
+    explained("N (fix (fn N (nil N)))", 3, 5, "[[(fix (fn N (nil N)))]]", &[why, "takes: N", "gives: {N}"]);
     let marked = "[[(fix (fn {N} (nil L)))]]";
-    explained("{N} (fix (fn {N} (nil L)))", 5, 6, marked, [why, "takes: {[[N]]}", "gives: {[[L]]}"]);
+    explained("{N} (fix (fn {N} (nil L)))", 5, 6, marked, &[why, "takes: {[[N]]}", "gives: {[[L]]}"]);
 }
 
 #[test]
 fn parts_that_are_no_numbers() {
     for (name, text) in [("add", "N (add (nil N) 1)"), ("subtract", "N (subtract (nil N) 1)")] {
         let why = format!("the first part of {name} is no number");
-        explained(text, 3, 5, &format!("[[({name} (nil N) 1)]]"), [&why, "due:   N", "found: {N}"]);
+        explained(text, 3, 5, &format!("[[({name} (nil N) 1)]]"), &[&why, "due:   N", "found: {N}", "parts: {N}, N"]);
     }
     for (name, text) in [("add", "N (add 1 (fn N v0))"), ("subtract", "N (subtract 1 (fn N v0))")] {
         let why = format!("the second part of {name} is no number");
-        explained(text, 3, 5, &format!("[[({name} 1 (fn N v0))]]"), [&why, "due:   N", "found: (N to N)"]);
+        explained(
+            text,
+            3,
+            5,
+            &format!("[[({name} 1 (fn N v0))]]"),
+            &[&why, "due:   N", "found: (N to N)", "parts: N, (N to N)"],
+        );
     }
     let why = "the first part of if0 is no number";
-    explained("N (if0 (nil L9) 1 2)", 3, 5, "[[(if0 (nil L9) 1 2)]]", [why, "due:   N", "found: {L9}"]);
+    explained(
+        "N (if0 (nil L9) 1 2)",
+        3,
+        5,
+        "[[(if0 (nil L9) 1 2)]]",
+        &[why, "due:   N", "found: {L9}", "parts: {L9}, N, N"],
+    );
 }
 
 #[test]
 fn branches_of_two_types() {
     let why = "the second and the third part of if0 are of two types";
     let lines = [why, "second: {N}", "third:  N"];
-    explained("N (add 1 (if0 0 (nil N) 2))", 10, 7, "(add 1 [[(if0 0 (nil N) 2)]])", lines);
+    explained("N (add 1 (if0 0 (nil N) 2))", 10, 7, "(add 1 [[(if0 0 (nil N) 2)]])", &lines);
     let lines = [why, "second: (N to [[N]])", "third:  (N to [[L]])"];
     let marked = "[[(if0 0 (fn N 1) (fn N (ms L 1)))]]";
-    explained("(N to N) (if0 0 (fn N 1) (fn N (ms L 1)))", 10, 7, marked, lines);
+    explained("(N to N) (if0 0 (fn N 1) (fn N (ms L 1)))", 10, 7, marked, &lines);
 }
 
 #[test]
 fn a_tail_that_is_no_list_of_the_head() {
     let why = "the second part of cons is no list of what the first part is";
-    explained("{N} (cons 1 2)", 5, 6, "[[(cons 1 2)]]", [why, "due:   {N}", "found: N"]);
+    explained("{N} (cons 1 2)", 5, 6, "[[(cons 1 2)]]", &[why, "due:   {N}", "found: N", "parts: N, N"]);
     let marked = "(cons 1 [[(cons 2 (nil L))]])";
-    explained("{N} (cons 1 (cons 2 (nil L)))", 13, 8, marked, [why, "due:   {[[N]]}", "found: {[[L]]}"]);
+    explained(
+        "{N} (cons 1 (cons 2 (nil L)))",
+        13,
+        8,
+        marked,
+        &[why, "due:   {[[N]]}", "found: {[[L]]}", "parts: N, {L}"],
+    );
 }
 
 #[test]
@@ -96,7 +121,7 @@ fn parts_that_are_no_lists() {
     for name in ["hd", "tl", "null?"] {
         let (text, marked) = (format!("N (add 1 ({name} (fn N v0)))"), format!("(add 1 [[({name} (fn N v0))]])"));
         let why = format!("the part of {name} is no list");
-        explained(&text, 10, 7, &marked, [&why, "due:   a list, {t}", "found: (N to N)"]);
+        explained(&text, 10, 7, &marked, &[&why, "due:   a list, {t}", "found: (N to N)"]);
     }
 }
 
@@ -104,14 +129,14 @@ fn parts_that_are_no_lists() {
 fn an_sm_of_another_type() {
     let why = "the term of sm is not of the type that sm names";
     let marked = "(ms N (add 1 [[(sm {N} 2)]]))";
-    explained("N (ms N (add 1 (sm {N} 2)))", 16, 9, marked, [why, "due:   {N}", "found: N"]);
+    explained("N (ms N (add 1 (sm {N} 2)))", 16, 9, marked, &[why, "due:   {N}", "found: N"]);
 }
 
 #[test]
 fn the_node_is_named_whose_parts_are_in_order() {
     let lines = ["the part of hd is no list", "due:   a list, {t}", "found: N"];
-    explained("N (if0 (nil N) (hd 3) 1)", 16, 8, "(if0 (nil N) [[(hd 3)]] 1)", lines);
-    explained("N (add (hd 3) (tl 4))", 8, 6, "(add [[(hd 3)]] (tl 4))", lines);
+    explained("N (if0 (nil N) (hd 3) 1)", 16, 8, "(if0 (nil N) [[(hd 3)]] 1)", &lines);
+    explained("N (add (hd 3) (tl 4))", 8, 6, "(add [[(hd 3)]] (tl 4))", &lines);
 }
 
 #[test]
@@ -133,7 +158,8 @@ fn of_a_long_term_the_lines_around_the_node_are_shown() {
     let lines: Vec<&str> = told.lines().map(str::trim).collect();
     let at = lines.iter().position(|line| *line == "[[(add 70 (nil N))]]").expect("the node");
     assert_eq!((lines[1], lines[2], lines[at - 2], lines[at + 2]), ("..", "(add 66 1)", "(add 69 1)", "(add 71 1)"));
-    assert_eq!(lines[lines.len() - 4..], ["..", "the second part of add is no number", "due:   N", "found: {N}"]);
+    let why = "the second part of add is no number";
+    assert_eq!(lines[lines.len() - 5..], ["..", why, "due:   N", "found: {N}", "parts: N, {N}"]);
     assert!(lines.len() < 30, "{told}");
 }
 
@@ -199,9 +225,13 @@ fn a_type_longer_than_any_file_is_shown_in_part() {
     let (_, _, errors) = printed(&["check"], &file);
     let lines: Vec<&str> = errors.lines().collect();
     assert_eq!(lines[..2], [NO_TYPE, "  word 5 of the file"]);
-    let [due, found] = [lines[lines.len() - 2], lines[lines.len() - 1]];
-    assert_eq!((lines[lines.len() - 3], due), ("  the first part of add is no number", "  due:   N"));
+    let [why, due, found, parts] = lines[lines.len() - 4..] else { panic!("{errors}") };
+    assert_eq!((why, due), ("  the first part of add is no number", "  due:   N"));
     assert!(found.starts_with("  found: (((((((((((N to ") && found.ends_with(" ..") && found.len() <= 80, "{found}");
+    assert!(
+        parts.starts_with("  parts: (((((((((((N to ") && parts.ends_with(" .., N") && parts.len() <= 80,
+        "{parts}"
+    );
 }
 
 /// What is said where the engine's check gives this answer.

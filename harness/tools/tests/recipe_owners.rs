@@ -60,7 +60,8 @@ fn a_file_with_an_owner_over_255_is_explained_at_its_word() {
 #[test]
 fn a_mismatch_of_owners_is_explained_at_every_rule() {
     let alone = owners(7, 9, "", ": (ms L9 (sm L7 e))");
-    let argument = "the second part of app is not of the type that the function takes\ndue:   L9\nfound: L7";
+    let argument =
+        "the second part of app is not of the type that the function takes\ndue:   L9\nfound: L7\nparts: (L9 to N), L7";
     let branches = "the second and the third part of if0 are of two types\nsecond: L9\nthird:  L7";
     let sides = "the function of fix takes one type and gives another\ntakes: L9\ngives: L7";
     let term = "the term of sm is not of the type that sm names\ndue:   L9\nfound: L7";
@@ -75,7 +76,7 @@ fn a_mismatch_of_owners_is_explained_at_every_rule() {
     }
     // The tail of a cons is to be a list of what its head is.
     let list = owners(7, 9, ": {L7} for {L9}", ": (ms {L9} (sm {L7} e))");
-    let tail = "the second part of cons is no list of what the first part is\ndue:   {[[L9]]}\nfound: {[[L7]]}";
+    let tail = "the second part of cons is no list of what the first part is\ndue:   {[[L9]]}\nfound: {[[L7]]}\nparts: L9, {L7}";
     assert_eq!(said("{L9} (cons (ms L9 1) (nil L7))", 6), format!("[[(cons (ms L9 1) (nil L7))]]\n{tail}\n{list}"));
     assert_eq!(said("L9 (ms L7 3)", 7), format!("declared: [[L9]]\nfound:    [[L7]]\n{alone}"));
     assert_eq!(said("{L9} (nil L7)", 7), format!("declared: {{[[L9]]}}\nfound:    {{[[L7]]}}\n{list}"));

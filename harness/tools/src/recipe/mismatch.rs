@@ -19,7 +19,8 @@ pub fn no_type(recipe: &Recipe, place: usize) -> String {
             "  the engine is wrong: at word {place} is no node that has no type while all its parts are in order\n"
         );
     };
-    format!("  {}\n{}", reason(&node), types(&node)) + &node.mismatch.unequal().map_or(String::new(), owners)
+    format!("  {}\n{}{}", reason(&node), types(&node), parts(&node))
+        + &node.mismatch.unequal().map_or(String::new(), owners)
 }
 
 /// The declared type and the one that the term has, the first word in which they differ in double brackets, and the owners where they
@@ -73,6 +74,18 @@ fn types(node: &Untyped) -> String {
         Mismatch::Another { part: 2, due, found } => unlike(["second:", "third:"], &[due.clone(), found.clone()]),
         Mismatch::Another { due, found, .. } => unlike(["due:", "found:"], &[due.clone(), found.clone()]),
     }
+}
+
+/// The types of the parts in their order, where there are several and not all are told already; a long one is cut to its share of
+/// the line.
+fn parts(node: &Untyped) -> String {
+    let several = node.parts.len();
+    if several < 2 || matches!(node.mismatch, Mismatch::Another { part: 2, .. }) {
+        return String::new();
+    }
+    let share = (LETTERS - ", ".len() * (several - 1)) / several;
+    let types: Vec<String> = node.parts.iter().map(|t| cut(&flat(Node::Type(t)), 0, share)).collect();
+    format!("  parts: {}\n", types.join(", "))
 }
 
 /// Two types that were to be equal; where they begin alike, the first word in which they differ is marked.
