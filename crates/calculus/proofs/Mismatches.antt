@@ -1,21 +1,22 @@
 -- Refusal 6 carries the lowest faulty node, refusal 7 the first declared word that differs from the type found, and neither carries anything else.
 -- Assumes nothing.
 use Prim.Native.Nat.{ℕ, _+_, _≤_}
-use mathlib.Core.List.{List, []}
+use mathlib.Core.List.{List, [], _∷_}
 use mathlib.Core.Logic.{_↔_}
 use mathlib.Core.Path.{_≡_, sym, ap, _∙_, subst}
-use lib.ListN.{length}
+use lib.ListN.{length, getD, drop}
 use native.Mathlib.Omega.{arith}
 use Rattle.calculus.specs.Trees.{Ty, ml, Term}
-use Rattle.calculus.specs.Words.{sizeTy}
+use Rattle.calculus.specs.Words.{put, words, sizeTy}
 use Rattle.calculus.specs.Verdicts.{Verdict, refused}
-use Rattle.calculus.specs.File.{Recipe, typed, judged, check}
+use Rattle.calculus.specs.File.{wordsOf, typeCount, Recipe, typed, judged, check}
+use Rattle.calculus.specs.Faults.{Node, node, Among}
 use Rattle.calculus.specs.Accepted.{Spelt, Filed}
 use Rattle.calculus.specs.Mismatches.{FaultAt, MismatchAt, Points}
 use Rattle.calculus.proofs.Verdicts.{not-both, refused-injective}
 use Rattle.calculus.proofs.Comparison.{compares}
 use Rattle.calculus.proofs.Inference.{infer-iff}
-use Rattle.calculus.proofs.Faults.{fault-lowest, lowest-untyped}
+use Rattle.calculus.proofs.Faults.{fault-lowest, lowest-untyped, node-stands}
 use Rattle.calculus.proofs.Checks.{judged-typed, judged-as, filed-judged, checked-as}
 use Rattle.calculus.proofs.Checks.{no-type, other-type, Answer, untyped, as-declared, mistyped, answer}
 
@@ -78,9 +79,18 @@ module _ (P : Ty → Term ml → ℕ → ℕ → Type 0) (n : ℕ) (late : 6 ≤
     λ h. filed-judged bytes (h .2) .1 ∙ said _ (h .0) (h .1) r .1 (h .3),
   )
 
+-- A node's words stand at its place.
+stands : (bytes : List ℕ) (τ : Ty) (e : Term ml) → Filed bytes τ e → (z : Node) → Among z (node (4 + sizeTy τ) [] e ∷ [])
+    → (k : List ℕ) × (drop (z .place) (wordsOf bytes) ≡ put (z .tree) k)
+stands bytes τ e f z d =
+    let n : sizeTy τ ≡ typeCount (wordsOf bytes) = ap (λ (ws : List ℕ). getD ws 0 0) (sym (f .spelt)) in
+    let s : drop (4 + sizeTy τ) (wordsOf bytes) ≡ words e = ap (λ (i : ℕ). drop (4 + i) (wordsOf bytes)) n ∙ filed-judged bytes f .0 .terms-are in
+    node-stands (wordsOf bytes) [] (node (4 + sizeTy τ) [] e) z s d
+
 pub points : Points
 points =
     record {
+      stands = stands;
       six = of-files (λ τ e q r. FaultAt q e r) 6 (omega arith) (six-iff 4);
       seven = of-files (λ τ e q r. MismatchAt 4 τ e r) 7 (omega arith) (seven-iff 4);
       six-of-words = λ types terms. of-words (λ τ e q r. FaultAt q e r) 6 (omega arith) (six-iff 4) types terms (4 + length types);
