@@ -87,6 +87,9 @@ module _ (types terms : List ℕ) (start : ℕ) where
 
   -- And there are no other words than these, and those that 3 to 5 refuse.
   module _ (b : ℕ) (few-types : 4 + length types ≤ b) (few-terms : start + length terms ≤ b) where
+    out : (n p : ℕ) → judged types terms start ≡ refused n p → (3 ≤ n) × (n ≤ 5) × (p ≤ b) → Ways types terms start b
+    out n p q h = inr (record { number = n; place = p; is = q; least = h .0; most = h .1; near = h .2 })
+
     pub ways : Ways types terms start b
     ways = of-types (inOrder type types) refl (proper-order type types)
       where
@@ -94,14 +97,7 @@ module _ (types terms : List ℕ) (start : ℕ) where
             → Ways types terms start b
         of-scope t e (refused n p) q h =
             let i = proper-bounds h in
-            inr (record {
-              number = n;
-              place = start + p;
-              is = rw (ordered-passes type types t, ordered-passes (term ml) terms e, q);
-              least = i .0;
-              most = i .1;
-              near = omega (arith, i .2, few-terms);
-            })
+            out n (start + p) (rw (ordered-passes type types t, ordered-passes (term ml) terms e, q)) (i .0, i .1, omega (arith, i .2, few-terms))
         of-scope t e (passed n) q h =
             inl (t .tree, e .tree, spelt-by types terms t e n q)
 
@@ -109,27 +105,13 @@ module _ (types terms : List ℕ) (start : ℕ) where
             → Ways types terms start b
         of-terms t (refused n p) q h =
             let i = proper-bounds h in
-            inr (record {
-              number = n;
-              place = start + p;
-              is = rw (ordered-passes type types t, q);
-              least = i .0;
-              most = i .1;
-              near = omega (arith, i .2, few-terms);
-            })
+            out n (start + p) (rw (ordered-passes type types t, q)) (i .0, i .1, omega (arith, i .2, few-terms))
         of-terms t (passed n) q h = of-scope t (passes-ordered (term ml) terms n q) (walk scopeDue terms ([] ∷ [])) refl (proper-scope terms)
 
         of-types : (v : Verdict ℕ) → inOrder type types ≡ v → Proper 3 5 (length types) v → Ways types terms start b
         of-types (refused n p) q h =
             let i = proper-bounds h in
-            inr (record {
-              number = n;
-              place = 4 + p;
-              is = rw q;
-              least = i .0;
-              most = i .1;
-              near = omega (arith, i .2, few-types);
-            })
+            out n (4 + p) (rw q) (i .0, i .1, omega (arith, i .2, few-types))
         of-types (passed n) q h = of-terms (passes-ordered type types n q) (inOrder (term ml) terms) refl (proper-order (term ml) terms)
 
 -- What is judged, and is no refusal by 3 to 5, is the typing's answer for a type and a term in order.
