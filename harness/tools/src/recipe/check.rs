@@ -13,10 +13,10 @@ usage: recipe check [FILE]
 
 Says whether the engine accepts a recipe file or the file of a text. A refusal is explained on standard error in a
 sentence, and where it has a place, that is shown: in double brackets in the term, or in the list of words. Of a term that
-has no type, the node is shown that the engine names, the type that is due there and the one found; of one that has
-another type than the declared one, both, the first difference in double brackets. Long types and terms are cut, and ..
-stands for what is missing. Where two types differ in the owners of their lumps alone, the owners are told. Reads standard
-input where no FILE is named. Status 0: accepted; 1: refused.
+has no type, the node is shown that the engine names, the type that is due there and the one found, and the types of all
+its parts; of one that has another type than the declared one, both, the first difference in double brackets. Long types
+and terms are cut, and .. stands for what is missing. Where two types differ in the owners of their lumps alone, the
+owners are told. Reads standard input where no FILE is named. Status 0: accepted; 1: refused.
 ";
 
 /// The engine's answer in words.
