@@ -15,7 +15,7 @@ use Rattle.calculus.specs.File.{wordsOf}
 abbrev pub fileWords : Ty → Term ml → List ℕ
 fileWords τ e = sizeTy τ ∷ 4 ∷ size e ∷ (4 + sizeTy τ) ∷ putTy τ (words e)
 
--- A declared type and a term "in order and in scope": they keep the rules for words, and each variable has its lambda.
+-- A declared type and a term in order and in scope: they keep the rules for words, and each variable has its lambda.
 pub record InOrder (τ : Ty) (e : Term ml) : Type 0 where
   -- "Nesting is at most 256"
   pub nestsTy : nestingTy τ ≤ 256
