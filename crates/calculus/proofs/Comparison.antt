@@ -50,15 +50,12 @@ unfolding firstDifference
 no-difference [] [] q = refl
 no-difference [] (y ∷ ys) q = absurd (Option·none-ne-some 0 (sym q))
 no-difference (x ∷ xs) [] q = absurd (Option·none-ne-some 0 (sym q))
-no-difference (x ∷ xs) (y ∷ ys) q = by (eqb x y) refl (no-difference xs ys)
+no-difference (x ∷ xs) (y ∷ ys) q = by (eqb x y) refl (no-difference xs ys) q
   where
-    by : (b : Bool) → eqb x y ≡ b → (firstDifference xs ys ≡ none → xs ≡ ys) → x ∷ xs ≡ y ∷ ys
-    by true e h =
-        let n : furtherOn 1 (firstDifference xs ys) ≡ none = ap (λ (b : Bool). cond b (furtherOn 1 (firstDifference xs ys)) (some 0)) (sym e) ∙ q in
-        rw (eqb-true x y e, h (none-further 1 (firstDifference xs ys) n))
-    by false e h =
-        absurd (Option·none-ne-some 0
-        (sym (ap (λ (b : Bool). cond b (furtherOn 1 (firstDifference xs ys)) (some 0)) (sym e) ∙ q)))
+    by : (b : Bool) → eqb x y ≡ b → (firstDifference xs ys ≡ none → xs ≡ ys) → cond b (furtherOn 1 (firstDifference xs ys)) (some 0) ≡ none
+        → x ∷ xs ≡ y ∷ ys
+    by true e h r = rw (eqb-true x y e, h (none-further 1 (firstDifference xs ys) r))
+    by false e h r = absurd (Option·none-ne-some 0 (sym r))
 
 with-itself : (xs : List ℕ) → firstDifference xs xs ≡ none
 unfolding firstDifference

@@ -38,7 +38,7 @@ module _ (p q : ℕ) (τ : Ty) (e : Term ml) (r : ℕ) where
     λ z. by (answer p q τ e) z,
     λ m.
         let i = infer-iff [] e (m .found) .1 (m .typed) in
-        other-type p q τ e (m .found) (m .before) i (compares .differ τ (m .found) (m .before) .1 (m .differ)) ∙ ap (refused 7) (sym (m .place)),
+        other-type p q τ e (m .found) (m .agreeing) i (compares .differ τ (m .found) (m .agreeing) .1 (m .differ)) ∙ ap (refused 7) (sym (m .place)),
   )
     where
       by : {v : Verdict Recipe} → Answer p q τ e v → v ≡ refused 7 r → MismatchAt p τ e r
@@ -48,7 +48,7 @@ module _ (p q : ℕ) (τ : Ty) (e : Term ml) (r : ℕ) where
           record {
             found = t;
             typed = infer-iff [] e t .0 i;
-            before = d;
+            agreeing = d;
             place = sym (refused-injective z .1);
             differ = compares .differ τ t d .0 c;
           }

@@ -19,14 +19,14 @@ use Rattle.calculus.specs.Accepted.{Spelt, Filed}
 abbrev pub FaultAt : ℕ → Term ml → ℕ → Type 0
 FaultAt q e r = LowestFault (node q [] e) r
 
--- "Refusal 7 carries the first declared word that differs from the type found": r is its place, where the declared type τ stands at p. It lies within
--- both types.
+-- "Refusal 7 carries the first declared word that differs from the type found": r is its place, where the declared type τ stands at p. So many
+-- words agree before it, and it lies within both types.
 pub record MismatchAt (p : ℕ) (τ : Ty) (e : Term ml) (r : ℕ) : Type 0 where
   pub found : Ty
   pub typed : Typed [] e found
-  pub before : ℕ
-  pub place : r ≡ p + before
-  pub differ : DifferAt (wordsTy τ) (wordsTy found) before
+  pub agreeing : ℕ
+  pub place : r ≡ p + agreeing
+  pub differ : DifferAt (wordsTy τ) (wordsTy found) agreeing
 
 -- A file refused 6 at r: its words are a type and a term in order and in scope, and r is the place of the lowest faulty node.
 abbrev pub NoTypeAt : List ℕ → ℕ → Type 0
