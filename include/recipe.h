@@ -6,11 +6,21 @@
  * always come back. They keep nothing between calls, allocate nothing and call nothing of yours, so they may be used from
  * several threads at once.
  *
+ * Platform. The archive is compiled for x86-64 Linux with glibc, and for nothing else today: for another processor, system
+ * or C library it does not link. This header and the two beside it need C99 or C++11; they were tried with gcc and clang,
+ * -std=c99 -Wall -Wextra -pedantic -Werror, and as C++ with g++ (panel/test.sh does so anew).
+ *
  * Pointers. A pointer must not be null, also where its length is 0: hand over the address of any object then. The file, the
  * prices, the words to be saved and those asked about are only read. The two buffers of a run, the one of a card and the
  * one of a save are written; they must overlap neither each other nor what is read. What is only read may overlap.
  *
- * Stack. See RECIPE_STACK_BYTES, and recipe_node for its own.
+ * The proof of the engine assumes all this, and the engine does not look: with the same buffer for both of a run's it tells
+ * value, 1 word left, where the buffer holds nothing but 0. recipe_checked.h has each function once more with a look at its
+ * pointers, for debug builds.
+ *
+ * Words. See RECIPE_ML_NUMBER and the table there; recipe_value.h reads a number or a list of numbers out of a run's buffer.
+ *
+ * Stack. See RECIPE_STACK_FOR, and RECIPE_NODE_STACK_FOR for recipe_node.
  *
  * Places are counted in words of 4 bytes from 0, the file's first word being at place 0; recipe_node counts from the first
  * of the words that it is handed.
@@ -31,13 +41,128 @@
 extern "C" {
 #endif
 
-/* Stack that one call takes at most, of all but recipe_node, for files and buffers of up to 16,384 words.
- * Measured on x86-64 with the deepest terms: 1,280 KiB serve, 1,152 do not. `compare stack` in harness/ tries a figure. */
+/* Stack that one call takes at most, the caller's own not counted: a base, which is what the check of a file takes, and bytes
+ * for each word lent. Where the two buffers of a run differ, the shorter counts, and never more than 16,384 words.
+ *
+ *   recipe_run, recipe_price, recipe_card   RECIPE_STACK_FOR(words)
+ *   recipe_check, recipe_save               RECIPE_STACK_BASE
+ *   recipe_node                             RECIPE_NODE_STACK_FOR(words), words of the node that is asked about
+ *
+ * Nothing proves that a stack suffices: these are measured, on a thread of x86-64 Linux, with the deepest terms that so many
+ * words allow and the deepest files, and have at least a quarter to spare. In bytes:
+ *
+ *                         64 words   1,024 words   4,096 words   16,384 words
+ *   a run serves in        192,512       192,512       331,776      1,249,280
+ *   RECIPE_STACK_FOR       268,288       360,448       655,360      1,835,008
+ *   a node serves in        16,384       188,416       729,088      2,891,776
+ *   RECIPE_NODE_STACK_FOR   30,720       245,760       933,888      3,686,400
+ *
+ * A check or a save alone serves in 192,512 bytes. RECIPE_STACK_BYTES serves all but recipe_node, whatever is lent.
+ * `compare stack` in harness/ tries the figures of this header, and `compare stack --find` measures anew. */
+#define RECIPE_STACK_BASE 262144u
+#define RECIPE_STACK_PER_WORD 96u
+#define RECIPE_STACK_FOR(words) (RECIPE_STACK_BASE + RECIPE_STACK_PER_WORD * (words))
 #define RECIPE_STACK_BYTES (2u * 1024u * 1024u)
+#define RECIPE_NODE_STACK_BASE 16384u
+#define RECIPE_NODE_STACK_PER_WORD 224u
+#define RECIPE_NODE_STACK_FOR(words) (RECIPE_NODE_STACK_BASE + RECIPE_NODE_STACK_PER_WORD * (words))
 
 /* A file has 24 to 16,384 bytes. Of a run's buffer, words past the 16,384th are never used, but they are set to 0. */
 #define RECIPE_FILE_BYTES 16384u
 #define RECIPE_BUFFER_WORDS 16384u
+
+/* Words. A word has 32 bits: its kind + 256 * its operand, both 0 or more, the kind under 256. A node is its own word and then
+ * the words of its parts, one part after the other (prefix order); so a part stands whole before the next begins.
+ *
+ *   kind                      operand            parts
+ *    1  N, a number's type    0                  none
+ *    2  L, a lump's type      owner, 0 to 255    none
+ *    3  list, {t}             0                  a type
+ *    4  function, t to u      0                  a type, a type
+ *   16  ML variable           0 to 16,777,215    none
+ *   17  ML number             0 to 16,777,215    none
+ *   18  ML lambda             0                  a type, an ML term
+ *   19  ML application        0                  two ML terms
+ *   20  ML fix                0                  an ML term
+ *   21  ML add                0                  two ML terms
+ *   22  ML subtract           0                  two ML terms
+ *   23  ML if0                0                  three ML terms
+ *   24  ML nil                0                  a type, the items'
+ *   25  ML cons               0                  two ML terms: an item, and the list of the others
+ *   26  ML hd                 0                  an ML term
+ *   27  ML tl                 0                  an ML term
+ *   28  ML null?              0                  an ML term
+ *   29  ML wrong              code, 1 to 65,535  a type
+ *   30  ML ms                 0                  a type, a Scheme term
+ *   32  Scheme variable       0 to 16,777,215    none
+ *   33  Scheme number         0 to 16,777,215    none
+ *   34  Scheme lambda         0                  a Scheme term
+ *   35  Scheme application    0                  two Scheme terms
+ *   36  Scheme add            0                  two Scheme terms
+ *   37  Scheme subtract       0                  two Scheme terms
+ *   38  Scheme if0            0                  three Scheme terms
+ *   39  Scheme nil            0                  none
+ *   40  Scheme cons           0                  two Scheme terms
+ *   41  Scheme hd             0                  a Scheme term
+ *   42  Scheme tl             0                  a Scheme term
+ *   43  Scheme test           0 fun?, 1 list?,   a Scheme term
+ *                             2 null?, 3 num?
+ *   44  Scheme wrong          code, 1 to 65,535  none
+ *   45  Scheme sm             0                  a type, an ML term
+ *
+ * There are no other kinds. A variable's operand counts the lambdas, of both languages, between it and its own.
+ *
+ * A file is words of 4 bytes, the lowest byte first. Its first four words, the header, are plain numbers:
+ *
+ *   0  how many words the declared type has, at least 1
+ *   1  the place of the declared type, always 4
+ *   2  how many words the term has, at least 1
+ *   3  the place of the term: 4 + word 0
+ *
+ * The words of the declared type follow, then those of the term, an ML term, and with them the file ends. add 2 3, declared N:
+ * 1 4 3 5, 1, 21 529 785.
+ *
+ * After a run that ends as RECIPE_VALUE the value's words stand first in the first buffer, `left` of them, without a header,
+ * as uint32_t. The number n, of type N, is the one word 17 + 256 * n: 5 is 1297. A list of numbers, of type {N}, is 25 and the
+ * number's word for each item, in order, and then 24 1: the list of 7 and 0 is 25 1809 25 17 24 1, and the empty one 24 1.
+ * recipe_value.h reads both. A value of another type is drawn by recipe_node, as panel/outline.c does. */
+enum {
+    RECIPE_TYPE_N = 1,
+    RECIPE_TYPE_L = 2,
+    RECIPE_TYPE_LIST = 3,
+    RECIPE_TYPE_FUNCTION = 4,
+
+    RECIPE_ML_VARIABLE = 16,
+    RECIPE_ML_NUMBER = 17,
+    RECIPE_ML_LAMBDA = 18,
+    RECIPE_ML_APPLICATION = 19,
+    RECIPE_ML_FIX = 20,
+    RECIPE_ML_ADD = 21,
+    RECIPE_ML_SUBTRACT = 22,
+    RECIPE_ML_IF0 = 23,
+    RECIPE_ML_NIL = 24,
+    RECIPE_ML_CONS = 25,
+    RECIPE_ML_HD = 26,
+    RECIPE_ML_TL = 27,
+    RECIPE_ML_NULL = 28,
+    RECIPE_ML_WRONG = 29,
+    RECIPE_ML_MS = 30,
+
+    RECIPE_SCHEME_VARIABLE = 32,
+    RECIPE_SCHEME_NUMBER = 33,
+    RECIPE_SCHEME_LAMBDA = 34,
+    RECIPE_SCHEME_APPLICATION = 35,
+    RECIPE_SCHEME_ADD = 36,
+    RECIPE_SCHEME_SUBTRACT = 37,
+    RECIPE_SCHEME_IF0 = 38,
+    RECIPE_SCHEME_NIL = 39,
+    RECIPE_SCHEME_CONS = 40,
+    RECIPE_SCHEME_HD = 41,
+    RECIPE_SCHEME_TL = 42,
+    RECIPE_SCHEME_TEST = 43,
+    RECIPE_SCHEME_WRONG = 44,
+    RECIPE_SCHEME_SM = 45
+};
 
 /* Why a call is refused. In brackets: what the place points at; it is 0 where nothing is said.
  *
@@ -220,8 +345,8 @@ RecipeSaved recipe_save(const uint32_t *type, size_t type_len, const uint32_t *t
  * its first part at p + 1, each next part where the one before ends, and the last ends at p + n; with n = 1 it has no parts.
  * panel/outline.c draws one so.
  *
- * No memory is written. The stack is up to 176 bytes for each word of the node that is asked about, whole or not: 16,384
- * words, nested as deep as they can be, need 2.9 MB. A word without parts (N, an L with an owner, a variable or a number of
+ * No memory is written. The stack goes by the words of the node that is asked about, whole or not, up to 176 bytes for each:
+ * see RECIPE_NODE_STACK_FOR. A word without parts (N, an L with an owner, a variable or a number of
  * either language, the Scheme nil, a Scheme wrong) needs next to none, whatever stands behind it, and takes a few
  * nanoseconds. */
 size_t recipe_node(const uint32_t *words, size_t words_len, size_t at);

@@ -43,6 +43,6 @@ int main(int count, char **names)
                         "PRICES has nine rows of three prices: cents for 1,000 pulses. BYTES are lent for the card.\n");
         return 2;
     }
-    return print(recipe_card(&prices, file, length, STEPS, first, WORDS, second, WORDS, card,
-                             lent(count == 4 ? names[3] : NULL)));
+    return print(recipe_card_checked(&prices, file, length, STEPS, first, WORDS, second, WORDS, card,
+                                     lent(count == 4 ? names[3] : NULL)));
 }

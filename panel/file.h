@@ -2,7 +2,7 @@
 #ifndef PANEL_FILE_H
 #define PANEL_FILE_H
 
-#include "recipe.h"
+#include "recipe_checked.h"
 
 #include <errno.h>
 #include <stdio.h>

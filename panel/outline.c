@@ -13,22 +13,22 @@
 
 enum { DRAWN = 0, FAULTY = 1, UNREAD = 2 };
 
-/* Words before the declared type's; the kind of a lump, whose operand is its owner. */
-enum { HEADER = 4, LUMP = 2 };
+/* Words before the declared type's. */
+enum { HEADER = 4 };
 
 static uint32_t words[RECIPE_FILE_BYTES / 4];
 
 /* Where the nodes around a place end, the outermost first. */
 static size_t ends[RECIPE_FILE_BYTES / 4];
 
-/* The kinds by their numbers; the four tests share kind 43. */
+/* The kinds by their numbers; the four tests share one. */
 static const char *const names[] = {
-    [1] = "N", "L", "list", "function",
-    [16] = "ML variable", "ML number", "ML lambda", "ML application", "ML fix", "ML add", "ML subtract", "ML if0", "ML nil",
+    [RECIPE_TYPE_N] = "N", "L", "list", "function",
+    [RECIPE_ML_VARIABLE] = "ML variable", "ML number", "ML lambda", "ML application", "ML fix", "ML add", "ML subtract", "ML if0", "ML nil",
     "ML cons", "ML hd", "ML tl", "ML null?", "ML wrong", "ML ms",
-    [32] = "Scheme variable", "Scheme number", "Scheme lambda", "Scheme application", "Scheme add", "Scheme subtract",
+    [RECIPE_SCHEME_VARIABLE] = "Scheme variable", "Scheme number", "Scheme lambda", "Scheme application", "Scheme add", "Scheme subtract",
     "Scheme if0", "Scheme nil", "Scheme cons", "Scheme hd", "Scheme tl",
-    [44] = "Scheme wrong", "Scheme sm",
+    [RECIPE_SCHEME_WRONG] = "Scheme wrong", "Scheme sm",
 };
 static const char *const tests[] = {"Scheme fun?", "Scheme list?", "Scheme null?", "Scheme num?"};
 
@@ -36,7 +36,7 @@ static const char *const tests[] = {"Scheme fun?", "Scheme list?", "Scheme null?
 static const char *name_of(uint32_t node)
 {
     uint32_t kind = node % 256, operand = node / 256;
-    if (kind == 43 && operand < sizeof tests / sizeof *tests)
+    if (kind == RECIPE_SCHEME_TEST && operand < sizeof tests / sizeof *tests)
         return tests[operand];
     if (kind < sizeof names / sizeof *names && names[kind] != NULL)
         return names[kind];
@@ -46,7 +46,8 @@ static const char *name_of(uint32_t node)
 /* Whether a kind has an operand that is shown: variables, numbers and wrongs. */
 static int has_operand(uint32_t kind)
 {
-    return kind == 16 || kind == 17 || kind == 29 || kind == 32 || kind == 33 || kind == 44;
+    return kind == RECIPE_ML_VARIABLE || kind == RECIPE_ML_NUMBER || kind == RECIPE_ML_WRONG ||
+           kind == RECIPE_SCHEME_VARIABLE || kind == RECIPE_SCHEME_NUMBER || kind == RECIPE_SCHEME_WRONG;
 }
 
 /* The name of a node and its operand, as in `ML number 7`; of a lump its owner, if that is not 0, as in `L7`. */
@@ -56,7 +57,7 @@ static void draw_name(uint32_t node)
     fputs(name_of(node), stdout);
     if (has_operand(kind))
         printf(" %" PRIu32, operand);
-    if (kind == LUMP && operand > 0)
+    if (kind == RECIPE_TYPE_L && operand > 0)
         printf("%" PRIu32, operand);
     putchar('\n');
 }
@@ -82,7 +83,7 @@ static int draw(size_t from, size_t to)
     for (size_t place = from; place < to; place++) {
         while (depth > 0 && ends[depth - 1] <= place)
             depth--;
-        size_t size = recipe_node(words, to, place);
+        size_t size = recipe_node_checked(words, to, place);
         draw_node(place, depth, size);
         if (size == 0 || (depth == 0 && place > from))
             status = FAULTY;
@@ -95,7 +96,7 @@ static int draw(size_t from, size_t to)
 /* Draws a file, unless its words cannot be found. */
 static int draw_file(const char *name, size_t length)
 {
-    uint64_t number = recipe_check(file, length) % 256;
+    uint64_t number = recipe_check_checked(file, length) % 256;
     if (number == RECIPE_SIZE) {
         fprintf(stderr, "outline: %s has no outline, because its size is wrong: a recipe has 24 to 16,384 bytes, a multiple "
                         "of 4. Look whether the file was sent whole.\n", name);

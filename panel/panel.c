@@ -55,7 +55,7 @@ static int check_file(const char *name)
         fprintf(stderr, "panel: cannot read %s: %s\n", name, strerror(errno));
         return UNREAD;
     }
-    uint64_t answer = recipe_check(file, length);
+    uint64_t answer = recipe_check_checked(file, length);
     if (answer == 0) {
         printf("%s: accepted\n", name);
         return ACCEPTED;

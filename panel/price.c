@@ -21,7 +21,7 @@ int main(int count, char **names)
     size_t length = fread(file, 1, sizeof file, stream);
     fclose(stream);
 
-    RecipePriced priced = recipe_price(&prices, file, length, STEPS, first, WORDS, second, WORDS);
+    RecipePriced priced = recipe_price_checked(&prices, file, length, STEPS, first, WORDS, second, WORDS);
     if (priced.run.refusal != 0) {
         printf("refused %" PRIu32 ", place %" PRIu32 "\n", priced.run.refusal, priced.run.place);
         return 1;

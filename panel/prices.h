@@ -2,7 +2,7 @@
 #ifndef PANEL_PRICES_H
 #define PANEL_PRICES_H
 
-#include "recipe.h"
+#include "recipe_checked.h"
 
 #include <ctype.h>
 #include <inttypes.h>

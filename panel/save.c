@@ -26,7 +26,7 @@ static int save(const char *name, uint32_t left)
     uint32_t types = word(0);
     for (uint32_t i = 0; i < types; i++)
         type[i] = word(4 + i);
-    RecipeSaved answer = recipe_save(type, types, first, left, saved, sizeof saved);
+    RecipeSaved answer = recipe_save_checked(type, types, first, left, saved, sizeof saved);
     if (answer.refusal != 0) {
         printf("refused %" PRIu32 ", place %" PRIu32 "\n", answer.refusal, answer.place);
         return 1;
@@ -51,7 +51,7 @@ int main(int count, char **names)
     fclose(stream);
 
     uint32_t limit = (uint32_t)strtoul(names[2], NULL, 10);
-    RecipeRun run = recipe_run(file, length, limit, first, WORDS, second, WORDS);
+    RecipeRun run = recipe_run_checked(file, length, limit, first, WORDS, second, WORDS);
     if (run.refusal != 0) {
         printf("refused %" PRIu32 " at word %" PRIu32 "\n", run.refusal, run.place);
         return 1;

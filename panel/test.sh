@@ -1,7 +1,7 @@
 #!/bin/sh
 # Builds the panel's program and compares what it prints with outputs written by hand from documents 01 and 02.
-# With the argument `run` the panel's outline and the examples that run a recipe, price a can, print its card and save a run
-# are tried too. The archive must have been built before.
+# With the argument `run` the panel's outline and the examples that run a recipe, price a can, print its card, save a run and
+# read a value are tried too, and buffers that a caller must not lend. The archive must have been built before.
 set -eu
 cd "$(dirname "$0")/.."
 archive=target/staticlib/libexports.a
@@ -35,7 +35,8 @@ same() {
     name=$1 status=$2 expected=$3
     shift 3
     got=0
-    printed=$("$@" 2>&1) || got=$?
+    # The shell itself says so where a signal ends a command.
+    { printed=$("$@" 2>&1) || got=$?; } 2>/dev/null
     if [ "$printed" != "$expected" ] || [ "$got" -ne "$status" ]; then
         printf 'FAILED %s: status %s, not %s\n  due:     %s\n  printed: %s\n' "$name" "$got" "$status" "$expected" "$printed"
         failed=1
@@ -165,14 +166,70 @@ same folder 2 "panel: cannot read .: Is a directory" ./panel .
 same usage 2 "usage: panel FILE...
 Checks recipe files. Words are counted from 0, each of 4 bytes." ./panel
 
+# The headers in older C, and in C++, by each compiler that is here.
+printf '#include "recipe_checked.h"\n#include "recipe_value.h"\n' >headers
+strict="-Wall -Wextra -pedantic -Werror -fsyntax-only -I../../include"
+for compiler in "${CC:-cc}" gcc clang; do
+    if command -v "$compiler" >/dev/null; then
+        same "headers-c99-$compiler" 0 "" "$compiler" -std=c99 $strict -x c headers
+        same "headers-released-$compiler" 0 "" "$compiler" -std=c99 -DNDEBUG $strict -x c headers
+    fi
+done
+for compiler in c++ g++ clang++; do
+    if command -v "$compiler" >/dev/null; then
+        same "headers-$compiler" 0 "" "$compiler" -std=c++11 $strict -x c++ headers
+    fi
+done
+
+# What words are: no archive is needed to read them.
+(cd ../.. && ${CC:-cc} $flags -o "$out/value" panel/value.c)
+other="something else"
+same value-0 0 "the number 0" ./value 17
+same value-7 0 "the number 7" ./value 1809
+same value-most 0 "the number 16777215" ./value 4294967057
+same value-none 0 "a list of 0 numbers:" ./value 24 1
+same value-one 0 "a list of 1 numbers: 7" ./value 25 1809 24 1
+same value-nine 0 "a list of 9 numbers: 0 1 2 3 4 5 6 7 16777215" ./value 25 17 25 273 25 529 25 785 25 1041 25 1297 25 1553 \
+    25 1809 25 4294967057 24 1
+same value-ten 0 "a list of 10 numbers: 0 1 2 3 4 5 6 7 8 .." ./value 25 17 25 273 25 529 25 785 25 1041 25 1297 25 1553 \
+    25 1809 25 2065 25 2321 24 1
+same value-no-words 1 "$other" ./value
+same value-function 1 "$other" ./value 18 1 16
+same value-lists 1 "$other" ./value 25 24 1 24 3 1
+same value-lumps 1 "$other" ./value 24 2
+same value-empty-lists 1 "$other" ./value 24 3 1
+same value-type 1 "$other" ./value 1
+same value-scheme 1 "$other" ./value 33
+same value-scheme-list 1 "$other" ./value 40 33 39
+# Cut off behind each word; a word too many; and items or an end that are none.
+same value-cut-1 1 "$other" ./value 25 1809 24
+same value-cut-2 1 "$other" ./value 25 1809
+same value-cut-3 1 "$other" ./value 25
+same value-more 1 "$other" ./value 17 17
+same value-more-list 1 "$other" ./value 25 1809 24 1 24 1
+same value-zeros 1 "$other" ./value 25 1809 24 1 0 0
+same value-item 1 "$other" ./value 25 1825 24 1
+same value-sum 1 "$other" ./value 25 21 17 17 24 1
+same value-cons 1 "$other" ./value 281 1809 24 1
+same value-end 1 "$other" ./value 25 1809 280 1
+same value-end-type 1 "$other" ./value 25 1809 24 257
+same value-usage 2 "usage: value WORD...
+At most 64 words, each 0 to 4294967295." ./value 4294967296
+
 if [ "${1:-}" = run ]; then
     (cd ../.. && ${CC:-cc} $flags -o "$out/run" panel/run.c "$archive")
     same run-add 0 "value, code 0, 1 steps, 1 words left, 0 wanted
 0 calls, 0 conversions, 1 others
-1297" ./run add
+the number 5" ./run add
     same run-wrapped 0 "value, code 0, 5 steps, 1 words left, 0 wanted
 2 calls, 3 conversions, 0 others
-1809" ./run wrapped
+the number 7" ./run wrapped
+    same run-nine 0 "value, code 0, 0 steps, 20 words left, 0 wanted
+0 calls, 0 conversions, 0 others
+a list of 9 numbers: 9999 10000 99999 100000 0 1 999 1000 16777215" ./run nine-items
+    same run-no-items 0 "value, code 0, 0 steps, 2 words left, 0 wanted
+0 calls, 0 conversions, 0 others
+a list of 0 numbers" ./run no-items
     same run-hd-nil 0 "error, code 4, 2 steps, 0 words left, 0 wanted
 0 calls, 0 conversions, 2 others" ./run hd-nil
     same run-if0-nil 0 "error, code 1, 2 steps, 0 words left, 0 wanted
@@ -184,7 +241,7 @@ if [ "${1:-}" = run ]; then
 30 1794 34 32" ./run owner
     same run-owner-resealed 0 "value, code 0, 4 steps, 1 words left, 0 wanted
 1 calls, 3 conversions, 0 others
-1041" ./run owner-resealed
+the number 4" ./run owner-resealed
     same run-owner-over 1 "refused 3 at word 4" ./run owner-over
     same run-owner-handed 1 "refused 6 at word 9" ./run owner-handed
     same run-no-type-inside 1 "refused 6 at word 8" ./run no-type-inside
@@ -267,7 +324,7 @@ saved in lunch, 44 bytes" ./save wrapped 3 lunch
     # With the three steps above: 5 steps, 2 calls and 3 conversions, as of wrapped in one run.
     same save-goes-on 0 "value, code 0, 2 steps, 1 words left, 0 wanted
 1 calls, 1 conversions, 0 others
-1809" ./run lunch
+the number 7" ./run lunch
     # Owners are saved with their lumps.
     same save-owner 0 "spent, code 0, 1 steps, 11 words left, 0 wanted
 0 calls, 1 conversions, 0 others
@@ -467,6 +524,36 @@ Draws the nodes of a recipe file, one to a line: the place of its word, counted 
 Whether the file is accepted is not told: panel checks it."
     same outline-usage 2 "$usage" ./outline
     same outline-two 2 "$usage" ./outline add add
+
+    # What a caller must not lend is found in a debug build, which ends by abort(): status 128 + 6.
+    (cd ../.. && ${CC:-cc} $flags -o "$out/lent" panel/lent.c "$archive")
+    (cd ../.. && ${CC:-cc} $flags -DNDEBUG -o "$out/lent-released" panel/lent.c "$archive")
+    sum="refusal 0, end 0, 2 steps, 1 words left, first 2321"
+    wrong="overlap: the answer would be wrong"
+    null="is null, which no pointer may be, also where its length is 0"
+    for program in lent lent-released; do
+        same "$program-apart" 0 "$sum" "./$program" apart
+        same "$program-beside" 0 "$sum" "./$program" beside
+        same "$program-same-empty" 0 "refusal 8, end 0, 0 steps, 0 words left, first 0" "./$program" same-empty
+        same "$program-card-apart" 0 "refusal 0, end 0, 1 steps, 4 words left, first 25" "./$program" card-apart
+        same "$program-save-apart" 0 "refusal 0, 40 bytes" "./$program" save-apart
+    done
+    same lent-same 134 "recipe_run: first and second $wrong" ./lent same
+    same lent-partly 134 "recipe_run: first and second $wrong" ./lent partly
+    same lent-partly-before 134 "recipe_run: first and second $wrong" ./lent partly-before
+    same lent-file 134 "recipe_run: file and second $wrong" ./lent file
+    same lent-null 134 "recipe_run: second $null" ./lent null
+    same lent-odd 134 "recipe_run: second does not stand where words may: its address is no multiple of 4" ./lent odd
+    same lent-endless 134 "recipe_run: first reaches past the end of all addresses: its length is not true" ./lent endless
+    same lent-card-first 134 "recipe_card: first and card $wrong" ./lent card-first
+    same lent-card-prices 134 "recipe_card: prices and card $wrong" ./lent card-prices
+    same lent-price-prices 134 "recipe_price: prices and first $wrong" ./lent price-prices
+    same lent-price-null 134 "recipe_price: prices $null" ./lent price-null
+    same lent-save-term 134 "recipe_save: term and out $wrong" ./lent save-term
+    same lent-check-null 134 "recipe_check: file $null" ./lent check-null
+    same lent-node-null 134 "recipe_node: words $null" ./lent node-null
+    # Released, nothing is looked at: the same buffer twice comes back as a value of one word, which is 0 and not the sum.
+    same lent-released-same 0 "refusal 0, end 0, 2 steps, 1 words left, first 0" ./lent-released same
 fi
 
 [ "$failed" -eq 0 ] && echo "panel: all as written"

@@ -3,13 +3,15 @@
 #![forbid(unsafe_code)]
 
 use model::on_large_stack;
+use model::run::MOST_WORDS;
 use std::path::Path;
 use std::process::ExitCode;
 use tools::args::Args;
+use tools::compare::figures::{figures, find_all, try_all, try_figure, HEADER};
 use tools::compare::{
-    compare_card, compare_carded_stack, compare_check, compare_list, compare_node, compare_price, compare_priced_stack,
-    compare_run, compare_save, compare_saved_stack, compare_stack, missing, table, CardingEngine, Counts, NodeReaders,
-    Plan, SavingEngine,
+    compare_asked_stack, compare_card, compare_carded_stack, compare_check, compare_checked_stack, compare_list,
+    compare_node, compare_price, compare_priced_stack, compare_run, compare_save, compare_saved_stack, compare_stack,
+    missing, table, CardingEngine, Counts, NodeReaders, Plan, Room, SavingEngine, FEWEST_WORDS,
 };
 use tools::engine::{
     linked_card, linked_check, linked_node, linked_node_walked, linked_price, linked_run, linked_save,
@@ -26,7 +28,8 @@ usage: compare check [--files N] [--seed S] [--start I] [--all-reached]
        compare save  [--files N] [--seed S] [--start I] [--all-reached]
        compare node  [--files N] [--seed S] [--start I] [--all-reached]
        compare list  [--files N] [--seed S] [--start I] [--all-reached]
-       compare stack [--kib K]
+       compare stack [--find]
+       compare stack --kib K [--of NAME] [--words W]
 
 check        every term of up to 3 words, files at the edges, owners in range and over it wherever a type may stand, every two
              owners that are compared, every way to have no type at many depths and beside others, types that differ in any
@@ -52,8 +55,10 @@ node         every kind with telling operands and parts, every 3 words of an alp
              recipe_node, and by the same without the short way for words without parts
 list         files at the edges, two long recipes, and those of N random files (3000) that end soon: every byte that the
              listing program, target/bin/listing, prints of each
-stack        the deepest runs of 16,384 words, and the deepest files, run, priced with a card and without, and saved on a stack
-             of K KiB (2048)
+stack        the deepest runs in 64, 1,024, 4,096 and 16,384 words, priced with a card and without, the deepest files, checked
+             and saved, and the deepest nodes, each on the stack that include/recipe.h says; each try is a process of its
+             own. With --find: the smallest stack that serves each, in whole pages. With --kib (or --bytes): one try of run
+             (the default), check, save or node, with W words (16384), which a signal ends where the stack is too small
 --seed S     random files depend on the seed (1) and their index alone
 --start I    begin with random file I; the files that are the same every time are left out unless I is 0
 --all-reached  fail if a rule, an end, a class of steps before an end (call, conversion, other) or a refusal was never
@@ -175,22 +180,46 @@ fn list(args: Args) -> Result<(), Fault> {
     finish(counts.of_listings(), all_reached)
 }
 
+/// Tries each stack that the header says, or finds what serves, in processes of their own; or one stack in this process.
 fn stack(mut args: Args) -> Result<(), Fault> {
-    let kib = args.number("--kib", 2_048).map_err(Fault::Usage)?;
+    let find = args.flag("--find");
+    let of = args.named("--of", "run, check, save or node").map_err(Fault::Usage)?;
+    let words = args.number("--words", MOST_WORDS as u64).map_err(Fault::Usage)? as usize;
+    let kib = args.number("--kib", 0).map_err(Fault::Usage)?;
+    let bytes = args.number("--bytes", 1_024 * kib).map_err(Fault::Usage)? as usize;
     args.finish().map_err(Fault::Usage)?;
-    let linked = linked_run().zip(linked_price()).zip(linked_card()).zip(linked_save());
-    let (((run, price), card), save) = linked.ok_or(without("run"))?;
-    let bytes = kib as usize * 1024;
-    let told = [
-        compare_stack(run, bytes),
-        compare_priced_stack(price, bytes),
-        compare_carded_stack(card, bytes),
-        compare_saved_stack(save, bytes),
-    ];
+    if !(FEWEST_WORDS..=MOST_WORDS).contains(&words) {
+        return Err(Fault::Usage(format!("--words needs a number from {FEWEST_WORDS} to {MOST_WORDS}, not {words}")));
+    }
+    if bytes > 0 {
+        return try_stack(of.as_deref().unwrap_or("run"), Room { words, bytes });
+    }
+    let figures = figures(HEADER).map_err(Fault::Usage)?;
+    let program =
+        std::env::current_exe().map_err(|fault| Fault::Usage(format!("this program is not found: {fault}")))?;
+    let all = if find { find_all } else { try_all };
+    let told = all(&|figure| try_figure(&program, figure), &figures).map_err(difference)?;
+    told.into_iter().for_each(say);
+    Ok(())
+}
+
+/// Tries one operation on one stack, which ends this process by a signal if it is too small.
+fn try_stack(of: &str, room: Room) -> Result<(), Fault> {
+    let told = match of {
+        "run" => {
+            let linked = linked_run().zip(linked_price()).zip(linked_card());
+            let ((run, price), card) = linked.ok_or(without("run"))?;
+            vec![compare_stack(run, room), compare_priced_stack(price, room), compare_carded_stack(card, room)]
+        }
+        "check" => vec![compare_checked_stack(linked_check().ok_or(without("check"))?, room.bytes)],
+        "save" => vec![compare_saved_stack(linked_save().ok_or(without("run"))?, room.bytes)],
+        "node" => vec![compare_asked_stack(linked_node().ok_or(without("run"))?, room)],
+        _ => return Err(Fault::Usage(format!("--of needs run, check, save or node, not {of}"))),
+    };
     for lines in told {
         lines.map_err(difference)?.into_iter().for_each(say);
     }
-    say(format!("a stack of {kib} KiB serves"));
+    say(format!("a stack of {} bytes serves", room.bytes));
     Ok(())
 }
 

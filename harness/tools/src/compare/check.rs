@@ -16,9 +16,9 @@ pub fn compare_check(engine: Check, plan: Plan) -> Result<Counts, String> {
         fixed(engine, &mut counts)?;
     }
     plan.each_file(|index| {
-        compare(engine, &random_file(plan.seed, index), &mut counts)?;
+        compare_file(engine, &random_file(plan.seed, index), &mut counts)?;
         match index.is_multiple_of(MISMATCHED_EVERY) {
-            true => compare(engine, &mismatched_file(&mut Random::new(plan.seed, index)), &mut counts),
+            true => compare_file(engine, &mismatched_file(&mut Random::new(plan.seed, index)), &mut counts),
             false => Ok(()),
         }
     })?;
@@ -42,7 +42,7 @@ fn fixed(engine: Check, counts: &mut Counts) -> Result<(), String> {
     let mut outcome = Ok(());
     let mut each = |file: Vec<u8>| {
         if outcome.is_ok() {
-            outcome = compare(engine, &file, counts);
+            outcome = compare_file(engine, &file, counts);
         }
     };
     every_small_term(&mut each);
@@ -52,7 +52,8 @@ fn fixed(engine: Check, counts: &mut Counts) -> Result<(), String> {
     outcome
 }
 
-fn compare(engine: Check, file: &[u8], counts: &mut Counts) -> Result<(), String> {
+/// The engine's check of one file beside the model's. A difference comes back shrunk and shown.
+pub fn compare_file(engine: Check, file: &[u8], counts: &mut Counts) -> Result<(), String> {
     let checked = check(file);
     counts.files += 1;
     match &checked {

@@ -7,9 +7,11 @@ mod check;
 mod counts;
 mod deepest;
 mod faults;
+pub mod figures;
 pub mod lent;
 mod list;
 pub mod mismatches;
+mod nested;
 pub mod node;
 mod ownerless;
 pub mod owners;
@@ -26,16 +28,20 @@ use crate::progress::Progress;
 
 pub use card::{compare_card, CardCounts, CardingEngine};
 pub use case::Case;
-pub use check::compare_check;
+pub use check::{compare_check, compare_file};
 pub use counts::{missing, table, Counts};
+pub use deepest::FEWEST_WORDS;
 pub use list::{compare_list, listed};
 pub use node::{compare_node, NodeCounts, NodeReaders};
 pub use ownerless::compare_ownerless;
 pub use price::{compare_price, PriceCounts};
 pub use report::show_file;
-pub use run::compare_run;
+pub use run::{compare_once, compare_run};
 pub use save::{compare_save, SaveCounts, SavingEngine};
-pub use stack::{compare_carded_stack, compare_priced_stack, compare_saved_stack, compare_stack};
+pub use stack::{
+    compare_asked_stack, compare_carded_stack, compare_checked_stack, compare_priced_stack, compare_saved_stack,
+    compare_stack, Room,
+};
 
 /// How many random files, which ones, and whether everything must have been reached.
 #[derive(Clone, Copy)]

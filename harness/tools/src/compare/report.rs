@@ -3,7 +3,7 @@
 use model::check::{read_recipe, read_words};
 use model::file::words_of;
 use model::node::Node;
-use model::text::{describe, flat, pretty};
+use model::text::{describe, flat, pretty, Style};
 use std::fmt::Write;
 
 /// Items, or rows of the same item, that are listed.
@@ -19,7 +19,11 @@ pub fn show_file(bytes: &[u8]) -> String {
     match read_recipe(bytes, usize::MAX) {
         Ok(recipe) => {
             let _ = writeln!(text, "declared: {}", flat(Node::Type(&recipe.declared)));
-            let _ = writeln!(text, "term:     {}", pretty(Node::Ml(&recipe.term), None).replace('\n', "\n          "));
+            let _ = writeln!(
+                text,
+                "term:     {}",
+                pretty(Node::Ml(&recipe.term), &Style::PLAIN).replace('\n', "\n          ")
+            );
         }
         Err(refusal) => {
             let word = words.get(refusal.place as usize).filter(|_| refusal.number == 3);
@@ -35,7 +39,8 @@ pub fn show_words(declared: &[u32], term: &[u32]) -> String {
     let mut text = format!("type:     {}\nterm:     {}\n", list(declared), list(term));
     if let Ok(recipe) = read_words(declared, term, usize::MAX) {
         let _ = writeln!(text, "declared: {}", flat(Node::Type(&recipe.declared)));
-        let _ = writeln!(text, "says:     {}", pretty(Node::Ml(&recipe.term), None).replace('\n', "\n          "));
+        let _ =
+            writeln!(text, "says:     {}", pretty(Node::Ml(&recipe.term), &Style::PLAIN).replace('\n', "\n          "));
     }
     text
 }

@@ -47,15 +47,15 @@ fn random_file(engine: Run, seed: u64, index: u64, counts: &mut Counts) -> Resul
     }
     laws(&case.file, &ran, counts)?;
     counts.files += 1;
-    compare(engine, &Case::new(mismatched_file(&mut random), 3, 9, 8), counts).map(drop)
+    compare_once(engine, &Case::new(mismatched_file(&mut random), 3, 9, 8), counts).map(drop)
 }
 
 /// A run, and if it ends as a value or an error a second that is lent at least as much and must end the same. Answers
 /// with the first.
 pub fn compare_twice(engine: Run, case: &Case, larger: &Case, counts: &mut Counts) -> Result<model::Run, String> {
-    let first = compare(engine, case, counts)?;
+    let first = compare_once(engine, case, counts)?;
     if first.result.is_ok_and(|ended| matches!(ended.end, End::Value | End::Error)) {
-        let second = compare(engine, larger, counts)?;
+        let second = compare_once(engine, larger, counts)?;
         if !ends_alike(&first, &second) {
             return Err(format!("two runs end apart\n{}{}", case.show(), larger.show()));
         }
@@ -88,17 +88,17 @@ fn fixed(engine: Run, counts: &mut Counts) -> Result<(), String> {
     }
     for file in edges() {
         counts.files += 1;
-        compare(engine, &Case::new(file, 3, 9, 8), counts)?;
+        compare_once(engine, &Case::new(file, 3, 9, 8), counts)?;
     }
     let lent = at_the_edges();
     counts.files += lent.iter().map(|case| &case.file).collect::<BTreeSet<_>>().len() as u64;
     for case in lent {
-        compare(engine, &case, counts)?;
+        compare_once(engine, &case, counts)?;
     }
     for (file, capacity) in deep_recipes(3_000) {
         counts.files += 1;
-        compare(engine, &Case::new(file.clone(), u32::MAX, capacity, capacity + 1), counts)?;
-        compare(engine, &Case::new(file, 100, 4_096, 4_096), counts)?;
+        compare_once(engine, &Case::new(file.clone(), u32::MAX, capacity, capacity + 1), counts)?;
+        compare_once(engine, &Case::new(file, 100, 4_096, 4_096), counts)?;
     }
     Ok(())
 }
@@ -113,14 +113,14 @@ fn small(engine: Run, file: Vec<u8>, counts: &mut Counts) -> Result<(), String> 
     let largest = followed.largest();
     for limit in [0, 1, 2, if followed.ends { u32::MAX } else { 3 }] {
         for capacity in [0, largest.saturating_sub(1), largest, largest + 1] {
-            compare(engine, &Case::new(file.clone(), limit, capacity, capacity + 1), counts)?;
+            compare_once(engine, &Case::new(file.clone(), limit, capacity, capacity + 1), counts)?;
         }
     }
     Ok(())
 }
 
 /// One run of the engine beside one of the model, and beside its own run without owners. A difference comes back shrunk and shown.
-fn compare(engine: Run, case: &Case, counts: &mut Counts) -> Result<model::Run, String> {
+pub fn compare_once(engine: Run, case: &Case, counts: &mut Counts) -> Result<model::Run, String> {
     let model = by_model(case);
     counts.runs += 1;
     match &model.result {
