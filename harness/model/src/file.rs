@@ -16,7 +16,12 @@ pub fn words_of(bytes: &[u8]) -> Result<Vec<u32>, Refusal> {
     if !bytes.len().is_multiple_of(4) || bytes.len() < LEAST_BYTES || bytes.len() > MOST_BYTES {
         return Err(Refusal::new(1, 0));
     }
-    Ok(bytes.chunks_exact(4).map(|b| u32::from_le_bytes([b[0], b[1], b[2], b[3]])).collect())
+    Ok(words_in(bytes))
+}
+
+/// The little-endian words of any bytes, more than a file may have too; a last one that is not whole is left out.
+pub fn words_in(bytes: &[u8]) -> Vec<u32> {
+    bytes.chunks_exact(4).map(|b| u32::from_le_bytes([b[0], b[1], b[2], b[3]])).collect()
 }
 
 /// The two regions by the header, or refusal 2. Sums are over whole numbers: they never wrap.

@@ -115,7 +115,7 @@ fn over_the_reduction(recipe: &Recipe, steps: u32) -> Option<ClassCounts> {
 }
 
 /// By the kind of the word: 19 and 35 are applications, 20 is fix, 30 ms and 45 sm.
-fn class_at(word: u32) -> Class {
+pub fn class_at(word: u32) -> Class {
     match word % 256 {
         19 | 20 | 35 => Class::Call,
         30 | 45 => Class::Conversion,

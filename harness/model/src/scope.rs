@@ -32,7 +32,8 @@ fn bound(language: Sort, operand: u32, lambdas: &[Sort]) -> bool {
     lambdas.iter().rev().nth(operand as usize) == Some(&language)
 }
 
-fn variable(node: Node<'_>) -> Option<u32> {
+/// The operand of a variable.
+pub fn variable(node: Node<'_>) -> Option<u32> {
     match node {
         Node::Ml(e) => match **e {
             Ml::Variable(n) => Some(n),
@@ -46,7 +47,8 @@ fn variable(node: Node<'_>) -> Option<u32> {
     }
 }
 
-fn is_lambda(node: Node<'_>) -> bool {
+/// Whether a node is a lambda, of either language.
+pub fn is_lambda(node: Node<'_>) -> bool {
     match node {
         Node::Ml(e) => matches!(**e, Ml::Lambda(..)),
         Node::Scheme(e) => matches!(**e, Scheme::Lambda(_)),

@@ -4,6 +4,7 @@
 use crate::node::Node;
 use crate::tree::{Ml, Scheme, Type};
 use crate::typing::{ml_rule, scheme_rule, Lambdas, Mismatch};
+use std::collections::HashMap;
 use std::rc::Rc;
 
 /// A node that has no type, or is not well formed, while all its own parts are in order: how many words of the term come before
@@ -19,8 +20,20 @@ pub struct Untyped {
 /// The type of a closed term; or if it has none, all nodes of that sort. There is one then, since a node without a type has one
 /// in it.
 pub fn judge(term: &Rc<Ml>) -> Result<Rc<Type>, Vec<Untyped>> {
-    let mut walk = Walk { lambdas: Vec::new(), words: 0, untyped: Vec::new() };
+    let mut walk = Walk::among(Vec::new());
     walk.ml(term).ok_or(walk.untyped)
+}
+
+/// The type of a term among the lambdas around it, if it has one.
+pub fn type_among(term: &Rc<Ml>, lambdas: Lambdas) -> Option<Rc<Type>> {
+    Walk::among(lambdas).ml(term)
+}
+
+/// The types of all ML nodes in a node that have one, by their words counted from the node's own.
+pub fn types_within(node: Node<'_>) -> HashMap<usize, Rc<Type>> {
+    let mut walk = Walk { typed: Some(HashMap::new()), ..Walk::among(Vec::new()) };
+    walk.part(node);
+    walk.typed.unwrap_or_default()
 }
 
 /// The lowest-numbered of those nodes, if the term has no type.
@@ -45,9 +58,16 @@ struct Walk {
     /// How many words come before it.
     words: usize,
     untyped: Vec<Untyped>,
+    /// The types of the ML nodes so far, where they are asked for.
+    typed: Option<HashMap<usize, Rc<Type>>>,
 }
 
 impl Walk {
+    /// Before a term that stands among lambdas.
+    fn among(lambdas: Lambdas) -> Walk {
+        Walk { lambdas, words: 0, untyped: Vec::new(), typed: None }
+    }
+
     /// The type of an ML term, if it has one.
     fn ml(&mut self, term: &Rc<Ml>) -> Option<Rc<Type>> {
         let own = match &**term {
@@ -57,6 +77,9 @@ impl Walk {
         let before = self.words;
         let parts = self.parts(Node::Ml(term), own)?;
         let judged = ml_rule(term, &parts, &self.lambdas);
+        if let (Some(typed), Ok(found)) = (&mut self.typed, &judged) {
+            typed.insert(before, found.clone());
+        }
         self.kept(before, Node::Ml(term), parts, judged)
     }
 

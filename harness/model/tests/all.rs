@@ -14,6 +14,10 @@ mod refusals;
 mod rules;
 mod save;
 mod text;
+mod text_faults;
+mod text_lists;
+mod text_names;
+mod text_width;
 mod untyped;
 
 /// A file that is not named above would not be tried.

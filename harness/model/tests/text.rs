@@ -3,7 +3,7 @@
 use crate::common::*;
 use model::node::Node;
 use model::read::{read_ml, read_type};
-use model::text::{describe, flat, flat_marked, parse_recipe, pretty};
+use model::text::{describe, flat, flat_marked, parse_recipe, pretty, Style};
 use std::rc::Rc;
 
 fn term(words: &[u32]) -> Rc<model::Ml> {
@@ -14,15 +14,15 @@ fn term(words: &[u32]) -> Rc<model::Ml> {
 fn terms_read_as_in_the_document() {
     let cases: [(&[u32], &str); 12] = [
         (&[21, 529, 785], "(add 2 3)"),
-        (&[19, 30, 4, 1, 1, 34, 32, w(17, 7)], "(app (ms (N to N) (fn v0)) 7)"),
+        (&[19, 30, 4, 1, 1, 34, 32, w(17, 7)], "(app (ms (N to N) (fn (x) x)) 7)"),
         (&[30, 1, 45, 2, 30, 2, w(33, 4)], "(ms N (sm L (ms L 4)))"),
         (&[30, w(2, 9), 45, w(2, 7), 30, w(2, 7), w(33, 4)], "(ms L9 (sm L7 (ms L7 4)))"),
-        (&[18, 4, 3, w(2, 1), w(2, 255), 24, w(2, 10)], "(fn ({L1} to L255) (nil L10))"),
-        (&[20, 18, 1, 16], "(fix (fn N v0))"),
+        (&[18, 4, 3, w(2, 1), w(2, 255), 24, w(2, 10)], "(fn (x ({L1} to L255)) (nil L10))"),
+        (&[20, 18, 1, 16], "(fix (fn (x N) x))"),
         (&[30, 3, 1, 40, w(33, 1), w(33, 2)], "(ms {N} (cons 1 2))"),
         (&[26, 24, 1], "(hd (nil N))"),
         (&[30, 1, 38, 39, w(33, 1), w(33, 2)], "(ms N (if0 nil 1 2))"),
-        (&[30, 1, 36, 34, 32, w(44, 300)], "(ms N (add (fn v0) (wrong 300)))"),
+        (&[30, 1, 36, 34, 32, w(44, 300)], "(ms N (add (fn (x) x) (wrong 300)))"),
         (&[w(29, 9), 4, 3, 2, 1], "(wrong 9 ({L} to N))"),
         (&[30, 1, w(43, 3), w(43, 0), w(43, 1), w(43, 2), w(32, 5)], "(ms N (num? (fun? (list? (null? v5)))))"),
     ];
@@ -43,34 +43,6 @@ fn long_names_comments_and_lines() {
     assert_eq!(last, Some((3, 26)));
 }
 
-#[test]
-fn faults_have_positions() {
-    let cases = [
-        ("", (1, 1), "the text ends where a type is due"),
-        ("N", (1, 2), "the text ends where an ML term is due"),
-        ("M 1", (1, 1), "M is no type: N, L, L1 to L255, {t} or (t to u)"),
-        ("Lx 1", (1, 1), "Lx is no type: N, L, L1 to L255, {t} or (t to u)"),
-        ("L-1 1", (1, 1), "L-1 is no type: N, L, L1 to L255, {t} or (t to u)"),
-        ("l7 1", (1, 1), "l7 is no type: N, L, L1 to L255, {t} or (t to u)"),
-        ("{L 7} 1", (1, 4), "} is due here, not 7"),
-        ("N\n(nil L256)", (2, 6), "L256 names no owner: an owner is 0 to 255"),
-        ("(L255 to L99999999999) 1", (1, 10), "L99999999999 names no owner: an owner is 0 to 255"),
-        ("N (add 1)", (1, 9), ") is no ML term"),
-        ("N (add 1 2 3)", (1, 12), ") is due here, not 3"),
-        ("N\n(sum 1 2)", (2, 2), "no ML term is called sum"),
-        ("N 16777216", (1, 3), "16777216 is outside 0 to 16777215"),
-        ("N (wrong 0 N)", (1, 10), "0 is outside 1 to 65535"),
-        ("N (ms N (test 1))", (1, 10), "no Scheme term is called test"),
-        ("N (ms N (nil N))", (1, 10), "no Scheme term is called nil"),
-        ("N +1", (1, 3), "+1 is no ML term"),
-        ("N 1 2", (1, 5), "the term is complete; nothing may follow it"),
-    ];
-    for (text, place, message) in cases {
-        let fault = parse_recipe(text).expect_err(text);
-        assert_eq!(((fault.line, fault.column), fault.message.as_str()), (place, message), "{text}");
-    }
-}
-
 /// As zeros may stand before a variable's number; what is shown has none.
 #[test]
 fn zeros_before_an_owner_say_nothing() {
@@ -86,18 +58,22 @@ fn zeros_before_an_owner_say_nothing() {
 #[test]
 fn long_terms_are_laid_out() {
     let sum = term(&balanced(21, w(17, 1000), 16));
-    let text = pretty(Node::Ml(&sum), None);
+    let text = pretty(Node::Ml(&sum), &Style::PLAIN);
     assert!(text.lines().count() > 1 && text.lines().all(|line| line.len() <= 100), "{text}");
     assert_eq!(parse_recipe(&format!("N {text}")).expect("a recipe").term, balanced(21, w(17, 1000), 16));
 }
 
 #[test]
-fn one_node_is_marked() {
+fn one_node_is_marked_and_a_part() {
     let t = term(&[19, 30, 4, 1, 1, 34, 32, w(17, 7)]);
-    assert_eq!(pretty(Node::Ml(&t), Some(1)), "(app [[(ms (N to N) (fn v0))]] 7)");
-    assert_eq!(pretty(Node::Ml(&t), Some(7)), "(app (ms (N to N) (fn v0)) [[7]])");
+    let marked = |marked, part| pretty(Node::Ml(&t), &Style { marked, part, ..Style::PLAIN });
+    assert_eq!(marked(Some(1), None), "(app [[(ms (N to N) (fn (x) x))]] 7)");
+    assert_eq!(marked(Some(7), None), "(app (ms (N to N) (fn (x) x)) [[7]])");
+    assert_eq!(marked(Some(0), Some(7)), "[[(app (ms (N to N) (fn (x) x)) <<7>>)]]");
+    assert_eq!(marked(Some(5), Some(5)), "(app (ms (N to N) [[<<(fn (x) x)>>]]) 7)");
+    assert_eq!(marked(Some(6), Some(2)), "(app (ms <<(N to N)>> (fn (x) [[x]])) 7)");
     let declared = read_type(&[4, 3, 1, 2], 0, usize::MAX).expect("a type");
-    assert_eq!(pretty(Node::Type(&declared), Some(1)), "([[{N}]] to L)");
+    assert_eq!(pretty(Node::Type(&declared), &Style { marked: Some(1), ..Style::PLAIN }), "([[{N}]] to L)");
     let marked = [2, 3, 4].map(|word| flat_marked(Node::Type(&declared), Some(word)));
     assert_eq!(marked, ["({[[N]]} to L)", "({N} to [[L]])", "({N} to L)"]);
 }

@@ -1,9 +1,13 @@
-//! Text to words. The words come out in prefix order, each with the position of its text.
+//! Text to words: the reader's hands, types, and the recipe as a whole. The words come out in prefix order, each with the position
+//! of its text. Every node puts its word before its parts are read, so that reading nests no deeper than a file has words.
 
-use super::names::{headed, shows_operand};
-use super::tokens::{tokens, Position, Token};
-use crate::kinds::{kind, Kind, Sort, LUMP};
+use super::faults::no_type;
+use super::scope::Scope;
+use super::tokens::{Position, Token, Tokens};
+use super::{numbers, spelling};
+use crate::kinds::{kind, Sort, LUMP};
 use crate::tree::MOST_OWNER;
+use std::cell::Cell;
 use std::fmt;
 
 /// What is wrong with a text, and where.
@@ -27,161 +31,204 @@ pub struct Parsed {
     pub term: Vec<u32>,
     /// Of each word, the declared type's first.
     pub positions: Vec<Position>,
+    /// Of each word in the same way: the name that the text gives to the function's argument.
+    pub names: Vec<Option<String>>,
+    /// Where the first variable by its number stands, if there is one.
+    pub numbered: Option<Position>,
 }
 
-struct Parser<'a> {
-    tokens: Vec<Token<'a>>,
-    at: usize,
-    words: Vec<u32>,
-    positions: Vec<Position>,
+/// The words that a file has behind its header at most.
+const MOST_WORDS: usize = 4_092;
+
+/// A text that is read, with the words that came out so far.
+pub struct Parser<'a> {
+    pub tokens: Tokens<'a>,
+    pub scope: Scope<'a>,
+    pub words: Vec<u32>,
+    pub positions: Vec<Position>,
+    pub names: Vec<Option<String>>,
+    /// Where the first variable by its number stands.
+    pub numbered: Option<Position>,
+    /// The brackets that are open, the innermost last.
+    pub open: Vec<Token<'a>>,
+    /// How many words there are and are still due at least.
+    due: usize,
 }
 
 /// Reads a declared type and a term.
 pub fn parse_recipe(text: &str) -> Result<Parsed, Fault> {
-    let mut parser = Parser { tokens: tokens(text), at: 0, words: Vec::new(), positions: Vec::new() };
-    parser.read_type()?;
-    let declared = std::mem::take(&mut parser.words);
-    parser.term(Sort::Ml)?;
-    match parser.tokens.get(parser.at) {
-        Some(token) => Err(fault(token.position, "the term is complete; nothing may follow it")),
-        None => Ok(Parsed { declared, term: parser.words, positions: parser.positions }),
-    }
+    Parser::new(text, &Cell::new(false)).recipe()
 }
 
-fn fault(position: Position, message: impl Into<String>) -> Fault {
+/// The first fault of a text whose rest is missing; none where it may come from that.
+pub fn early_fault(text: &str) -> Option<Fault> {
+    let ended = Cell::new(false);
+    let fault = Parser::new(text, &ended).recipe().err();
+    fault.filter(|_| !ended.get())
+}
+
+/// A fault at a position.
+pub fn fault(position: Position, message: impl Into<String>) -> Fault {
     Fault { line: position.line, column: position.column, message: message.into() }
 }
 
 impl<'a> Parser<'a> {
-    fn next(&mut self, due: &str) -> Result<Token<'a>, Fault> {
-        let Some(token) = self.tokens.get(self.at) else {
-            return Err(fault(self.end(), format!("the text ends where {due} is due")));
+    /// At the start of a text. A type and a term are due.
+    fn new(text: &'a str, ended: &'a Cell<bool>) -> Parser<'a> {
+        let (tokens, scope) = (Tokens::new(text, ended), Scope::default());
+        let (words, positions, names, open) = (Vec::new(), Vec::new(), Vec::new(), Vec::new());
+        Parser { tokens, scope, words, positions, names, numbered: None, open, due: 2 }
+    }
+
+    /// A declared type and a term, and nothing behind them.
+    fn recipe(&mut self) -> Result<Parsed, Fault> {
+        self.starts_with_type()?;
+        self.read_type()?;
+        let types = self.words.len();
+        self.term(Sort::Ml)?;
+        match self.tokens.peek() {
+            Some(token) if matches!(token.text, ")" | "}") => Err(self.closes(token, "")),
+            Some(token) => Err(fault(token.position, "the term is complete; nothing may follow it")),
+            None => {
+                let mut declared = std::mem::take(&mut self.words);
+                let term = declared.split_off(types);
+                let (positions, names) = (std::mem::take(&mut self.positions), std::mem::take(&mut self.names));
+                Ok(Parsed { declared, term, positions, names, numbered: self.numbered })
+            }
+        }
+    }
+
+    /// A text that starts with a term has no type.
+    fn starts_with_type(&self) -> Result<(), Fault> {
+        match self.tokens.peek() {
+            Some(token) if self.is_term_next() => {
+                Err(fault(token.position, "a recipe starts with the type of its result, as in N (add 2 3)"))
+            }
+            _ => Ok(()),
+        }
+    }
+
+    /// Whether what comes next is a term and no type: a number, or a bracket with a word of a language behind it.
+    pub fn is_term_next(&self) -> bool {
+        let mut ahead = self.tokens;
+        let [first, second] = [ahead.take(), ahead.take()].map(|token| token.map_or("", |token| token.text));
+        let word = first == "(" && spelling::is_reserved(second);
+        word || first == "nil" || numbers::is_number(first)
+    }
+
+    /// The next token, which stays; a text that ends is a fault.
+    pub fn peek(&self, due: &str) -> Result<Token<'a>, Fault> {
+        self.tokens.peek().ok_or_else(|| self.ends(due))
+    }
+
+    /// Takes the next token; a text that ends is a fault.
+    pub fn next(&mut self, due: &str) -> Result<Token<'a>, Fault> {
+        let token = self.peek(due)?;
+        self.tokens.take();
+        Ok(token)
+    }
+
+    /// The fault of a text that ends where something is due.
+    fn ends(&self, due: &str) -> Fault {
+        let message = match self.open.last() {
+            Some(open) => format!("the text ends, and the {} of {} is not closed", open.text, open.position),
+            None => format!("the text ends where {due} is due"),
         };
-        self.at += 1;
-        Ok(token.clone())
+        fault(self.tokens.end(), message)
     }
 
-    fn end(&self) -> Position {
-        match self.tokens.last() {
-            Some(token) => Position { column: token.position.column + token.text.chars().count(), ..token.position },
-            None => Position { line: 1, column: 1 },
+    /// Takes the partner of the bracket that was opened last.
+    pub fn close(&mut self) -> Result<Token<'a>, Fault> {
+        let token = self.next("a bracket")?;
+        match self.open.pop() {
+            Some(open) if partner(open) == token.text => Ok(token),
+            Some(open) => Err(unlike(open, token)),
+            None => Err(self.closes(token, "")),
         }
     }
 
-    fn expect(&mut self, text: &str) -> Result<(), Fault> {
-        let token = self.next(text)?;
-        match token.text == text {
-            true => Ok(()),
-            false => Err(fault(token.position, format!("{text} is due here, not {}", token.text))),
+    /// The fault of a closing bracket where something else is due.
+    pub fn closes(&self, token: Token<'_>, due: &str) -> Fault {
+        match self.open.last() {
+            None => fault(token.position, format!("this {} closes nothing; it is one too many", token.text)),
+            Some(open) if partner(*open) == token.text => {
+                fault(token.position, format!("{due} is due here, not {}", token.text))
+            }
+            Some(open) => unlike(*open, token),
         }
     }
 
-    fn put(&mut self, word: u32, position: Position) {
+    /// Puts a word. Its parts are due then, and there may be too many.
+    pub fn put(&mut self, word: u32, position: Position) -> Result<(), Fault> {
+        self.due += kind(word % 256).map_or(0, |row| row.parts.len());
+        if self.due > MOST_WORDS {
+            return Err(fault(position, "the recipe has more than 4,092 words; a file has at most 16,384 bytes"));
+        }
         self.words.push(word);
         self.positions.push(position);
+        self.names.push(None);
+        Ok(())
     }
 
-    fn part(&mut self, sort: Sort) -> Result<(), Fault> {
-        match sort {
-            Sort::Type => self.read_type(),
-            _ => self.term(sort),
-        }
-    }
-
-    fn read_type(&mut self) -> Result<(), Fault> {
+    /// A type.
+    pub fn read_type(&mut self) -> Result<(), Fault> {
         let token = self.next("a type")?;
         match token.text {
             "N" => self.put(1, token.position),
             "{" => {
-                self.put(3, token.position);
+                self.open.push(token);
+                self.put(3, token.position)?;
                 self.read_type()?;
-                self.expect("}")?;
+                self.close().map(drop)
             }
             "(" => {
-                self.put(4, token.position);
+                self.open.push(token);
+                self.put(4, token.position)?;
                 self.read_type()?;
-                self.expect("to")?;
+                self.to()?;
                 self.read_type()?;
-                self.expect(")")?;
+                self.close().map(drop)
             }
-            other => self.put(LUMP + 256 * owner(other, token.position)?, token.position),
-        }
-        Ok(())
-    }
-
-    fn term(&mut self, sort: Sort) -> Result<(), Fault> {
-        let token = self.next(if sort == Sort::Ml { "an ML term" } else { "a Scheme term" })?;
-        match (token.text, sort) {
-            ("(", _) => self.node(sort, token.position),
-            ("nil", Sort::Scheme) => {
-                self.put(39, token.position);
-                Ok(())
-            }
-            _ => self.atom(sort, &token),
+            ")" | "}" => Err(self.closes(token, "a type")),
+            _ => self.put(LUMP + 256 * owner(token)?, token.position),
         }
     }
 
-    /// A variable or a number.
-    fn atom(&mut self, sort: Sort, token: &Token<'_>) -> Result<(), Fault> {
-        let (variable, number) = if sort == Sort::Ml { (16, 17) } else { (32, 33) };
-        let (number, digits) = match token.text.strip_prefix('v') {
-            Some(digits) => (variable, digits),
-            None => (number, token.text),
-        };
-        if digits.is_empty() || !digits.bytes().all(|b| b.is_ascii_digit()) {
-            return Err(fault(token.position, format!("{} is no {}", token.text, language(sort))));
+    /// What stands between the two types of a function.
+    fn to(&mut self) -> Result<(), Fault> {
+        let token = self.next("to")?;
+        match token.text {
+            "to" => Ok(()),
+            ")" | "}" => Err(self.closes(token, "to")),
+            other => Err(fault(token.position, format!("to is due here, not {}", spelling::shown(other)))),
         }
-        let row = kind(number).expect("variables and numbers are kinds");
-        let operand = operand(row, digits, token.position)?;
-        self.put(row.number + 256 * operand, token.position);
-        Ok(())
-    }
-
-    /// A node in parentheses: its name, its operand, its parts.
-    fn node(&mut self, sort: Sort, position: Position) -> Result<(), Fault> {
-        let name = self.next("a name")?;
-        let Some((row, told)) = headed(sort, name.text) else {
-            return Err(fault(name.position, format!("no {} is called {}", language(sort), name.text)));
-        };
-        let operand = match told {
-            Some(operand) => operand,
-            None if shows_operand(row) => {
-                let token = self.next("a code")?;
-                operand(row, token.text, token.position)?
-            }
-            None => 0,
-        };
-        self.put(row.number + 256 * operand, position);
-        for part in row.parts {
-            self.part(*part)?;
-        }
-        self.expect(")")
     }
 }
 
-fn language(sort: Sort) -> &'static str {
-    match sort {
-        Sort::Type => "type",
-        Sort::Ml => "ML term",
-        Sort::Scheme => "Scheme term",
+/// The bracket that closes another.
+fn partner(open: Token<'_>) -> &'static str {
+    if open.text == "(" {
+        ")"
+    } else {
+        "}"
     }
+}
+
+/// The fault of a token where an open bracket is to be closed.
+fn unlike(open: Token<'_>, token: Token<'_>) -> Fault {
+    let (due, found) = (partner(open), spelling::shown(token.text));
+    fault(token.position, format!("{due} is due here for the {} of {}, not {found}", open.text, open.position))
 }
 
 /// The owner of a lump's type: L is owner 0's, and behind it may stand digits.
-fn owner(text: &str, position: Position) -> Result<u32, Fault> {
-    let digits = text.strip_prefix('L').filter(|digits| digits.bytes().all(|b| b.is_ascii_digit()));
+fn owner(token: Token<'_>) -> Result<u32, Fault> {
+    let digits = token.text.strip_prefix('L').filter(|digits| spelling::are_digits(digits));
     match digits.map(|digits| if digits.is_empty() { Ok(0) } else { digits.parse() }) {
         Some(Ok(owner)) if owner <= MOST_OWNER => Ok(owner),
-        Some(_) => Err(fault(position, format!("{text} names no owner: an owner is 0 to {MOST_OWNER}"))),
-        None => Err(fault(position, format!("{text} is no type: N, L, L1 to L{MOST_OWNER}, {{t}} or (t to u)"))),
-    }
-}
-
-/// The operand in the kind's range that the digits give.
-fn operand(row: &Kind, digits: &str, position: Position) -> Result<u32, Fault> {
-    let plain = !digits.is_empty() && digits.bytes().all(|b| b.is_ascii_digit());
-    match digits.parse::<u32>() {
-        Ok(operand) if plain && row.least <= operand && operand <= row.most => Ok(operand),
-        _ => Err(fault(position, format!("{digits} is outside {} to {}", row.least, row.most))),
+        Some(_) => {
+            let shown = spelling::shown(token.text);
+            Err(fault(token.position, format!("{shown} names no owner: an owner is 0 to {MOST_OWNER}")))
+        }
+        None => Err(no_type(token)),
     }
 }

@@ -1,20 +1,28 @@
-//! Trees to text, on one line or laid out, with one node marked where asked.
+//! Trees to text, on one line or laid out, with one node and a part of it marked where asked.
 
-use super::names::{atom, head, lump_name, shows_operand, Atom};
-use crate::kinds::row_of;
+use super::pieces::{piece, Piece};
 use crate::node::Node;
 
-const WIDTH: usize = 100;
-/// Deep terms are not indented further than this.
-const MOST_INDENT: usize = 60;
+/// How a term is written.
+#[derive(Clone, Copy)]
+pub struct Style<'a> {
+    /// The columns that a line has at most, where that can be helped.
+    pub width: usize,
+    /// Variables by their numbers, functions without names and lists by their conses, as a file has them.
+    pub numbers: bool,
+    /// An application of a function as `let`.
+    pub lets: bool,
+    /// The node that stands in double brackets, by its first word, counted from the root's.
+    pub marked: Option<usize>,
+    /// The node that stands between `<<` and `>>`, in the same way.
+    pub part: Option<usize>,
+    /// The names that the writer gave, of each word of the term that is a function; there may be fewer than words.
+    pub names: &'a [Option<String>],
+}
 
-/// A node's text in pieces: what opens it, its parts with what stands between them, what closes it.
-struct Piece {
-    open: String,
-    between: &'static str,
-    parts: Vec<Piece>,
-    close: String,
-    width: usize,
+impl Style<'_> {
+    pub const PLAIN: Style<'static> =
+        Style { width: 100, numbers: false, lets: false, marked: None, part: None, names: &[] };
 }
 
 /// The node on one line.
@@ -24,80 +32,69 @@ pub fn flat(node: Node<'_>) -> String {
 
 /// The same, with the node that starts at the marked word, counted from the root's, in double brackets.
 pub fn flat_marked(node: Node<'_>, marked: Option<usize>) -> String {
-    let mut text = String::new();
-    piece(node, &mut 0, marked).flat(&mut text);
-    text
+    pretty(node, &Style { width: usize::MAX, marked, ..Style::PLAIN })
 }
 
-/// The node on as many lines as it needs, with one marked in the same way.
-pub fn pretty(node: Node<'_>, marked: Option<usize>) -> String {
-    let mut text = String::new();
-    piece(node, &mut 0, marked).lay_out(0, &mut text);
-    text
+/// The node on as many lines as it needs.
+pub fn pretty(node: Node<'_>, style: &Style<'_>) -> String {
+    let mut page = Page { width: style.width, most_indent: style.width / 5 * 3, text: String::new() };
+    page.lay_out(&piece(node, style), Place { column: 0, indent: 0, behind: 0 });
+    page.text
 }
 
-fn piece(node: Node<'_>, words: &mut usize, marked: Option<usize>) -> Piece {
-    let here = *words;
-    *words += 1;
-    let (mut open, between, mut close) = shell(node.word());
-    let parts: Vec<Piece> = node.parts().into_iter().flatten().map(|part| piece(part, words, marked)).collect();
-    if marked == Some(here) {
-        open.insert_str(0, "[[");
-        close.push_str("]]");
-    }
-    let gaps = between.len() * parts.len().saturating_sub(1);
-    let width = open.len() + parts.iter().map(|part| part.width).sum::<usize>() + gaps + close.len();
-    Piece { open, between, parts, close, width }
+/// Where a piece begins: its column, how far its line is indented, and how many letters are due behind it on its last line.
+#[derive(Clone, Copy)]
+struct Place {
+    column: usize,
+    indent: usize,
+    behind: usize,
 }
 
-/// What stands before, between and behind the parts of a word.
-fn shell(word: u32) -> (String, &'static str, String) {
-    let (row, operand) = (row_of(word).expect("a tree's words are in order"), word / 256);
-    match (row.number, atom(row)) {
-        (_, Some(Atom::Variable)) => (format!("v{operand}"), "", String::new()),
-        (_, Some(Atom::Number)) => (operand.to_string(), "", String::new()),
-        (_, Some(Atom::Lump)) => (lump_name(operand), "", String::new()),
-        (_, Some(Atom::Name)) => (row.name.to_string(), "", String::new()),
-        (3, _) => ("{".into(), "", "}".into()),
-        (4, _) => ("(".into(), " to ", ")".into()),
-        _ => (format!("({}{}", named(word), if row.parts.is_empty() { "" } else { " " }), " ", ")".into()),
-    }
+/// A text that is laid out. Deep terms are indented no further than the given.
+struct Page {
+    width: usize,
+    most_indent: usize,
+    text: String,
 }
 
-fn named(word: u32) -> String {
-    let (row, operand) = (row_of(word).expect("a tree's words are in order"), word / 256);
-    match shows_operand(row) {
-        true => format!("{} {operand}", head(row, operand)),
-        false => head(row, operand).to_string(),
-    }
-}
-
-impl Piece {
-    fn flat(&self, text: &mut String) {
-        text.push_str(&self.open);
-        for (index, part) in self.parts.iter().enumerate() {
+impl Page {
+    /// Writes a piece on the rest of the line if it fits there, else its parts on lines of their own. Those that lead stay behind
+    /// what opens the piece, and the items of a list fill their lines.
+    fn lay_out(&mut self, piece: &Piece, place: Place) {
+        if piece.parts.is_empty() || self.fits(place.column, piece.width.saturating_add(place.behind)) {
+            return piece.flat(&mut self.text);
+        }
+        self.text.push_str(piece.open.trim_end());
+        let inner = (place.indent + if piece.fills { 1 } else { 2 }).min(self.most_indent);
+        for (index, part) in piece.parts.iter().enumerate() {
+            let last = index + 1 == piece.parts.len();
+            let between = piece.between.trim_end();
+            let behind = if last { piece.close.len() + place.behind } else { between.len() };
             if index > 0 {
-                text.push_str(self.between);
+                self.text.push_str(between);
             }
-            part.flat(text);
+            let gap = if index > 0 || piece.open.ends_with(' ') { " " } else { "" };
+            let column = self.column() + gap.len();
+            let fills = piece.fills && (index == 0 || self.fits(column, part.width + behind));
+            if index < piece.leading || fills {
+                self.text.push_str(gap);
+                self.lay_out(part, Place { column, indent: inner, behind });
+            } else {
+                self.text.push('\n');
+                self.text.extend(std::iter::repeat_n(' ', inner));
+                self.lay_out(part, Place { column: inner, indent: inner, behind });
+            }
         }
-        text.push_str(&self.close);
+        self.text.push_str(&piece.close);
     }
 
-    fn lay_out(&self, indent: usize, text: &mut String) {
-        if indent + self.width <= WIDTH || self.parts.is_empty() {
-            return self.flat(text);
-        }
-        text.push_str(self.open.trim_end());
-        let inner = (indent + 2).min(MOST_INDENT);
-        for (index, part) in self.parts.iter().enumerate() {
-            if index > 0 {
-                text.push_str(self.between.trim_end());
-            }
-            text.push('\n');
-            text.push_str(&" ".repeat(inner));
-            part.lay_out(inner, text);
-        }
-        text.push_str(&self.close);
+    /// Whether so many letters fit on a line from a column on.
+    fn fits(&self, column: usize, letters: usize) -> bool {
+        column.saturating_add(letters) <= self.width
+    }
+
+    /// The column where the text goes on.
+    fn column(&self) -> usize {
+        self.text.len() - self.text.rfind('\n').map_or(0, |end| end + 1)
     }
 }
