@@ -1,4 +1,5 @@
-//! Options on the command line: `--name` alone, with a number or with a word, and plain words.
+//! Options on the command line: `--name` or `-n` alone, with a number or with a word, and plain words. A word that begins with `-` is
+//! an option, but for `-` itself.
 
 pub struct Args {
     words: Vec<String>,
@@ -31,14 +32,14 @@ impl Args {
         let Some(at) = self.words.iter().position(|word| word == name) else { return Ok(None) };
         self.words.remove(at);
         match self.words.get(at) {
-            Some(word) if !word.starts_with("--") => Ok(Some(self.words.remove(at))),
+            Some(word) if is_plain(word) => Ok(Some(self.words.remove(at))),
             _ => Err(format!("{name} needs {what}")),
         }
     }
 
     /// Takes the next plain word, if there is one.
     pub fn word(&mut self) -> Option<String> {
-        let at = self.words.iter().position(|word| !word.starts_with("--"))?;
+        let at = self.words.iter().position(|word| is_plain(word))?;
         Some(self.words.remove(at))
     }
 
@@ -49,4 +50,9 @@ impl Args {
             None => Ok(()),
         }
     }
+}
+
+/// Whether a word is no option.
+fn is_plain(word: &str) -> bool {
+    word == "-" || !word.starts_with('-')
 }

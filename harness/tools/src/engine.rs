@@ -1,5 +1,5 @@
-//! The engine's C functions, as include/recipe.h declares them, and one that is only for measuring. With old_engine.rs the
-//! only unsafe code of the harness.
+//! The engine's C functions, as include/recipe.h declares them, and one that is only for measuring. With old_engine.rs, terminal.rs and the
+//! fuzzer's main.rs the only unsafe code of the harness.
 //!
 //! Without the features `check` and `run` there is no engine, and the archive is not linked.
 

@@ -14,3 +14,4 @@ pub mod random;
 pub mod recipe;
 pub mod shrink;
 pub mod stand_in;
+pub mod terminal;

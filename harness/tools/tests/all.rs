@@ -3,6 +3,7 @@
 
 mod asked;
 mod bench;
+mod blamed;
 mod carded;
 mod charged;
 mod commands;
@@ -19,15 +20,21 @@ mod recipe_card;
 mod recipe_mismatch;
 mod recipe_outline;
 mod recipe_owners;
+mod recipe_page;
 mod recipe_price;
 mod recipe_save;
+mod recipe_text;
 mod recipes;
+mod reference;
 mod refused;
 mod saved;
+mod stack;
+mod stepped;
 mod tested;
 mod text;
 mod uncarded;
 mod unsaved;
+mod walked;
 
 use std::path::Path;
 
@@ -35,7 +42,7 @@ use std::path::Path;
 #[test]
 fn every_file_is_named() {
     let folder = concat!(env!("CARGO_MANIFEST_DIR"), "/tests");
-    let apart = ["page", "all"];
+    let apart = ["page", "browser", "all"];
     for entry in std::fs::read_dir(folder).expect("the folder of tests") {
         let path = entry.expect("an entry").path();
         let name = path.file_stem().and_then(|name| name.to_str()).expect("a name that is text");

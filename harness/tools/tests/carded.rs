@@ -205,7 +205,7 @@ fn no_last_line_for_an_empty_list() {
 fn the_last_line_first() {
     let engine: Card = |p, f, l, a, b, c| changed((p, f, l, a, b, c), |lines| lines.rotate_right(1));
     let text = shown(engine);
-    assert!(text.contains("term:     (cons 0 (nil N))\n"), "{text}");
+    assert!(text.contains("term:     {0}\n"), "{text}");
 }
 
 #[test]

@@ -9,17 +9,18 @@ use tools::make::{damaged_file, edges, well_typed_file};
 use tools::random::Random;
 
 /// Document 01's wrapped function, applied.
-const WRAPPED: &[u8] = b"N (app (ms (N to N) (fn v0)) 7)";
+pub const WRAPPED: &[u8] = b"N (app (ms (N to N) (fn v0)) 7)";
 
 /// "(ms (N to N) (fn v0)) applied to 7: value 7, 5 steps", and the largest term has 12 words.
-const FIVE_STEPS: [&str; 7] = [
-    "step 0, 8 words\n  (app [[(ms (N to N) (fn v0))]] 7)\n  -> ms (t to u) of a lambda (conversion)\n",
-    "step 1, 12 words\n  [[(app (fn N (ms N (app (fn v0) (sm N v0)))) 7)]]\n  -> ML application of a lambda (call)\n",
-    "step 2, 8 words\n  (ms N (app (fn v0) [[(sm N 7)]]))\n  -> sm N of a number (conversion)\n",
-    "step 3, 6 words\n  (ms N [[(app (fn v0) 7)]])\n  -> Scheme application of a lambda (call)\n",
+pub const FIVE_STEPS: [&str; 7] = [
+    "step 0, 8 words\n  (app [[(ms (N to N) (fn (x) x))]] 7)\n  -> ms (t to u) of a lambda (conversion)\n",
+    "step 1, 12 words\n  [[(app (fn (x N) (ms N (app (fn (y) y) (sm N x)))) 7)]]\n  -> ML application of a lambda (call)\n",
+    "step 2, 8 words\n  (ms N (app (fn (x) x) [[(sm N 7)]]))\n  -> sm N of a number (conversion)\n",
+    "step 3, 6 words\n  (ms N [[(app (fn (x) x) 7)]])\n  -> Scheme application of a lambda (call)\n",
     "step 4, 3 words\n  [[(ms N 7)]]\n  -> ms N of a number (conversion)\n",
     "step 5, 1 word\n  7\n",
-    "value after 5 steps, 1 word\n2 calls, 3 conversions, 0 others\n",
+    "value after 5 steps, 1 word\n2 calls, 3 conversions, 0 others\nrules:\n  1 ML application of a lambda\n  \
+     1 ms N of a number\n  1 ms (t to u) of a lambda\n  1 Scheme application of a lambda\n  1 sm N of a number\n",
 ];
 
 #[test]
@@ -28,6 +29,9 @@ fn step_shows_the_five_steps_of_a_wrapped_function() {
     let full = "full after 0 steps: the next term has 12 words\n0 calls, 0 conversions, 0 others\n";
     assert_eq!(printed(&["step", "--words", "11"], WRAPPED), (0, FIVE_STEPS[0].to_string() + full, "".into()));
 }
+
+/// Counts up, and comes to no end in a million steps.
+const COUNTING: &[u8] = b"N (app (fix (fn (N to N) (fn N (app v1 (add v0 1))))) 0)";
 
 #[test]
 fn step_starts_and_stops_where_asked() {
@@ -38,8 +42,8 @@ fn step_starts_and_stops_where_asked() {
     // Behind the end there is the end.
     assert_eq!(printed(&["step", "--from", "9"], WRAPPED).1, FIVE_STEPS[5..].concat());
     // Without --to, 1,000 steps are shown from any step on.
-    let spinning = printed(&["step", "--from", "2000"], b"N (fix (fn N v0))").1;
-    assert!(spinning.starts_with("step 2000, 4 words\n") && spinning.ends_with(&stopped(3000)), "{spinning}");
+    let counting = printed(&["step", "--from", "2000"], COUNTING).1;
+    assert!(counting.starts_with("step 2000, ") && counting.ends_with(&stopped(3000)), "{counting}");
     let behind = "recipe: --to 2 comes before --from 3\n".to_string();
     assert_eq!(printed(&["step", "--from", "3", "--to", "2"], WRAPPED), (2, "".into(), behind));
 }
@@ -48,15 +52,17 @@ fn step_starts_and_stops_where_asked() {
 fn run_tells_where_the_steps_went_at_every_end() {
     let told = |words: &[&str], input: &[u8]| printed(words, input).1;
     assert_eq!(told(&["run"], WRAPPED), "value after 5 steps, 1 word\n2 calls, 3 conversions, 0 others\n7\n");
-    let spent = "spent after 3 steps, 6 words\n1 call, 2 conversions, 0 others\n(ms N (app (fn v0) 7))\n";
+    let spent = "spent after 3 steps, 6 words\n1 call, 2 conversions, 0 others\n(ms N (app (fn (x) x) 7))\n";
     assert_eq!(told(&["run", "--limit", "3"], WRAPPED), spent);
-    let error = "error 1 after 2 steps: no number for add, subtract, if0 or ms N, or the recipe's own code\n\
-                 0 calls, 1 conversion, 1 other\n";
+    let error = "error 1 after 2 steps: no number for add, subtract, if0 or ms N\n0 calls, 1 conversion, 1 other\n\
+                 made by a rule at step 0: ms N of another value: wrong 1\n\
+                 from the boundary at line 1, column 3 of the text, word 5 of the file: (ms N nil)\n\
+                 the value: nil, from line 1, column 9 of the text, word 7 of the file\n";
     assert_eq!(told(&["run"], b"N (ms N nil)"), error);
     // A term of 7 words, then of 9; the next does not fit.
     let full = "full after 1 step: the next term has 11 words\n1 call, 0 conversions, 0 others\n";
     let grows = b"{N} (fix (fn {N} (cons 1 v0)))";
-    assert_eq!(told(&["run", "--words", "10"], grows), full.to_string() + "(cons 1 (fix (fn {N} (cons 1 v0))))\n");
+    assert_eq!(told(&["run", "--words", "10"], grows), full.to_string() + "(cons 1 (fix (fn (x {N}) (cons 1 x))))\n");
 }
 
 /// The line of counts that the classes shown make; where the end is full, the last was not made.
@@ -79,8 +85,11 @@ fn the_classes_that_step_shows_are_those_that_the_engine_counts() {
     for file in random.chain([bytes_of(&[1, 4, 2, 5, 1, 29 + 256 * 9, 1])]) {
         for words in ["30", "4096"] {
             let (status, shown, _) = printed(&["step", "--to", "40", "--words", words], &file);
-            if status == 0 && !shown.ends_with("--to goes further\n") {
-                assert_eq!(shown.lines().last(), Some(went(&shown).as_str()), "{shown}");
+            if status == 0 && !shown.ends_with("--to goes further\n") && !shown.ends_with("for ever\n") {
+                let end =
+                    |line: &&str| ["value after ", "error ", "full after "].iter().any(|end| line.starts_with(end));
+                let told = shown.lines().skip_while(|line| !end(line)).nth(1);
+                assert_eq!(told, Some(went(&shown).as_str()), "{shown}");
                 ended += 1;
             }
         }
@@ -120,17 +129,44 @@ fn show_says_what_is_wrong_with_a_damaged_file_and_where() {
     assert!(printed(&["show"], &[0; 23]).2.ends_with("a multiple of 4\n  the file has 23 bytes\n"));
 }
 
-/// Whether the file's words are in order; then it comes back, byte by byte, from what `recipe show` prints.
-fn comes_back(file: &[u8]) -> bool {
+/// What `recipe show` is asked for, in turn.
+const SHOWN: [&[&str]; 4] =
+    [&["show"], &["show", "--numbers"], &["show", "--width", "20"], &["show", "--width", "1_000"]];
+
+/// Whether the file's words are in order; then it comes back, byte by byte, from what `recipe show` prints, and from what it prints
+/// of that.
+fn comes_back(index: usize, file: &[u8]) -> bool {
     if read_recipe(file, usize::MAX).is_err() {
         return false;
     }
-    let (status, text, said) = typed(&["show"], file);
+    let words = SHOWN[index % SHOWN.len()];
+    let (status, text, said) = typed(words, file);
     assert_eq!((status, said.as_str()), (0, ""));
-    let (status, made, said) = typed(&["make"], &text);
-    assert_eq!((status, said.as_str()), (0, ""));
-    assert!(made == file, "{}", String::from_utf8_lossy(&text));
+    let again = typed(words, &text).1;
+    for text in [text, again] {
+        let (status, made, said) = typed(&["make"], &text);
+        let text = String::from_utf8(text).expect("text");
+        assert!(status == 0 && made == file, "{text}");
+        assert_eq!(said.starts_with("recipe: note: line "), has_number(&text), "{text}");
+    }
     true
+}
+
+/// Whether a text has a variable by its number.
+fn has_number(text: &str) -> bool {
+    let digits = |word: &str| !word.is_empty() && word.bytes().all(|letter| letter.is_ascii_digit());
+    text.split([' ', '\n', '(', ')', '{', '}']).any(|word| word.strip_prefix('v').is_some_and(digits))
+}
+
+#[test]
+fn make_notes_the_first_variable_by_its_number() {
+    let told =
+        "recipe: note: line 2, column 8: a variable by its number means another function as soon as one without a \
+                name is put around it; recipe show writes the text with names\n";
+    assert_eq!(typed(&["make"], b"(N to N) \n (fn N v0)").2, told);
+    // The other commands say nothing of it, and a text of names has none.
+    assert_eq!(typed(&["check"], b"(N to N) (fn N v0)").2, "");
+    assert_eq!(typed(&["make"], b"(N to N) (fn (x N) x)").2, "");
 }
 
 #[test]
@@ -138,12 +174,12 @@ fn make_of_what_show_prints_is_the_same_file() {
     model::on_large_stack(|| {
         let makers: [fn(&mut Random) -> Vec<u8>; 2] = [well_typed_file, damaged_file];
         let random = makers.iter().flat_map(|make| (0..400).map(|index| make(&mut Random::new(7, index))));
-        let in_order = random.chain(edges()).filter(|file| comes_back(file)).count();
+        let in_order = random.chain(edges()).enumerate().filter(|(index, file)| comes_back(*index, file)).count();
         assert!(in_order > 700, "{in_order}");
         // Nested as deep as a file allows, and as large.
         let deepest = [vec![1, 4, 4_091, 5, 1], vec![20; 4_090], vec![17]].concat();
         assert_eq!(deepest.len(), 4_096);
-        assert!(comes_back(&bytes_of(&deepest)));
+        assert!((0..4).all(|index| comes_back(index, &bytes_of(&deepest))));
     });
 }
 
@@ -160,9 +196,10 @@ fn each_command_has_help() {
 
 #[test]
 fn faults_go_to_standard_error_with_status_2() {
-    let cases: [(&[&str], &str); 11] = [
-        (&[], "make, show, check, run, step, price, card or outline is due; see --help"),
-        (&["bake"], "make, show, check, run, step, price, card or outline is due; see --help"),
+    let cases: [(&[&str], &str); 12] = [
+        (&[], "make, show, check, run, step, price, card, outline or page is due; see --help"),
+        (&["bake"], "no command is called bake; did you mean make?"),
+        (&["everything"], "make, show, check, run, step, price, card, outline or page is due; see --help"),
         (&["show", "--loud"], "--loud is not understood"),
         (&["run", "-", "more"], "more is not understood"),
         (&["run", "--limit"], "--limit needs a number"),
@@ -171,7 +208,7 @@ fn faults_go_to_standard_error_with_status_2() {
         (&["run", "--words", "few"], "--words needs a number, not few"),
         (&["step", "--to", "4294967296"], "a run makes at most 4294967295 steps, not 4294967296"),
         (&["check", "no such file"], "cannot read no such file: "),
-        (&["make", "-"], "line 1, column 3: M is no ML term"),
+        (&["make", "-"], "line 1, column 3: M is not bound here; no ML name is"),
     ];
     for (words, message) in cases {
         let (status, shown, said) = printed(words, b"N M");
@@ -208,9 +245,8 @@ fn that_nobody_reads_on_is_no_fault() {
         for words in [&["step", "--to", "4294967295"][..], &["run"], &["show"], &["--help"]] {
             let mut errors = Vec::new();
             let mut output = Failing { takes, with: ErrorKind::BrokenPipe };
-            // The spinning recipe never ends: the step has to stop where nobody reads on.
-            let spins = words[0] == "step";
-            let input: &[u8] = if spins { b"N (fix (fn N v0))" } else { WRAPPED };
+            // The counting recipe comes to no end: the step has to stop where nobody reads on.
+            let input: &[u8] = if words[0] == "step" { COUNTING } else { WRAPPED };
             assert_eq!(typed_into(words, input, &mut output, &mut errors), 0, "{words:?}");
             assert!(errors.is_empty(), "{words:?}");
         }

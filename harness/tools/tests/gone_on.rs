@@ -146,7 +146,8 @@ fn other_words_left_by_a_run_of_one_step() {
 #[test]
 fn deep_saves_are_known_beforehand() {
     let right = on_large_stack(|| compare_saved_stack(right_save, 64 << 20)).expect("as known");
-    assert_eq!(right.len(), 6);
+    // Six by hand; 3 parts of types that are types, 16 of ML that are ML, 15 of Scheme and the boundaries, each nested in two ways.
+    assert_eq!(right.len(), 6 + 2 * (3 + 16 + 15 + 1));
     let all: Save = |_, _, _| RecipeSaved::default();
     assert!(compare_saved_stack(all, 64 << 20).is_err());
     let kept: Save = |declared, term, out| {

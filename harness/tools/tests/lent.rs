@@ -3,7 +3,7 @@
 use model::run::MOST_WORDS;
 use model::{on_large_stack, run, End, Ended, Refusal};
 use tools::compare::lent::{largest_capacity, millions_wanted, small_buffers};
-use tools::compare::{compare_stack, Case};
+use tools::compare::{compare_stack, Case, Room};
 use tools::stand_in;
 
 /// A case, and what the model answers.
@@ -121,7 +121,8 @@ fn depth(words: &[u32]) -> usize {
 
 #[test]
 fn a_term_of_16_384_words_nested_16_382_deep() {
-    let shown = compare_stack(stand_in::run, 512 << 20).unwrap_or_else(|shown| panic!("{shown}"));
+    let shown = compare_stack(stand_in::run, Room { words: MOST_WORDS, bytes: 512 << 20 })
+        .unwrap_or_else(|shown| panic!("{shown}"));
     assert_eq!(shown[0], "tl nested: 16384 words after 16378 steps");
     // The last substitution went through 16,347 lambdas.
     assert_eq!(shown[8], "lambdas nested, and substituted into: 16378 words after 49043 steps");

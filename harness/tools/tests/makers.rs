@@ -12,6 +12,7 @@ use model::step::{step, Step};
 use model::{check, on_large_stack, run, save, End, Ml, Recipe, Scheme};
 use std::collections::BTreeSet;
 use tools::make::cans::can_file;
+use tools::make::nodes::any_node_words;
 use tools::make::owners::without_owners;
 use tools::make::prices::{any_prices, differing};
 use tools::make::saves::{any_room, any_words, outgrowing};
@@ -28,6 +29,32 @@ fn well_typed_files_are_accepted() {
         assert!(numbers.iter().all(|&number| number == 1), "{numbers:?}");
         assert!(numbers.len() < 30, "{} are too large", numbers.len());
     });
+}
+
+#[test]
+fn choices_are_drawn_one_by_one_and_then_the_first_stream() {
+    let mut random = Random::of_choices(&[0, 1, 0xab]);
+    assert_eq!([random.draw(), random.draw()], [0, 0x0101_0101_0101_0101]);
+    assert_eq!(random.word(), 0xabab_abab);
+    let mut first = Random::new(0, 0);
+    assert_eq!([random.draw(), random.draw()], [first.draw(), first.draw()]);
+}
+
+#[test]
+fn each_of_up_to_256_can_be_chosen() {
+    for count in 1..=256 {
+        let chosen: BTreeSet<usize> = (0..=255).map(|byte| Random::of_choices(&[byte]).below(count)).collect();
+        assert_eq!(chosen.len(), count);
+    }
+}
+
+#[test]
+fn words_to_ask_about_may_be_more_than_a_file_has() {
+    // The fuzzer came upon these choices: the recipe that they make has more than 16,384 bytes.
+    let rows = [(0xb7, 6), (0xbf, 1), (0xb7, 4), (0x4c, 1), (0xf5, 86), (0xe8, 54), (0xb7, 72), (0x29, 1), (0xb7, 44)];
+    let choices: Vec<u8> = rows.iter().flat_map(|&(choice, times)| vec![choice; times]).collect();
+    let words = on_large_stack(|| any_node_words(&mut Random::of_choices(&choices)));
+    assert!(words.len() > 4_096, "{}", words.len());
 }
 
 /// The owners of all lumps in a node.

@@ -351,7 +351,10 @@ fn unplaced<const REFUSAL: u32>(file: &[u8], limit: u32, first: &mut [u32], seco
 #[test]
 fn the_deepest_that_are_refused_are_known_beforehand() {
     let right = compare_saved_stack(right_save, 64 << 20).expect("no difference");
-    assert_eq!(right.iter().filter(|told| told.contains(": refused 6 ") || told.contains(": refused 7 ")).count(), 2);
+    assert_eq!(
+        right[..6].iter().filter(|told| told.contains(": refused 6 ") || told.contains(": refused 7 ")).count(),
+        2
+    );
     for (number, save) in [(6, unplaced_save::<6> as Save), (7, unplaced_save::<7>)] {
         let shown = compare_saved_stack(save, 64 << 20).expect_err("a difference");
         assert!(shown.contains(&format!("refusal: {number}, place: 0")), "{shown}");

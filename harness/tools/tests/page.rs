@@ -1,7 +1,7 @@
 //! Every example of docs/RECIPES.md is run, and prints what the page shows.
 //!
 //! A block that is marked `console` holds commands, each behind `$ `, and what they print. Of a shell it understands
-//! `recipe` with its output put into a file or its input from `echo`, `cat` and `echo $?`. With the feature `run` the
+//! `recipe` with its output put into a file or its input from `echo` or `printf`, `cat` and `echo $?`. With the feature `run` the
 //! program is run with the engine in it, else what it is made of with the model in the engine's place.
 
 mod common;
@@ -53,15 +53,37 @@ fn echoed(command: &str) -> Option<(String, &str)> {
     Some((format!("{text}\n"), command))
 }
 
+/// The bytes that `printf 'TEXT' | ...` writes, a line feed for `\n` and a byte for `\x` and two digits, and the command behind it.
+fn printed(command: &str) -> Option<(Vec<u8>, &str)> {
+    let (text, command) = command.strip_prefix("printf '")?.split_once("' | ")?;
+    let (start, rest) = text.split_once('\\').unwrap_or((text, ""));
+    let mut bytes = start.as_bytes().to_vec();
+    for piece in rest.split('\\').filter(|piece| !piece.is_empty()) {
+        let (byte, behind) = match piece.strip_prefix('x') {
+            Some(digits) => (u8::from_str_radix(&digits[..2], 16).expect("two digits"), &digits[2..]),
+            None => (b'\n', piece.strip_prefix('n').expect("a line feed")),
+        };
+        bytes.push(byte);
+        bytes.extend(behind.as_bytes());
+    }
+    Some((bytes, command))
+}
+
+/// What a command has for its input, and the command behind it.
+fn fed(command: &str) -> (Vec<u8>, &str) {
+    let echoed = echoed(command).map(|(text, command)| (text.into_bytes(), command));
+    echoed.or_else(|| printed(command)).unwrap_or((Vec::new(), command))
+}
+
 /// The program with the engine in it.
 #[cfg(feature = "run")]
-fn recipe(words: &[&str], input: &str) -> (u8, Vec<u8>, String) {
+fn recipe(words: &[&str], input: &[u8]) -> (u8, Vec<u8>, String) {
     use std::io::Write;
     use std::process::{Command, Stdio};
     let mut program = Command::new(env!("CARGO_BIN_EXE_recipe"));
     program.args(words).stdin(Stdio::piped()).stdout(Stdio::piped()).stderr(Stdio::piped());
     let mut child = program.spawn().expect("the program starts");
-    let _ = child.stdin.take().expect("its input").write_all(input.as_bytes());
+    let _ = child.stdin.take().expect("its input").write_all(input);
     let output = child.wait_with_output().expect("the program ends");
     let status = output.status.code().and_then(|code| u8::try_from(code).ok()).expect("a status");
     (status, output.stdout, String::from_utf8(output.stderr).expect("text"))
@@ -69,13 +91,13 @@ fn recipe(words: &[&str], input: &str) -> (u8, Vec<u8>, String) {
 
 /// The program's parts with the model in the engine's place.
 #[cfg(not(feature = "run"))]
-fn recipe(words: &[&str], input: &str) -> (u8, Vec<u8>, String) {
-    common::typed(words, input.as_bytes())
+fn recipe(words: &[&str], input: &[u8]) -> (u8, Vec<u8>, String) {
+    common::typed(words, input)
 }
 
 /// Does what the command says; the status of the last recipe is kept. Answers with what is printed.
 fn typed(example: &Example, status: &mut u8) -> String {
-    let (input, command) = echoed(&example.command).unwrap_or((String::new(), &example.command));
+    let (input, command) = fed(&example.command);
     let (command, file) = command.split_once(" > ").unwrap_or((command, ""));
     let words: Vec<&str> = command.split_whitespace().collect();
     match words[..] {
@@ -150,7 +172,7 @@ fn every_command_refusal_end_and_class_is_on_the_page() {
     for class in ["call", "conversion", "other"] {
         assert!(examples.iter().any(|example| example.printed.contains(&format!(" ({class})\n"))), "{class}");
     }
-    for command in ["make", "show", "check", "run", "step", "price", "card", "outline"] {
+    for command in ["make", "show", "check", "run", "step", "price", "card", "outline", "page"] {
         assert!(examples.iter().any(|example| example.command.contains(&format!("recipe {command}"))), "{command}");
     }
 }

@@ -1,14 +1,19 @@
 //! Planted errors are found, shrunk to a small recipe and shown; the model itself shows no difference.
 
+use model::run::MOST_WORDS;
 use model::{on_large_stack, run, End};
 use std::path::Path;
 use tools::compare::{
     compare_carded_stack, compare_check, compare_list, compare_priced_stack, compare_run, compare_stack, missing, Plan,
+    Room,
 };
 use tools::engine::{Card, Check, Price, RecipeCard, RecipePriced, RecipeRun, Run};
 use tools::stand_in::{check as right_check, run as right_run};
 
 const PLAN: Plan = Plan { files: 3_000, seed: 1, start: 0 };
+
+/// The most words, and a stack that serves the model too.
+const ROOM: Room = Room { words: MOST_WORDS, bytes: 64 << 20 };
 
 fn check_shown(engine: Check) -> String {
     on_large_stack(|| compare_check(engine, PLAN)).err().expect("a difference")
@@ -93,7 +98,7 @@ fn deep_ends_are_known_beforehand() {
         30 => right_run(file, limit, first, second),
         _ => RecipeRun::default(),
     };
-    assert!(compare_stack(engine, 64 << 20).is_err());
+    assert!(compare_stack(engine, ROOM).is_err());
 }
 
 /// The run of tl nested 16,378 deep around the fix, as it is known beforehand.
@@ -107,7 +112,7 @@ fn nested_tl(first: &mut [u32]) -> RecipeRun {
 #[test]
 fn a_deep_run_that_is_full_and_charged() {
     let engine: Price = |_, _, _, first, _| RecipePriced { run: nested_tl(first), total: 1, ..RecipePriced::default() };
-    let shown = compare_priced_stack(engine, 64 << 20).expect_err("a difference");
+    let shown = compare_priced_stack(engine, ROOM).expect_err("a difference");
     assert!(shown.starts_with("tl nested: ") && shown.contains("total: 0") && shown.contains("total: 1"), "{shown}");
 }
 
@@ -117,7 +122,7 @@ fn a_deep_run_that_is_full_and_leaves_the_card_as_it_was() {
         let priced = RecipePriced { run: nested_tl(first), ..RecipePriced::default() };
         RecipeCard { priced, bytes: 0 }
     };
-    let shown = compare_carded_stack(engine, 64 << 20).expect_err("a difference");
+    let shown = compare_carded_stack(engine, ROOM).expect_err("a difference");
     assert!(shown.starts_with("tl nested: ") && shown.contains("[0, 0") && shown.contains("[7, 7"), "{shown}");
 }
 

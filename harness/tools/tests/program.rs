@@ -41,7 +41,7 @@ fn make_and_show() {
     assert_eq!(seen(&["show"], &made.stdout), (0, "N\n(add 2 3)\n".into(), "".into()));
     assert_eq!(
         seen(&["make"], b"N (add 2"),
-        (2, "".into(), "recipe: line 1, column 9: the text ends where an ML term is due\n".into())
+        (2, "".into(), "recipe: line 1, column 9: the text ends, and the ( of line 1, column 3 is not closed\n".into())
     );
 }
 
@@ -59,7 +59,7 @@ fn show_explains_damage() {
 
 #[test]
 fn help_and_faults() {
-    for command in ["make", "show", "check", "run", "step", "price", "card", "outline"] {
+    for command in ["make", "show", "check", "run", "step", "price", "card", "outline", "page"] {
         let (status, printed, _) = seen(&[command, "--help"], b"");
         assert!(status == 0 && printed.starts_with(&format!("usage: recipe {command}")), "{printed}");
     }
@@ -87,15 +87,19 @@ fn a_closed_pipe_is_no_fault() {
     assert_eq!(unread(&["show"], &words(&[1, 4, 1, 5, 1, 99]), |child| drop(child.stderr.take())).0, Some(1));
 }
 
+/// Counts up, and comes to no end in a million steps.
+#[cfg(feature = "run")]
+const COUNTING: &[u8] = b"N (app (fix (fn (N to N) (fn N (app v1 (add v0 1))))) 0)";
+
 #[cfg(feature = "run")]
 #[test]
 fn a_step_by_step_that_nobody_reads_on_ends() {
     use std::io::{BufRead, BufReader};
     let mut child = start(&["step", "--to", "4294967295"]);
-    child.stdin.take().expect("its input").write_all(b"N (fix (fn N v0))").expect("it reads");
+    child.stdin.take().expect("its input").write_all(COUNTING).expect("it reads");
     let mut line = String::new();
     BufReader::new(child.stdout.take().expect("its output")).read_line(&mut line).expect("a line");
-    assert_eq!(line, "step 0, 4 words\n");
+    assert_eq!(line, "step 0, 14 words\n");
     let output = child.wait_with_output().expect("the program ends");
     assert_eq!((output.status.code(), output.stderr), (Some(0), Vec::new()));
 }
@@ -103,8 +107,17 @@ fn a_step_by_step_that_nobody_reads_on_ends() {
 #[cfg(not(feature = "check"))]
 #[test]
 fn without_the_engine() {
-    for command in ["check", "run", "step", "price", "card", "outline"] {
-        let (status, _, said) = seen(&[command], b"N 1");
+    let commands: [&[&str]; 7] = [
+        &["check"],
+        &["run"],
+        &["step"],
+        &["price"],
+        &["card"],
+        &["outline"],
+        &["page", "-o", "no such folder/run.html"],
+    ];
+    for command in commands {
+        let (status, _, said) = seen(command, b"N 1");
         assert!(status == 2 && said.contains("built without the engine"), "{said}");
     }
 }
@@ -132,10 +145,14 @@ fn run_and_step() {
     assert_eq!(seen(&["run", "--limit", "4"], wrapped).1, spent);
     let steps = seen(&["step"], wrapped).1;
     assert_eq!(steps.lines().filter(|line| line.starts_with("  -> ")).count(), 5);
-    assert!(steps.contains("step 1, 12 words\n  [[(app (fn N (ms N (app (fn v0) (sm N v0)))) 7)]]\n"), "{steps}");
-    assert!(seen(&["step", "--to", "2"], b"N (fix (fn N v0))").1.ends_with("stopped at step 2; --to goes further\n"));
-    let error = "error 4 after 2 steps: an empty list, or the recipe's own code\n0 calls, 0 conversions, 2 others\n";
-    assert!(seen(&["step"], b"N (hd (nil N))").1.ends_with(error));
+    assert!(steps.contains("step 1, 12 words\n  [[(app (fn (x N) (ms N (app (fn (y) y) (sm N x)))) 7)]]\n"), "{steps}");
+    assert!(seen(&["step", "--to", "2"], COUNTING).1.ends_with("stopped at step 2; --to goes further\n"));
+    let error = "error 4 after 2 steps: an empty list\n0 calls, 0 conversions, 2 others\n\
+                 made by a rule at step 0: ML hd of nil: wrong 4\n\
+                 from the hd at line 1, column 3 of the text, word 5 of the file: (hd (nil N))\n\
+                 the value: (nil N), from line 1, column 7 of the text, word 6 of the file\n";
+    assert!(seen(&["step"], b"N (hd (nil N))").1.contains(error));
+    assert_eq!(seen(&["run"], b"N (hd (nil N))").1, error);
     assert_eq!(seen(&["run"], b"L 3").0, 1);
 }
 
@@ -176,7 +193,7 @@ fn save_and_go_on() {
     let wrapped = b"N (app (ms (N to N) (fn v0)) 7)";
     let spent = "spent after 4 steps, 3 words\n2 calls, 2 conversions, 0 others\n(ms N 7)\n";
     let said = format!("saved in {name}, 32 bytes; to go on: recipe run {name}\n");
-    assert_eq!(seen(&["run", "--limit", "4", "--save", &name], wrapped), (0, spent.to_string() + &said, "".into()));
+    assert_eq!(seen(&["run", "--limit", "4", "--save", &name], wrapped), (4, spent.to_string() + &said, "".into()));
     assert_eq!(std::fs::read(&out).expect("the file"), words(&[1, 4, 3, 5, 1, 30, 1, 33 + 256 * 7]));
     let rest = "value after 1 step, 1 word\n0 calls, 1 conversion, 0 others\n7\n";
     assert_eq!(seen(&["run", &name], b""), (0, rest.into(), "".into()));

@@ -75,27 +75,31 @@ fn a_buffer_that_is_too_short_is_refused_with_both_lengths() {
 #[test]
 fn an_end_without_a_charge_has_no_card() {
     let none = "no charge: the run did not end in a value\nno card: only a can with a charge has one\n";
-    let cases: [(&[u8], &[&str], &str); 3] = [
+    let cases: [(u8, &[u8], &[&str], &str); 3] = [
         (
+            4,
             b"{N} (cons (add 1 2) (nil N))",
             &["--limit", "0"],
-            "spent after 0 steps, 6 words\n0 calls, 0 conversions, 0 others\n(cons (add 1 2) (nil N))\n",
+            "spent after 0 steps, 6 words\n0 calls, 0 conversions, 0 others\n{(add 1 2)}\n",
         ),
         (
+            3,
             b"{N} (cons (wrong 9 N) (nil N))",
             &[],
-            "error 9 after 1 step: the recipe's own code\n0 calls, 0 conversions, 1 other\n",
+            "error 9 after 1 step: the recipe's own code\n0 calls, 0 conversions, 1 other\n\
+             made by the recipe's own wrong 9 at line 1, column 11 of the text, word 7 of the file\n",
         ),
         (
+            5,
             b"{N} (ms {N} (cons 1 nil))",
             &["--words", "6"],
-            "full after 0 steps: the next term has 8 words\n0 calls, 0 conversions, 0 others\n(ms {N} (cons 1 nil))\n",
+            "full after 0 steps: the next term has 8 words\n0 calls, 0 conversions, 0 others\n(ms {N} {1})\n",
         ),
     ];
-    for (recipe, options, told) in cases {
-        assert_eq!(card(recipe, options), (1, "".into(), told.to_string() + none));
+    for (status, recipe, options, told) in cases {
+        assert_eq!(card(recipe, options), (status, "".into(), told.to_string() + none));
         // No bytes at all are enough for no card.
-        assert_eq!(card(recipe, &[options, &["--bytes", "0"]].concat()), (1, "".into(), told.to_string() + none));
+        assert_eq!(card(recipe, &[options, &["--bytes", "0"]].concat()), (status, "".into(), told.to_string() + none));
     }
 }
 
@@ -150,7 +154,7 @@ fn what_is_not_understood() {
     assert_eq!(card(b"{N} (nil N)", &["--bytes", "few"]), (2, "".into(), few));
     let (status, shown, said) = card(b"{N} (fn", &[]);
     assert_eq!((status, shown.as_str()), (2, ""));
-    assert_eq!(said, "recipe: line 1, column 8: the text ends where a type is due\n");
+    assert_eq!(said, "recipe: line 1, column 8: the text ends, and the ( of line 1, column 5 is not closed\n");
 }
 
 #[test]

@@ -27,25 +27,27 @@ fn explained(text: &str, column: usize, word: usize, marked: &str, lines: &[&str
 
 #[test]
 fn what_is_no_function() {
-    let why = "the first part of app is no function";
-    let lines = [why, "due:   a function, (t to u)", "found: N", "parts: N, N"];
-    explained("N (add 3 (app 1 2))", 10, 7, "(add 3 [[(app 1 2)]])", &lines);
-    let lines = [why, "due:   a function, (t to u)", "found: {(N to L7)}", "parts: {(N to L7)}, N"];
-    explained("N (app (nil (N to L7)) 2)", 3, 5, "[[(app (nil (N to L7)) 2)]]", &lines);
-    let lines = ["the part of fix is no function", "due:   a function, (t to t)", "found: L7"];
-    explained("L7 (fix (ms L7 nil))", 4, 5, "[[(fix (ms L7 nil))]]", &lines);
+    let why = |column: usize| format!("the first part of app, at line 1, column {column}, is no function");
+    let lines = [&why(15)[..], "due:   a function, (t to u)", "found: N", "parts: N, N"];
+    explained("N (add 3 (app 1 2))", 10, 7, "(add 3 [[(app <<1>> 2)]])", &lines);
+    let lines = [&why(8)[..], "due:   a function, (t to u)", "found: {(N to L7)}", "parts: {(N to L7)}, N"];
+    explained("N (app (nil (N to L7)) 2)", 3, 5, "[[(app <<(nil (N to L7))>> 2)]]", &lines);
+    let lines = ["the part of fix, at line 1, column 9, is no function", "due:   a function, (t to t)", "found: L7"];
+    explained("L7 (fix (ms L7 nil))", 4, 5, "[[(fix <<(ms L7 nil)>>)]]", &lines);
 }
 
 #[test]
 fn an_argument_that_does_not_fit() {
-    let why = "the second part of app is not of the type that the function takes";
-    let marked = "(add 1 [[(app (fn N v0) (nil N))]])";
+    let why = |column: usize| {
+        format!("the second part of app, at line 1, column {column}, is not of the type that the function takes")
+    };
+    let marked = "(add 1 [[(app (fn (x N) x) <<(nil N)>>)]])";
     explained(
         "N (add 1 (app (fn N v0) (nil N)))",
         10,
         7,
         marked,
-        &[why, "due:   N", "found: {N}", "parts: (N to N), {N}"],
+        &[&why(25), "due:   N", "found: {N}", "parts: (N to N), {N}"],
     );
     // Both begin with a function from N.
     let text = "N (app (fn (N to {N}) 1) (fn N v0))";
@@ -53,41 +55,48 @@ fn an_argument_that_does_not_fit() {
         text,
         3,
         5,
-        "[[(app (fn (N to {N}) 1) (fn N v0))]]",
-        &[why, "due:   (N to [[{N}]])", "found: (N to [[N]])", "parts: ((N to {N}) to N), (N to N)"],
+        "[[(app (fn (x (N to {N})) 1) <<(fn (x N) x)>>)]]",
+        &[&why(26), "due:   (N to [[{N}]])", "found: (N to [[N]])", "parts: ((N to {N}) to N), (N to N)"],
     );
 }
 
 #[test]
 fn sides_of_a_fix_that_are_unequal() {
-    let why = "the function of fix takes one type and gives another";
-    explained("N (fix (fn N (nil N)))", 3, 5, "[[(fix (fn N (nil N)))]]", &[why, "takes: N", "gives: {N}"]);
-    let marked = "[[(fix (fn {N} (nil L)))]]";
-    explained("{N} (fix (fn {N} (nil L)))", 5, 6, marked, &[why, "takes: {[[N]]}", "gives: {[[L]]}"]);
+    let why =
+        |column: usize| format!("the function of fix, at line 1, column {column}, takes one type and gives another");
+    explained("N (fix (fn N (nil N)))", 3, 5, "[[(fix <<(fn (x N) (nil N))>>)]]", &[&why(8), "takes: N", "gives: {N}"]);
+    let marked = "[[(fix <<(fn (x {N}) (nil L))>>)]]";
+    explained("{N} (fix (fn {N} (nil L)))", 5, 6, marked, &[&why(10), "takes: {[[N]]}", "gives: {[[L]]}"]);
 }
 
 #[test]
 fn parts_that_are_no_numbers() {
-    for (name, text) in [("add", "N (add (nil N) 1)"), ("subtract", "N (subtract (nil N) 1)")] {
-        let why = format!("the first part of {name} is no number");
-        explained(text, 3, 5, &format!("[[({name} (nil N) 1)]]"), &[&why, "due:   N", "found: {N}", "parts: {N}, N"]);
-    }
-    for (name, text) in [("add", "N (add 1 (fn N v0))"), ("subtract", "N (subtract 1 (fn N v0))")] {
-        let why = format!("the second part of {name} is no number");
+    for (name, text, column) in [("add", "N (add (nil N) 1)", 8), ("subtract", "N (subtract (nil N) 1)", 13)] {
+        let why = format!("the first part of {name}, at line 1, column {column}, is no number");
         explained(
             text,
             3,
             5,
-            &format!("[[({name} 1 (fn N v0))]]"),
+            &format!("[[({name} <<(nil N)>> 1)]]"),
+            &[&why, "due:   N", "found: {N}", "parts: {N}, N"],
+        );
+    }
+    for (name, text, column) in [("add", "N (add 1 (fn N v0))", 10), ("subtract", "N (subtract 1 (fn N v0))", 15)] {
+        let why = format!("the second part of {name}, at line 1, column {column}, is no number");
+        explained(
+            text,
+            3,
+            5,
+            &format!("[[({name} 1 <<(fn (x N) x)>>)]]"),
             &[&why, "due:   N", "found: (N to N)", "parts: N, (N to N)"],
         );
     }
-    let why = "the first part of if0 is no number";
+    let why = "the first part of if0, at line 1, column 8, is no number";
     explained(
         "N (if0 (nil L9) 1 2)",
         3,
         5,
-        "[[(if0 (nil L9) 1 2)]]",
+        "[[(if0 <<(nil L9)>> 1 2)]]",
         &[why, "due:   N", "found: {L9}", "parts: {L9}, N, N"],
     );
 }
@@ -98,67 +107,73 @@ fn branches_of_two_types() {
     let lines = [why, "second: {N}", "third:  N"];
     explained("N (add 1 (if0 0 (nil N) 2))", 10, 7, "(add 1 [[(if0 0 (nil N) 2)]])", &lines);
     let lines = [why, "second: (N to [[N]])", "third:  (N to [[L]])"];
-    let marked = "[[(if0 0 (fn N 1) (fn N (ms L 1)))]]";
+    let marked = "[[(if0 0 (fn (x N) 1) (fn (x N) (ms L 1)))]]";
     explained("(N to N) (if0 0 (fn N 1) (fn N (ms L 1)))", 10, 7, marked, &lines);
 }
 
 #[test]
 fn a_tail_that_is_no_list_of_the_head() {
-    let why = "the second part of cons is no list of what the first part is";
-    explained("{N} (cons 1 2)", 5, 6, "[[(cons 1 2)]]", &[why, "due:   {N}", "found: N", "parts: N, N"]);
-    let marked = "(cons 1 [[(cons 2 (nil L))]])";
+    let why = |column: usize| {
+        format!("the second part of cons, at line 1, column {column}, is no list of what the first part is")
+    };
+    explained("{N} (cons 1 2)", 5, 6, "[[(cons 1 <<2>>)]]", &[&why(13), "due:   {N}", "found: N", "parts: N, N"]);
+    let marked = "(cons 1 [[(cons 2 <<(nil L)>>)]])";
     explained(
         "{N} (cons 1 (cons 2 (nil L)))",
         13,
         8,
         marked,
-        &[why, "due:   {[[N]]}", "found: {[[L]]}", "parts: N, {L}"],
+        &[&why(21), "due:   {[[N]]}", "found: {[[L]]}", "parts: N, {L}"],
     );
 }
 
 #[test]
 fn parts_that_are_no_lists() {
-    for name in ["hd", "tl", "null?"] {
-        let (text, marked) = (format!("N (add 1 ({name} (fn N v0)))"), format!("(add 1 [[({name} (fn N v0))]])"));
-        let why = format!("the part of {name} is no list");
+    for (name, column) in [("hd", 14), ("tl", 14), ("null?", 17)] {
+        let (text, marked) =
+            (format!("N (add 1 ({name} (fn N v0)))"), format!("(add 1 [[({name} <<(fn (x N) x)>>)]])"));
+        let why = format!("the part of {name}, at line 1, column {column}, is no list");
         explained(&text, 10, 7, &marked, &[&why, "due:   a list, {t}", "found: (N to N)"]);
     }
 }
 
 #[test]
 fn an_sm_of_another_type() {
-    let why = "the term of sm is not of the type that sm names";
-    let marked = "(ms N (add 1 [[(sm {N} 2)]]))";
+    let why = "the term of sm, at line 1, column 24, is not of the type that sm names";
+    let marked = "(ms N (add 1 [[(sm {N} <<2>>)]]))";
     explained("N (ms N (add 1 (sm {N} 2)))", 16, 9, marked, &[why, "due:   {N}", "found: N"]);
 }
 
 #[test]
 fn the_node_is_named_whose_parts_are_in_order() {
-    let lines = ["the part of hd is no list", "due:   a list, {t}", "found: N"];
-    explained("N (if0 (nil N) (hd 3) 1)", 16, 8, "(if0 (nil N) [[(hd 3)]] 1)", &lines);
-    explained("N (add (hd 3) (tl 4))", 8, 6, "(add [[(hd 3)]] (tl 4))", &lines);
+    let why = |column: usize| format!("the part of hd, at line 1, column {column}, is no list");
+    let lines = [&why(20)[..], "due:   a list, {t}", "found: N"];
+    explained("N (if0 (nil N) (hd 3) 1)", 16, 8, "(if0 (nil N) [[(hd <<3>>)]] 1)", &lines);
+    let lines = [&why(12)[..], "due:   a list, {t}", "found: N"];
+    explained("N (add (hd 3) (tl 4))", 8, 6, "(add [[(hd <<3>>)]] (tl 4))", &lines);
 }
 
 #[test]
 fn a_file_that_is_no_text_has_words_alone() {
     let (status, _, errors) = printed(&["check"], &bytes_of(&[1, 4, 4, 5, 1, 21, 17, 26, 17]));
     let due =
-        "  word 7 of the file\n  (add 0 [[(hd 0)]])\n  the part of hd is no list\n  due:   a list, {t}\n  found: N\n";
+        "  word 7 of the file\n  (add 0 [[(hd <<0>>)]])\n  the part of hd is no list\n  due:   a list, {t}\n  found: N\n";
     assert_eq!((status, errors), (1, format!("{NO_TYPE}\n{due}")));
 }
 
 #[test]
 fn of_a_long_term_the_lines_around_the_node_are_shown() {
-    // A list of 99 sums, the 70th of which is of no number. Each cons begins a line of its own.
+    // A sum of 99 sums, the 70th of which is of no number. Each sum begins a line of its own.
     let item = |at: usize| if at == 70 { "(add 70 (nil N))".to_string() } else { format!("(add {at} 1)") };
-    let list = (1..100).rev().fold("(nil N)".to_string(), |rest, at| format!("(cons {} {rest})", item(at)));
-    let told = said(&format!("{{N}}\n{list}"), NO_TYPE);
-    // 69 conses of a word and a sum of three words each, then the cons.
-    assert!(told.contains(", word 283 of the file\n") && told.starts_with("  line 2, column "), "{told}");
+    let sum = (1..100).rev().fold("0".to_string(), |rest, at| format!("(add {} {rest})", item(at)));
+    let told = said(&format!("N\n{sum}"), NO_TYPE);
+    // The type, then 69 sums of a word and a sum of three words each, then the 70th's word.
+    assert!(told.contains(", word 282 of the file\n") && told.starts_with("  line 2, column "), "{told}");
     let lines: Vec<&str> = told.lines().map(str::trim).collect();
-    let at = lines.iter().position(|line| *line == "[[(add 70 (nil N))]]").expect("the node");
+    let at = lines.iter().position(|line| *line == "[[(add 70 <<(nil N)>>)]]").expect("the node");
     assert_eq!((lines[1], lines[2], lines[at - 2], lines[at + 2]), ("..", "(add 66 1)", "(add 69 1)", "(add 71 1)"));
-    let why = "the second part of add is no number";
+    // Nine sums have 15 letters with what is before and behind them, 60 have 16; then come `(add (add 70 `.
+    let why = "the second part of add, at line 2, column 1109, is no number";
     assert_eq!(lines[lines.len() - 5..], ["..", why, "due:   N", "found: {N}", "parts: N, {N}"]);
     assert!(lines.len() < 30, "{told}");
 }
@@ -246,7 +261,12 @@ fn said_of(check: Check, text: &str) -> String {
 fn the_engines_own_place_is_taken() {
     // Of two nodes the engine names the second.
     let told = said_of(|_| 6 + 256 * 8, "N (add (hd 3) (tl 4))");
-    assert!(told.contains("word 8 of the file\n  (add (hd 3) [[(tl 4)]])\n  the part of tl is no list\n"), "{told}");
+    assert!(
+        told.contains(
+            "word 8 of the file\n  (add (hd 3) [[(tl <<4>>)]])\n  the part of tl, at line 1, column 19, is no list\n"
+        ),
+        "{told}"
+    );
 }
 
 #[test]

@@ -176,10 +176,14 @@ fn a_file_whose_words_cannot_be_found_has_no_outline() {
         let (status, drawn, said) = printed(&["outline"], bytes);
         assert!((status, drawn.as_str()) == (1, "") && said.starts_with("refused 1: a recipe file has"), "{said}");
     }
-    // A text that makes a file too long.
+    // A text that would make a file too long.
     let long = format!("N {}", tools::make::sum(&vec!["1".to_string(); 2_100]));
     let (status, drawn, said) = printed(&["outline"], long.as_bytes());
-    assert!((status, drawn.as_str()) == (1, "") && said.ends_with("  the file has 16816 bytes\n"), "{said}");
+    assert!(
+        (status, drawn.as_str()) == (2, "")
+            && said.ends_with(": the recipe has more than 4,092 words; a file has at most 16,384 bytes\n"),
+        "{said}"
+    );
 }
 
 #[test]

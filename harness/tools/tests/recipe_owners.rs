@@ -25,7 +25,7 @@ fn owners(found: u32, due: u32, types: &str, advice: &str) -> String {
 #[test]
 fn make_and_show_write_owners_as_the_text_form_does() {
     let file = bytes_of(&[4, 4, 4, 8, 4, lump(0), 3, lump(255), 18, lump(0), 24, lump(255)]);
-    assert_eq!(printed(&["show"], &file), (0, "(L to {L255})\n(fn L (nil L255))\n".into(), "".into()));
+    assert_eq!(printed(&["show"], &file), (0, "(L to {L255})\n(fn (x L) (nil L255))\n".into(), "".into()));
     for text in ["(L to {L255}) (fn L (nil L255))", "(L0 to {L255}) (fn L00 (nil L0255))"] {
         assert_eq!(typed(&["make"], text.as_bytes()), (0, file.clone(), "".into()));
     }
@@ -61,23 +61,26 @@ fn a_file_with_an_owner_over_255_is_explained_at_its_word() {
 fn a_mismatch_of_owners_is_explained_at_every_rule() {
     let alone = owners(7, 9, "", ": (ms L9 (sm L7 e))");
     let argument =
-        "the second part of app is not of the type that the function takes\ndue:   L9\nfound: L7\nparts: (L9 to N), L7";
+        "the second part of app, at line 1, column 18, is not of the type that the function takes\ndue:   L9\nfound: L7\nparts: (L9 to N), L7";
     let branches = "the second and the third part of if0 are of two types\nsecond: L9\nthird:  L7";
-    let sides = "the function of fix takes one type and gives another\ntakes: L9\ngives: L7";
-    let term = "the term of sm is not of the type that sm names\ndue:   L9\nfound: L7";
+    let sides = "the function of fix, at line 1, column 9, takes one type and gives another\ntakes: L9\ngives: L7";
+    let [direct, named] = [16, 28].map(|column| {
+        format!("the term of sm, at line 1, column {column}, is not of the type that sm names\ndue:   L9\nfound: L7")
+    });
     for (text, marked, why) in [
-        ("N (app (fn L9 1) (ms L7 2))", "[[(app (fn L9 1) (ms L7 2))]]", argument),
+        ("N (app (fn L9 1) (ms L7 2))", "[[(app (fn (x L9) 1) <<(ms L7 2)>>)]]", argument),
         ("L9 (if0 0 (ms L9 1) (ms L7 1))", "[[(if0 0 (ms L9 1) (ms L7 1))]]", branches),
-        ("L9 (fix (fn L9 (ms L7 1)))", "[[(fix (fn L9 (ms L7 1)))]]", sides),
-        ("N (ms N (sm L9 (ms L7 4)))", "(ms N [[(sm L9 (ms L7 4))]])", term),
-        ("N (app (fn L7 (ms N (sm L9 v0))) (ms L7 4))", "(app (fn L7 (ms N [[(sm L9 v0)]])) (ms L7 4))", term),
+        ("L9 (fix (fn L9 (ms L7 1)))", "[[(fix <<(fn (x L9) (ms L7 1))>>)]]", sides),
+        ("N (ms N (sm L9 (ms L7 4)))", "(ms N [[(sm L9 <<(ms L7 4)>>)]])", &direct),
+        ("N (app (fn L7 (ms N (sm L9 v0))) (ms L7 4))", "(app (fn (x L7) (ms N [[(sm L9 <<x>>)]])) (ms L7 4))", &named),
     ] {
         assert_eq!(said(text, 6), format!("{marked}\n{why}\n{alone}"), "{text}");
     }
     // The tail of a cons is to be a list of what its head is.
     let list = owners(7, 9, ": {L7} for {L9}", ": (ms {L9} (sm {L7} e))");
-    let tail = "the second part of cons is no list of what the first part is\ndue:   {[[L9]]}\nfound: {[[L7]]}\nparts: L9, {L7}";
-    assert_eq!(said("{L9} (cons (ms L9 1) (nil L7))", 6), format!("[[(cons (ms L9 1) (nil L7))]]\n{tail}\n{list}"));
+    let why = "the second part of cons, at line 1, column 22, is no list of what the first part is";
+    let tail = why.to_string() + "\ndue:   {[[L9]]}\nfound: {[[L7]]}\nparts: L9, {L7}";
+    assert_eq!(said("{L9} (cons (ms L9 1) (nil L7))", 6), format!("[[(cons (ms L9 1) <<(nil L7)>>)]]\n{tail}\n{list}"));
     assert_eq!(said("L9 (ms L7 3)", 7), format!("declared: [[L9]]\nfound:    [[L7]]\n{alone}"));
     assert_eq!(said("{L9} (nil L7)", 7), format!("declared: {{[[L9]]}}\nfound:    {{[[L7]]}}\n{list}"));
 }
@@ -124,6 +127,7 @@ fn runs_steps_and_outlines_show_owners() {
         "step 0, 7 words\n  (ms L9 [[(sm L7 (ms L7 4))]])\n  -> sm L of ms L, of the same owner (conversion)\n",
         "step 1, 3 words\n  (ms L9 4)\n",
         "value after 1 step, 3 words\n0 calls, 1 conversion, 0 others\n",
+        "rules:\n  1 sm L of ms L, of the same owner\n",
     ];
     assert_eq!(printed(&["step"], text).1, steps.concat());
     let lines = ["    4  L9", "    5  ML ms", "    6    L9", "    7    Scheme sm", "    8      L7", "    9      ML ms"];

@@ -84,25 +84,29 @@ fn comments_empty_lines_tabs_and_other_line_ends() {
 fn an_end_without_a_value_has_no_charge() {
     let prices = PriceFile::new(rows(&[]).as_bytes());
     let none = "no charge: the run did not end in a value\n";
-    let cases: [(&[u8], &[&str], &str); 3] = [
+    let cases: [(u8, &[u8], &[&str], &str); 3] = [
         (
+            4,
             b"{N} (cons (add 1 2) (nil N))",
             &["--limit", "0"],
-            "spent after 0 steps, 6 words\n0 calls, 0 conversions, 0 others\n(cons (add 1 2) (nil N))\n",
+            "spent after 0 steps, 6 words\n0 calls, 0 conversions, 0 others\n{(add 1 2)}\n",
         ),
         (
+            3,
             b"{N} (cons (wrong 9 N) (nil N))",
             &[],
-            "error 9 after 1 step: the recipe's own code\n0 calls, 0 conversions, 1 other\n",
+            "error 9 after 1 step: the recipe's own code\n0 calls, 0 conversions, 1 other\n\
+             made by the recipe's own wrong 9 at line 1, column 11 of the text, word 7 of the file\n",
         ),
         (
+            5,
             b"{N} (ms {N} (cons 1 nil))",
             &["--words", "6"],
-            "full after 0 steps: the next term has 8 words\n0 calls, 0 conversions, 0 others\n(ms {N} (cons 1 nil))\n",
+            "full after 0 steps: the next term has 8 words\n0 calls, 0 conversions, 0 others\n(ms {N} {1})\n",
         ),
     ];
-    for (recipe, options, told) in cases {
-        assert_eq!(prices.price(recipe, options), (0, told.to_string() + none, "".into()));
+    for (status, recipe, options, told) in cases {
+        assert_eq!(prices.price(recipe, options), (status, told.to_string() + none, "".into()));
         // The same as `recipe run` tells it.
         assert_eq!(printed(&[&["run"], options].concat(), recipe).1, told);
     }
@@ -123,7 +127,7 @@ fn refusals_are_explained() {
             ten.as_bytes(),
             "refused 10: the value has more than nine items\n  pumps 1 to 9 take one item each; recipe run shows the value\n",
         ),
-        (b"{N} (fn", "recipe: line 1, column 8: the text ends where a type is due\n"),
+        (b"{N} (fn", "recipe: line 1, column 8: the text ends, and the ( of line 1, column 5 is not closed\n"),
     ];
     for (recipe, said) in cases {
         let status = if said.starts_with("refused") { 1 } else { 2 };

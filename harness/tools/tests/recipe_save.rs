@@ -44,9 +44,9 @@ const WRAPPED: &[u8] = b"N (app (ms (N to N) (fn v0)) 7)";
 #[test]
 fn a_spent_run_is_saved_and_goes_on() {
     let out = Out::new();
-    let spent = "spent after 3 steps, 6 words\n1 call, 2 conversions, 0 others\n(ms N (app (fn v0) 7))\n";
+    let spent = "spent after 3 steps, 6 words\n1 call, 2 conversions, 0 others\n(ms N (app (fn (x) x) 7))\n";
     let said = format!("saved in {}, 44 bytes; to go on: recipe run {}\n", out.name(), out.name());
-    assert_eq!(out.run(WRAPPED, &["--limit", "3"]), (0, spent.to_string() + &said, "".into()));
+    assert_eq!(out.run(WRAPPED, &["--limit", "3"]), (4, spent.to_string() + &said, "".into()));
     // ms N of app, fn, v0 and the Scheme number 7.
     assert_eq!(out.bytes(), Some(bytes_of(&[1, 4, 6, 5, 1, 30, 1, 35, 34, 32, 33 + 256 * 7])));
     let rest = "value after 2 steps, 1 word\n1 call, 1 conversion, 0 others\n7\n";
@@ -57,7 +57,7 @@ fn a_spent_run_is_saved_and_goes_on() {
 fn a_run_that_goes_on_is_saved_in_its_own_file_again() {
     let out = Out::new();
     out.run(WRAPPED, &["--limit", "2"]);
-    for left in ["(ms N (app (fn v0) 7))", "(ms N 7)"] {
+    for left in ["(ms N (app (fn (x) x) 7))", "(ms N 7)"] {
         let told = printed(&["run", &out.name(), "--limit", "1", "--save", &out.name()], b"").1;
         assert!(told.starts_with("spent after 1 step, ") && told.lines().nth(2) == Some(left), "{told}");
     }
@@ -102,9 +102,12 @@ fn after_a_value_and_an_error_nothing_is_saved() {
     let value = "value after 5 steps, 1 word\n2 calls, 3 conversions, 0 others\n7\n";
     let said = "nothing is saved: the run has come to its value\n";
     assert_eq!(out.run(WRAPPED, &[]), (0, value.to_string() + said, "".into()));
-    let error = "error 4 after 2 steps: an empty list, or the recipe's own code\n0 calls, 0 conversions, 2 others\n";
+    let error = "error 4 after 2 steps: an empty list\n0 calls, 0 conversions, 2 others\n\
+                 made by a rule at step 0: ML hd of nil: wrong 4\n\
+                 from the hd at line 1, column 3 of the text, word 5 of the file: (hd (nil N))\n\
+                 the value: (nil N), from line 1, column 7 of the text, word 6 of the file\n";
     let said = "nothing is saved: an error leaves no term\n";
-    assert_eq!(out.run(b"N (hd (nil N))", &[]), (0, error.to_string() + said, "".into()));
+    assert_eq!(out.run(b"N (hd (nil N))", &[]), (3, error.to_string() + said, "".into()));
     assert_eq!(out.bytes(), None);
 }
 
@@ -118,7 +121,7 @@ fn a_term_that_nests_too_deep_is_refused_and_the_old_file_stays() {
     let due = "refused 4: the term left nests deeper than 256 levels, too deep to be a file\n  \
                word 515 of the file to be written; let it run a little further, or stop it earlier\n";
     assert_eq!((said.as_str(), out.bytes()), (due, Some(b"old".to_vec())));
-    assert_eq!(out.run(b"N (fix (fn N (add 1 v0)))", &["--limit", "252"]).0, 0);
+    assert_eq!(out.run(b"N (fix (fn N (add 1 v0)))", &["--limit", "252"]).0, 4);
     assert!(out.bytes().is_some_and(|bytes| bytes.len() == 4 * (5 + 510)));
 }
 
@@ -136,7 +139,7 @@ fn a_term_that_is_too_large_is_refused() {
                it would have 16388 bytes; let it run a little further, or stop it earlier\n";
     assert_eq!((said.as_str(), out.bytes()), (due, None));
     // One step further the first list is gone.
-    assert_eq!(out.run(recipe.as_bytes(), &["--limit", "2"]).0, 0);
+    assert_eq!(out.run(recipe.as_bytes(), &["--limit", "2"]).0, 4);
 }
 
 /// What is said on standard error where the engine's save refuses so, which is no file's fault.
@@ -185,7 +188,7 @@ fn a_link_and_a_device_are_written_through() {
     assert_eq!(out.bytes(), Some(bytes_of(&[1, 4, 3, 5, 1, 30, 1, 33 + 256 * 7])));
     assert!(link.0.is_symlink());
     let told = printed(&["run", "--limit", "4", "--save", "/dev/null"], WRAPPED);
-    assert!(told.0 == 0 && told.1.contains("saved in /dev/null, 32 bytes"), "{told:?}");
+    assert!(told.0 == 4 && told.1.contains("saved in /dev/null, 32 bytes"), "{told:?}");
     assert!(std::fs::metadata("/dev/null").is_ok_and(|there| !there.is_file()));
 }
 

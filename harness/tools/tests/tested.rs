@@ -135,7 +135,7 @@ fn files_saved_before_that_go_on_as_before() {
 }
 
 /// A recipe whose script tests a list by mistake, in its second step; before U4 it came to 18 in six.
-const TESTED: &str = "N (add 12 (ms N (app (fn (if0 v0 0 (add (hd v0) 1))) (cons 5 nil))))";
+const TESTED: &str = "N (add 12 (ms N (app (fn (x) (if0 x 0 (add (hd x) 1))) {5})))";
 
 /// Lets an engine go on with files of that recipe that were saved before U4, after many numbers of steps.
 fn gone_on(engine: SavingEngine) -> Result<SaveCounts, String> {

@@ -4,7 +4,7 @@ use super::damage::{damage, telling_word};
 use super::owners::any_owner;
 use super::plan::{mistaken_file, well_typed_file};
 use crate::random::Random;
-use model::file::{regions, words_of};
+use model::file::{regions, words_in, words_of};
 use model::kinds::{KINDS, LUMP};
 
 /// Any of these words.
@@ -30,7 +30,7 @@ fn due_word(random: &mut Random) -> u32 {
 fn nodes(random: &mut Random) -> Vec<u32> {
     let mut found = Vec::new();
     for _ in 0..1 + random.below(3) {
-        let words = words_of(&well_typed_file(random)).expect("a recipe file");
+        let words = words_in(&well_typed_file(random));
         found.extend_from_slice(if random.chance(20) { &words } else { &words[4..] });
     }
     found
@@ -43,7 +43,7 @@ fn damaged(random: &mut Random) -> Vec<u32> {
     if let Ok(words) = words_of(&spoilt) {
         return words;
     }
-    let mut words = words_of(&file).expect("a recipe file");
+    let mut words = words_in(&file);
     let at = random.below(words.len());
     words[at] = telling_word(random);
     words

@@ -1,11 +1,12 @@
 //! `recipe card`: the batch card of a can, as the engine lays it out.
 
-use super::price::{uncharged, Asked};
+use super::price::Asked;
 use super::run::{count, term};
 use super::{without, Command, Desk, Failure, Outcome};
 use crate::args::Args;
 use crate::engine::Price;
 use model::price::items;
+use model::End;
 
 pub const COMMAND: Command = Command { name: "card", help: HELP, work: card };
 
@@ -18,7 +19,7 @@ pump's number ends in column 2, the pulses in column 16, a charge and the total 
 than in a value has no charge and no card; its end is told on standard error as `recipe price` tells it, so that nothing
 but a card goes to a printer. The prices and the other options are those of `recipe price`. LENGTH is how many bytes are
 lent for the card: 410 where none is named, which serve every card. Reads standard input where no FILE is named. Status 0:
-the card is printed; 1: refused, or no card.
+the card is printed; 1: refused; 3: an error, 4: spent, 5: full, each without a card.
 ";
 
 /// Bytes of the card's buffer where the command names no number: nine pumps, and the total.
@@ -39,7 +40,9 @@ fn card(mut args: Args, desk: &mut Desk<'_>) -> Outcome {
     }
     first.truncate(run.left as usize);
     if run.end != 0 {
-        return Err(Failure::Refused(uncharged(run, &first)? + "no card: only a can with a charge has one\n"));
+        let said = asked.uncharged(&desk.engine, run, &first)? + "no card: only a can with a charge has one\n";
+        let end = End::ALL.get(run.end as usize).ok_or("the engine gave an end that has no meaning")?;
+        return Err(Failure::Ended(*end, said));
     }
     let text = card.get(..told.bytes as usize).ok_or("the engine gave a card that is longer than its buffer")?;
     Ok(desk.output.write_all(text)?)

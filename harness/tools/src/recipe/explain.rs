@@ -1,30 +1,32 @@
 //! A refusal in a sentence, its place shown in the text or among the words.
 
 use super::input::Input;
-use super::mismatch::{another_type, no_type};
+use super::mismatch::{another_type, no_type, part_at_fault};
 use super::places::{around, due_at, header};
 use model::check::read_recipe;
-use model::file::words_of;
+use model::file::{words_of, MOST_BYTES};
 use model::node::Node;
-use model::text::{flat, pretty};
-use model::{Recipe, Refusal};
+use model::text::{flat, pretty, Style};
+use model::Refusal;
 
 /// What a refusal says, for the one who wrote the recipe.
 pub fn explain(input: &Input, refusal: &Refusal) -> String {
     let place = refusal.place as usize;
     let details = match refusal.number {
+        1 if input.bytes.len() > MOST_BYTES => "  the file has more than 16,384 bytes\n".into(),
         1 => format!("  the file has {} bytes\n", input.bytes.len()),
         2 => words_of(&input.bytes).map_or(String::new(), |words| header(&words)),
         3 => around(&input.bytes, place) + &due_at(&input.bytes, place),
         4 => position(input, place) + &around(&input.bytes, place),
-        5 => position(input, place) + &marked(&input.bytes, place),
-        6 => position(input, place) + &marked(&input.bytes, place) + &of_types(input, place, no_type),
-        7 => position(input, place) + &of_types(input, place, another_type),
+        5 => position(input, place) + &marked(input, place, None),
+        6 => position(input, place) + &untyped(input, place),
+        7 => position(input, place) + &otherwise_typed(input, place),
         9 => not_numbers(&input.bytes),
         10 => "  pumps 1 to 9 take one item each; recipe run shows the value\n".into(),
         _ => String::new(),
     };
-    format!("refused {}: {}\n{details}", refusal.number, sentence(refusal.number))
+    let no_text = input.no_text.as_ref().map_or(String::new(), |why| format!("  if it is meant as a text: {why}\n"));
+    format!("refused {}: {}\n{details}{no_text}", refusal.number, sentence(refusal.number))
 }
 
 /// What the refusal of a save says, for the one whose run was to be saved; the type and the term have so many words.
@@ -65,12 +67,16 @@ fn sentence(number: u32) -> &'static str {
 }
 
 /// Where a word stands: in the text, where there is one, and in the file.
-fn position(input: &Input, place: usize) -> String {
-    let positions = input.text.as_ref().map(|parsed| &parsed.positions);
-    match positions.and_then(|positions| positions.get(place.checked_sub(4)?)) {
-        Some(at) => format!("  line {}, column {} of the text, word {place} of the file\n", at.line, at.column),
-        None => format!("  word {place} of the file\n"),
+pub fn stands(input: &Input, place: usize) -> String {
+    match input.position(place) {
+        Some(at) => format!("{at} of the text, word {place} of the file"),
+        None => format!("word {place} of the file"),
     }
+}
+
+/// The same on a line of its own.
+fn position(input: &Input, place: usize) -> String {
+    format!("  {}\n", stands(input, place))
 }
 
 /// Lines of a term that are shown; of a longer one so many before the line with the place, and that line and so many behind it.
@@ -78,10 +84,18 @@ const MOST_LINES: usize = 40;
 const LINES_BEFORE: usize = 8;
 const LINES_BEHIND: usize = 12;
 
-/// The term with the word at a place in double brackets; of a long one, the lines around it.
-fn marked(bytes: &[u8], place: usize) -> String {
+/// Columns that stand before a line of a term.
+const INDENT: usize = 2;
+
+/// The term with the word at a place in double brackets, and the one at another place between << and >>; of a long one, the lines
+/// around it.
+fn marked(input: &Input, place: usize, part: Option<usize>) -> String {
+    let bytes = &input.bytes;
     let Ok(recipe) = read_recipe(bytes, usize::MAX) else { return around(bytes, place) };
-    let text = pretty(Node::Ml(&recipe.term), place.checked_sub(recipe.start()));
+    let word = |place: usize| place.checked_sub(recipe.start());
+    let (width, names) = (input.width - INDENT, input.names());
+    let style = Style { width, names, marked: word(place), part: part.and_then(word), ..Style::PLAIN };
+    let text = pretty(Node::Ml(&recipe.term), &style);
     let lines: Vec<&str> = text.lines().collect();
     let (from, to) = match lines.iter().position(|line| line.contains("[[")) {
         _ if lines.len() <= MOST_LINES => (0, lines.len()),
@@ -92,9 +106,17 @@ fn marked(bytes: &[u8], place: usize) -> String {
     before.iter().chain(&lines[from..to]).chain(&behind).map(|line| format!("  {line}\n")).collect()
 }
 
-/// What is said of the types of a recipe whose words are in order.
-fn of_types(input: &Input, place: usize, say: fn(&Recipe, usize) -> String) -> String {
-    read_recipe(&input.bytes, usize::MAX).map_or(String::new(), |recipe| say(&recipe, place))
+/// The term with the node that has no type and its part at fault, and what is said of their types.
+fn untyped(input: &Input, place: usize) -> String {
+    let Ok(recipe) = read_recipe(&input.bytes, usize::MAX) else { return around(&input.bytes, place) };
+    let part = part_at_fault(&recipe, place);
+    let at = part.and_then(|part| input.position(part)).map_or(String::new(), |at| format!(", at {at},"));
+    marked(input, place, part) + &no_type(&recipe, place, &at)
+}
+
+/// What is said of the declared type and the one found.
+fn otherwise_typed(input: &Input, place: usize) -> String {
+    read_recipe(&input.bytes, usize::MAX).map_or(String::new(), |recipe| another_type(&recipe, place))
 }
 
 /// The declared type, and the one that a can is due to have.

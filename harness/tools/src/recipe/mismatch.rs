@@ -3,7 +3,8 @@
 
 use model::check::DECLARED;
 use model::kinds::kind;
-use model::node::Node;
+use model::node::{ml_words, Node};
+use model::nodes::size_at;
 use model::owners::{differing, Within};
 use model::text::{flat, flat_marked, head};
 use model::typing::{difference, type_of, Mismatch};
@@ -11,15 +12,37 @@ use model::untyped::{untyped_at, Untyped};
 use model::{Recipe, Type};
 use std::rc::Rc;
 
+/// The node at a place of the file, if it has no type, or is not well formed, while all its parts are in order.
+fn node_at(recipe: &Recipe, place: usize) -> Option<Untyped> {
+    untyped_at(&recipe.term, place.checked_sub(recipe.start())?)
+}
+
+/// The place of the part that does not fit in the node at a place; none where two parts are of two types.
+pub fn part_at_fault(recipe: &Recipe, place: usize) -> Option<usize> {
+    let node = node_at(recipe, place)?;
+    let part = match (node.kind, &node.mismatch) {
+        (_, Mismatch::Unbound) | (IF0, Mismatch::Another { part: 2, .. }) => return None,
+        (_, Mismatch::Another { part, .. }) => *part,
+        _ => 0,
+    };
+    let words = ml_words(&recipe.term);
+    let at = (0..part).fold(node.before + 1, |at, _| at + size_at(&words, at));
+    Some(recipe.start() + at)
+}
+
+/// The kind of ML's if0.
+const IF0: u32 = 23;
+
 /// Why the node at a place of the file has no type, or is not well formed: what is due there, what is found, and the owners where they
-/// alone are at fault.
-pub fn no_type(recipe: &Recipe, place: usize) -> String {
-    let Some(node) = place.checked_sub(recipe.start()).and_then(|before| untyped_at(&recipe.term, before)) else {
+/// alone are at fault. Where its part stands in the text is told in the sentence.
+pub fn no_type(recipe: &Recipe, place: usize, at: &str) -> String {
+    let Some(node) = node_at(recipe, place) else {
         return format!(
             "  the engine is wrong: at word {place} is no node that has no type while all its parts are in order\n"
         );
     };
-    format!("  {}\n{}{}", reason(&node), types(&node), parts(&node))
+    let (what, why) = reason(&node);
+    format!("  {what}{at} {why}\n{}{}", types(&node), parts(&node))
         + &node.mismatch.unequal().map_or(String::new(), owners)
 }
 
@@ -41,23 +64,25 @@ pub fn another_type(recipe: &Recipe, place: usize) -> String {
     }
 }
 
-/// In a sentence, which part of a node does not fit.
-fn reason(node: &Untyped) -> String {
+/// Which part of a node does not fit, and why.
+fn reason(node: &Untyped) -> (String, &'static str) {
     let name = kind(node.kind).map_or("", |row| head(row, 0));
-    match (node.kind, &node.mismatch) {
-        (_, Mismatch::Unbound) => "a variable has no lambda".into(),
-        (19, Mismatch::NoFunction(_)) => "the first part of app is no function".into(),
-        (_, Mismatch::NoFunction(_)) => format!("the part of {name} is no function"),
-        (_, Mismatch::NoList(_)) => format!("the part of {name} is no list"),
-        (_, Mismatch::Sides(_)) => format!("the function of {name} takes one type and gives another"),
-        (19, _) => "the second part of app is not of the type that the function takes".into(),
-        (23, Mismatch::Another { part: 2, .. }) => "the second and the third part of if0 are of two types".into(),
-        (25, _) => "the second part of cons is no list of what the first part is".into(),
-        (45, _) => "the term of sm is not of the type that sm names".into(),
+    let (what, why) = match (node.kind, &node.mismatch) {
+        (_, Mismatch::Unbound) => ("a variable", "has no lambda"),
+        (19, Mismatch::NoFunction(_)) => ("the first part of app", "is no function"),
+        (_, Mismatch::NoFunction(_)) => return (format!("the part of {name}"), "is no function"),
+        (_, Mismatch::NoList(_)) => return (format!("the part of {name}"), "is no list"),
+        (_, Mismatch::Sides(_)) => return (format!("the function of {name}"), "takes one type and gives another"),
+        (19, _) => ("the second part of app", "is not of the type that the function takes"),
+        (IF0, Mismatch::Another { part: 2, .. }) => ("the second and the third part of if0", "are of two types"),
+        (25, _) => ("the second part of cons", "is no list of what the first part is"),
+        (45, _) => ("the term of sm", "is not of the type that sm names"),
         (_, Mismatch::Another { part, .. }) => {
-            format!("the {} part of {name} is no number", ["first", "second", "third"][*part % 3])
+            let which = ["first", "second", "third"][*part % 3];
+            return (format!("the {which} part of {name}"), "is no number");
         }
-    }
+    };
+    (what.to_string(), why)
 }
 
 /// The types that are due and found, each on its line.

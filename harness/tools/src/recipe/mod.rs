@@ -1,28 +1,43 @@
 //! The program `recipe`: recipes as text, made, shown, checked, run, saved, stepped through, priced, with a card or
-//! without, and outlined.
+//! without, outlined, and put on a page.
 
+mod blame;
 mod card;
+mod carried;
 mod check;
+mod contracta;
+mod cut;
+mod due;
 mod explain;
+mod flat;
 mod input;
 mod make;
 mod mismatch;
 mod outline;
+mod page;
 mod places;
 mod price;
 mod prices;
 mod program;
+mod reading;
+mod repeats;
 mod run;
 mod save;
 mod show;
+mod shown;
 mod step;
+mod walk;
+mod whole;
 
 use crate::args::Args;
 use crate::engine::{linked_card, linked_check, linked_node, linked_price, linked_run, linked_save};
 use crate::engine::{Card, Check, Node, Price, Run, Save};
+use model::End;
 use std::io::{Error, ErrorKind, Read, Write};
 
+pub use input::Input;
 pub use program::program;
+pub use walk::{Due, Next, Origin, Walk};
 
 /// The engine's functions, where there are any.
 #[derive(Clone, Copy)]
@@ -43,17 +58,22 @@ impl Engine {
     }
 }
 
-/// What a command works with: the engine, standard input, and where it prints.
+/// What a command works with: the engine, the columns that a printed line may have, standard input, where it prints, and a note.
 pub struct Desk<'a> {
     pub engine: Engine,
+    pub width: usize,
     pub input: &'a mut (dyn Read + Send),
     pub output: &'a mut (dyn Write + Send),
+    /// What is said on standard error although all went well.
+    pub note: String,
 }
 
-/// Why a command has not printed all it has to say on standard output.
+/// Why a command's status is not 0, or why it has not printed all it has to say on standard output.
 pub enum Failure {
     /// The file is refused, and why.
     Refused(String),
+    /// The run has ended otherwise than in a value; what is said of it on standard error.
+    Ended(End, String),
     /// It cannot be read or written, or the command is not understood.
     Other(String),
     /// Nobody reads on, which is no fault.
@@ -81,6 +101,22 @@ impl From<Error> for Failure {
     }
 }
 
+/// The columns of a line where nothing tells them.
+pub const WIDTH: usize = 100;
+
+/// The columns of a line at least.
+pub const LEAST_WIDTH: usize = 20;
+
+/// Takes the columns of a line that the command asks for.
+fn take_width(args: &mut Args, desk: &mut Desk<'_>) -> Result<(), String> {
+    let width = args.number("--width", desk.width as u64)?.min(1 << 20) as usize;
+    if width < LEAST_WIDTH {
+        return Err(format!("--width {width} is too narrow; a line has at least {LEAST_WIDTH} columns"));
+    }
+    desk.width = width;
+    Ok(())
+}
+
 /// All printed, or a failure.
 pub type Outcome = Result<(), Failure>;
 
@@ -92,7 +128,7 @@ pub struct Command {
 }
 
 /// All commands.
-pub const COMMANDS: [Command; 8] = [
+pub const COMMANDS: [Command; 9] = [
     make::COMMAND,
     show::COMMAND,
     check::COMMAND,
@@ -101,6 +137,7 @@ pub const COMMANDS: [Command; 8] = [
     price::COMMAND,
     card::COMMAND,
     outline::COMMAND,
+    page::COMMAND,
 ];
 
 /// The failure of a command that needs the engine in a program built without it.

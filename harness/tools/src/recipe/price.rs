@@ -1,9 +1,10 @@
 //! `recipe price`: the engine's pricing, its end, and what each pump and the can are charged.
 
+use super::blame::told_end;
 use super::input::{read_input, Input};
 use super::prices::{read_prices, Table};
-use super::run::{capacity, ended, left, refused, steps, term};
-use super::{without, Command, Desk, Failure, Outcome};
+use super::run::{capacity, ended, left, refused, steps, term, told};
+use super::{without, Command, Desk, Engine, Failure, Outcome};
 use crate::args::Args;
 use crate::engine::{RecipePriced, RecipeRun};
 use model::price::{band, items};
@@ -16,8 +17,8 @@ usage: recipe price [FILE] --prices PRICES [--limit STEPS] [--words CAPACITY]
 Runs a recipe of type {N}, a file or a text, and prints what its can costs: for each item, which is a pump's pulses, the
 band, the price and the charge; then the total. Charges are in cents: pulses x price / 1,000, rounded up. The end and
 where the steps went stand before, as `recipe run` prints them. A run that ends otherwise than in a value has no charge.
-The options are those of `recipe run`. Reads standard input where no FILE is named. Status 0: ended, whatever the end;
-1: refused.
+The options are those of `recipe run`. Reads standard input where no FILE is named. Status 0: a value; 1: refused;
+3: an error; 4: spent; 5: full.
 
 PRICES is a text of nine rows, for pumps 1 to 9, of three numbers: cents for 1,000 pulses in band 0 (under 10,000 pulses),
 band 1 (under 100,000) and band 2 (the rest), each at most 1000000. Blanks stand between numbers; empty lines and what
@@ -56,11 +57,12 @@ impl Asked {
         let over = self.table.over.as_ref().filter(|_| run.refusal == 11);
         refused(&self.input, run, self.capacity) + &over.map_or(String::new(), |over| format!("  {over}\n"))
     }
-}
 
-/// An end without a charge: how the run ended, and what it left.
-pub fn uncharged(run: &RecipeRun, words: &[u32]) -> Result<String, String> {
-    Ok(ended(run) + &left(words)? + "no charge: the run did not end in a value\n")
+    /// An end without a charge: how the run ended, and what it left.
+    pub fn uncharged(&self, engine: &Engine, run: &RecipeRun, words: &[u32]) -> Result<String, Failure> {
+        let left = left(words, self.input.width)?;
+        Ok(told_end(engine, &self.input, run, self.capacity)? + &left + "no charge: the run did not end in a value\n")
+    }
 }
 
 /// The end of a run, and the charges of its value.
@@ -74,10 +76,11 @@ fn price(args: Args, desk: &mut Desk<'_>) -> Outcome {
     }
     first.truncate(priced.run.left as usize);
     let text = match priced.run.end {
-        0 => ended(&priced.run) + &bill(&asked.table, &first, &priced)?,
-        _ => uncharged(&priced.run, &first)?,
+        0 => ended(&priced.run, None) + &bill(&asked.table, &first, &priced)?,
+        _ => asked.uncharged(&desk.engine, &priced.run, &first)?,
     };
-    Ok(desk.output.write_all(text.as_bytes())?)
+    desk.output.write_all(text.as_bytes())?;
+    told(&priced.run)
 }
 
 /// A line of the table: pump, pulses, band, price and charge.

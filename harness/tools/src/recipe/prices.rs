@@ -1,5 +1,6 @@
 //! A shop's price table as text: nine rows of three numbers, one row for each pump, one number for each band.
 
+use super::reading::{fill, open, utf8};
 use crate::engine::RecipePrices;
 use model::price::{BANDS, MOST_PRICE, PUMPS};
 use std::fmt::Display;
@@ -18,10 +19,17 @@ pub struct Table {
     pub over: Option<String>,
 }
 
+/// The bytes of a price file at most.
+const MOST_BYTES: usize = 1 << 20;
+
 /// Reads the table from the file that is named.
 pub fn read_prices(name: &str) -> Result<Table, String> {
-    let bytes = std::fs::read(name).map_err(|fault| format!("cannot read {name}: {fault}"))?;
-    let table = utf8(&bytes).and_then(table).map_err(|fault| format!("{name}, {fault}"))?;
+    let mut bytes = Vec::new();
+    fill(&mut open(name)?, name, &mut bytes, MOST_BYTES + 1)?;
+    if bytes.len() > MOST_BYTES {
+        return Err(format!("{name} has more than 1,048,576 bytes; a price file is nine rows of three numbers"));
+    }
+    let table = text(&bytes).and_then(table).map_err(|fault| format!("{name}, {fault}"))?;
     Ok(Table { over: table.over.map(|over| format!("{name}, {over}")), ..table })
 }
 
@@ -31,11 +39,9 @@ fn at(word: Word<'_>, sentence: impl Display) -> String {
 }
 
 /// The bytes as text, or where they are none.
-fn utf8(bytes: &[u8]) -> Result<&str, String> {
-    std::str::from_utf8(bytes).map_err(|fault| {
-        let before = String::from_utf8_lossy(&bytes[..fault.valid_up_to()]);
-        let (line, last) = (before.matches('\n').count() + 1, before.rsplit('\n').next().unwrap_or(""));
-        let here = Word { text: "", line, column: last.chars().count() + 1 };
+fn text(bytes: &[u8]) -> Result<&str, String> {
+    utf8(bytes, false).map_err(|(position, _)| {
+        let here = Word { text: "", line: position.line, column: position.column };
         at(here, "a byte that is no text; a price file is plain text in UTF-8")
     })
 }
@@ -86,12 +92,12 @@ fn row(words: &[Word<'_>], pump: usize, table: &mut Table) -> Result<(), String>
 fn line_words(line: &str, number: usize) -> Vec<Word<'_>> {
     let code = line.split('#').next().unwrap_or("");
     let mut found = Vec::new();
-    let mut from = 0;
+    let mut column = 1;
     for text in code.split(|letter: char| letter.is_ascii_whitespace()) {
         if !text.is_empty() {
-            found.push(Word { text, line: number, column: code[..from].chars().count() + 1 });
+            found.push(Word { text, line: number, column });
         }
-        from += text.len() + 1;
+        column += text.chars().count() + 1;
     }
     found
 }

@@ -1,14 +1,17 @@
 //! What the tests of the program `recipe` share: its parts called in this process, the model in the engine's place.
 #![allow(dead_code)]
 
+pub mod browser;
 pub mod carding;
 pub mod checking;
+pub mod json;
+pub mod paging;
 pub mod pricing;
 pub mod saving;
 
 use std::io::{Error, ErrorKind, Write};
 use tools::engine::{Card, Check, Node, Price, Run, Save};
-use tools::recipe::{program, Desk, Engine};
+use tools::recipe::{program, Desk, Engine, WIDTH};
 use tools::stand_in;
 
 /// The status, what is printed, and what is said on standard error.
@@ -56,7 +59,7 @@ pub fn typed_by(
     output: &mut (dyn Write + Send),
     errors: &mut dyn Write,
 ) -> u8 {
-    let mut desk = Desk { engine, input: &mut input, output };
+    let mut desk = Desk { engine, width: WIDTH, input: &mut input, output, note: String::new() };
     program(words.iter().map(|word| word.to_string()).collect(), &mut desk, errors)
 }
 
