@@ -202,6 +202,9 @@ fn words() {
     faulty(&[
         ("N\n(sum 1 2)", (2, 2), "no ML term is called sum"),
         ("N (ad 1 2)", (1, 4), "no ML term is called ad; did you mean add?"),
+        ("N (+ 1 2)", (1, 4), "no ML term is called +; did you mean add?"),
+        ("N (- 1 2)", (1, 4), "no ML term is called -; did you mean subtract?"),
+        ("N (ms N (car {1}))", (1, 10), "no Scheme term is called car; did you mean hd?"),
         ("N (subtrakt 1 2)", (1, 4), "no ML term is called subtrakt; did you mean subtract?"),
         ("N (ms N (lst? 1))", (1, 10), "no Scheme term is called lst?; did you mean list??"),
         ("N (ms N (test 1))", (1, 10), "no Scheme term is called test"),
@@ -231,6 +234,7 @@ fn numbers() {
         ("N -1", (1, 3), "-1 has a sign; a number is 0 to 16777215"),
         ("N +1", (1, 3), "+1 has a sign; a number is 0 to 16777215"),
         ("N 1,000", (1, 3), "1,000 has a comma; write 1000 or put _ for it"),
+        ("{N} {1, 2}", (1, 6), "1, ends with a comma; between items stand blanks alone"),
         ("N 3.5", (1, 3), "3.5 is no whole number; a number is 0 to 16777215"),
         ("N .5", (1, 3), ".5 is no whole number; a number is 0 to 16777215"),
         ("N 2x", (1, 3), "2x is no number; a number is 0 to 16777215"),

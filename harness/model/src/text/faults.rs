@@ -4,7 +4,7 @@ use super::names::{head, shows_operand};
 use super::parse::{fault, Fault};
 use super::print::flat;
 use super::scope::Function;
-use super::spelling::{has_word, is_name, is_reserved, is_type, nearest, shown, words_of};
+use super::spelling::{has_word, is_name, is_reserved, is_type, meant, nearest, shown, words_of};
 use super::tokens::Token;
 use crate::kinds::{Kind, Sort};
 use crate::node::Node;
@@ -125,7 +125,7 @@ pub fn no_head(sort: Sort, token: Token<'_>, bound: bool) -> Fault {
         _ if is_type(word) => format!("{word} is a type; here {due} is due"),
         _ if bound => format!("{} is an argument; a function is called by (app {} a)", shown(word), shown(word)),
         _ => {
-            let near = nearest(word, words_of(sort)).map_or(String::new(), |near| format!("; did you mean {near}?"));
+            let near = meant(word, words_of(sort)).map_or(String::new(), |near| format!("; did you mean {near}?"));
             format!("no {} term is called {}{near}", language(sort), shown(word))
         }
     };

@@ -34,6 +34,8 @@ fn no_number(word: &str, what: &str, range: &str) -> String {
     let whole = |part: &str| !part.is_empty() && are_digits(part);
     if word.starts_with(['-', '+']) {
         format!("{told} has a sign; {range}")
+    } else if word.ends_with(',') && whole(&without_commas) {
+        format!("{told} ends with a comma; between items stand blanks alone")
     } else if word.contains(',') && whole(&without_commas) {
         format!("{told} has a comma; write {} or put _ for it", shown(&without_commas))
     } else if word.contains('.') && word.split('.').all(|part| part.is_empty() || whole(part)) {

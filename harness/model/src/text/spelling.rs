@@ -80,6 +80,26 @@ pub fn shown(word: &str) -> String {
     }
 }
 
+/// What other languages say for a word of ours.
+const MEANT: [(&str, &str); 10] = [
+    ("+", "add"),
+    ("-", "subtract"),
+    ("car", "hd"),
+    ("head", "hd"),
+    ("cdr", "tl"),
+    ("tail", "tl"),
+    ("apply", "app"),
+    ("call", "app"),
+    ("error", "wrong"),
+    ("raise", "wrong"),
+];
+
+/// The word of ours that was meant: by what other languages say, or the one among some that is spelt most alike.
+pub fn meant<'a>(word: &str, among: impl Iterator<Item = &'a str>) -> Option<&'a str> {
+    let other = MEANT.iter().find(|(other, _)| *other == word).map(|(_, ours)| *ours);
+    other.or_else(|| nearest(word, among))
+}
+
 /// The word among some that is spelt most alike, if one is alike enough.
 pub fn nearest<'a>(word: &str, among: impl Iterator<Item = &'a str>) -> Option<&'a str> {
     let length = word.chars().count();

@@ -23,11 +23,11 @@ L is a lump of owner 0, L7 one of owner 7; an owner is 0 to 255, and lumps of tw
 A name is a letter, then letters, digits, _ - ? and '. It is known in its function alone, and an inner one hides an outer
 one. (sm t x) brings ML's x into Scheme, (ms t x) Scheme's x into ML.
 (let (x t e) body) is (app (fn (x t) body) e). {a b c} is (cons a (cons b (cons c nil))); in ML the nil has the type of
-the last item, and the empty list is (nil t). A number is 0 to 16777215, and may be written 16_777_215.
+the last item that has one, and the empty list is (nil t). A number is 0 to 16777215, and may be written 16_777_215.
 if0 tests a number, in Scheme too: (if0 (null? e) b c) asks whether a list is empty; null?, num?, .. are 0 for yes.
 lambda and application may be written for fn and app; a comment runs from ; to the end of its line.
 Without names: (fn t e), in Scheme (fn e), and v0, v1, ..: the number counts the functions without names, of both
-languages, between the variable and its own.
+languages, between the variable and its own. Of a text that has such a variable, a note says so.
 
 Example: printf 'N (let (x N 2) (add x 3))' | recipe make -o add.bin
 ";

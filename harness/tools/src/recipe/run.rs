@@ -21,9 +21,10 @@ usage: recipe run [FILE] [--limit STEPS] [--words CAPACITY] [--save OUT] [--widt
 
 Runs a recipe file or the file of a text, for 1,000,000 steps at most with two buffers of 4,096 words. Prints the end,
 where the steps went, and the term left. A step on an app or a fix is a call; a step on an ms or an sm is a conversion;
-all others, the one that ends the run with an error too, are others. A line has as many columns as the terminal, or 100;
---width tells another number, at least 20. Reads standard input where no FILE is named.
-Status 0: a value; 1: refused; 3: an error; 4: spent; 5: full.
+all others, the one that ends the run with an error too, are others. After an error it says where that was made: by which
+rule, at which node of the text and of the file, and from which value; or at which wrong of the recipe's own. A line has as
+many columns as the terminal, or 100; --width tells another number, at least 20. Reads standard input where no FILE is
+named. Status 0: a value; 1: refused; 3: an error; 4: spent; 5: full.
 
 With --save the term that a spent or full run leaves is written to OUT, a recipe file with the same declared type, and
 `recipe run OUT` goes on with it: both runs together end as one run would have, and their steps and counts add up. A
