@@ -100,7 +100,7 @@ fn an_application_that_becomes_wrong_2_counted_as_an_other() {
 fn an_ms_that_becomes_a_wrong_counted_as_an_other() {
     let engine: Run = |file, limit, first, second| {
         counted(file, limit, first, second, |turn| match turn.step() {
-            Step::Next(rule, _) if rule.name().contains(": wrong ") && kind(turn) == 30 => Class::Other,
+            Step::Next(rule, _) if rule.code().is_some() && kind(turn) == 30 => Class::Other,
             _ => turn.class(),
         })
     };

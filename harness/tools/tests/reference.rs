@@ -1,4 +1,5 @@
-//! docs/REFERENCE.md held against the model: its table of kinds, the names of its rules, its refusals, and the listings of its examples.
+//! docs/REFERENCE.md and include/recipe.h held against the model: the table of kinds, the names of the rules, the refusals, and the
+//! listings of the examples.
 
 use model::file::bytes_of;
 use model::kinds::{Kind, Sort, KINDS};
@@ -32,6 +33,22 @@ fn row(kind: &Kind) -> Vec<String> {
 fn the_table_of_kinds_is_the_models() {
     let due: Vec<Vec<String>> = KINDS.iter().map(row).collect();
     let seen: Vec<Vec<&str>> = rows("Words").into_iter().map(|row| row[..5].to_vec()).collect();
+    assert_eq!(seen, due);
+}
+
+/// The header's name for a kind: RECIPE_ML_NUMBER.
+fn header_name(kind: &Kind) -> String {
+    let sort = ["TYPE", "ML", "SCHEME"][kind.sort as usize];
+    format!("RECIPE_{sort}_{}", kind.name.trim_end_matches('?').to_uppercase())
+}
+
+#[test]
+fn the_header_has_the_same_kinds_by_number() {
+    let header = include_str!("../../../include/recipe.h");
+    let (_, kinds) = header.split_once("enum {\n    RECIPE_TYPE_N").expect("the kinds");
+    let kinds = format!("RECIPE_TYPE_N{}", kinds.split('}').next().expect("their end"));
+    let seen: Vec<String> = kinds.split(',').map(|line| line.trim().to_string()).collect();
+    let due: Vec<String> = KINDS.iter().map(|kind| format!("{} = {}", header_name(kind), kind.number)).collect();
     assert_eq!(seen, due);
 }
 

@@ -11,6 +11,11 @@ macro_rules! outcomes {
             pub fn name(self) -> &'static str {
                 match self { $(Rule::$rule => $name,)* }
             }
+
+            /// The code of the wrong that the rule makes, with which its name ends; none for the others.
+            pub fn code(self) -> Option<u32> {
+                self.name().split_once(": wrong ").and_then(|(_, code)| code.parse().ok())
+            }
         }
     };
 }

@@ -5,7 +5,7 @@ use super::parse::{fault, Fault, Parser};
 use super::scope::Function;
 use super::spelling::{is_name, is_type, variable_digits};
 use super::tokens::{Position, Token, Tokens};
-use crate::kinds::Sort;
+use crate::kinds::{ml, scheme, Sort};
 use crate::read::read_type;
 use crate::tree::Type;
 use std::rc::Rc;
@@ -34,7 +34,7 @@ impl<'a> Parser<'a> {
         if let Some(fault) = no_name(name) {
             return Err(fault);
         }
-        self.put(if sort == Sort::Ml { 19 } else { 35 }, position)?;
+        self.put(if sort == Sort::Ml { ml::APPLICATION } else { scheme::APPLICATION }, position)?;
         self.lambda(sort, bracket.position, Some(name))?;
         let argument = self.argument_type(sort, "let")?;
         let start = self.words.len();
@@ -70,7 +70,7 @@ impl<'a> Parser<'a> {
 
     /// Puts the word of a function, with its argument's name.
     fn lambda(&mut self, sort: Sort, position: Position, name: Option<Token<'a>>) -> Result<(), Fault> {
-        self.put(if sort == Sort::Ml { 18 } else { 34 }, position)?;
+        self.put(if sort == Sort::Ml { ml::LAMBDA } else { scheme::LAMBDA }, position)?;
         if let (Some(last), Some(name)) = (self.names.last_mut(), name) {
             *last = Some(name.text.to_string());
         }

@@ -1,9 +1,8 @@
 //! The names of kinds in text.
 
-use crate::kinds::{kind, Kind, Sort, KINDS, LUMP};
+use crate::kinds::{kind, ml, scheme, Kind, Sort, KINDS, LUMP, N};
 
 const TESTS: [&str; 4] = ["fun?", "list?", "null?", "num?"];
-const TEST: u32 = 43;
 
 /// Kinds that are written without parentheses.
 pub enum Atom {
@@ -15,10 +14,10 @@ pub enum Atom {
 
 pub fn atom(row: &Kind) -> Option<Atom> {
     match row.number {
-        16 | 32 => Some(Atom::Variable),
-        17 | 33 => Some(Atom::Number),
+        ml::VARIABLE | scheme::VARIABLE => Some(Atom::Variable),
+        ml::NUMBER | scheme::NUMBER => Some(Atom::Number),
         LUMP => Some(Atom::Lump),
-        1 | 39 => Some(Atom::Name),
+        N | scheme::NIL => Some(Atom::Name),
         _ => None,
     }
 }
@@ -33,15 +32,15 @@ pub fn lump_name(owner: u32) -> String {
 
 /// Whether the operand is written as a number behind the name.
 pub fn shows_operand(row: &Kind) -> bool {
-    matches!(row.number, 29 | 44)
+    matches!(row.number, ml::WRONG | scheme::WRONG)
 }
 
 /// The name of a node that is written in parentheses.
 pub fn head(row: &Kind, operand: u32) -> &'static str {
     match row.number {
-        18 | 34 => "fn",
-        19 | 35 => "app",
-        TEST => TESTS[(operand % 4) as usize],
+        ml::LAMBDA | scheme::LAMBDA => "fn",
+        ml::APPLICATION | scheme::APPLICATION => "app",
+        scheme::TEST => TESTS[(operand % 4) as usize],
         _ => row.name,
     }
 }
@@ -54,10 +53,10 @@ pub fn headed(sort: Sort, name: &str) -> Option<(&'static Kind, Option<u32>)> {
         _ => name,
     };
     if let (Sort::Scheme, Some(operand)) = (sort, TESTS.iter().position(|test| *test == name)) {
-        return kind(TEST).map(|row| (row, Some(operand as u32)));
+        return kind(scheme::TEST).map(|row| (row, Some(operand as u32)));
     }
     let row = KINDS.iter().find(|row| row.sort == sort && row.name == long && atom(row).is_none())?;
-    (sort != Sort::Type && row.number != TEST).then_some((row, None))
+    (sort != Sort::Type && row.number != scheme::TEST).then_some((row, None))
 }
 
 /// A kind with its language: "ML number".
@@ -84,7 +83,7 @@ pub fn describe(word: u32) -> String {
         return format!("{language} {} with {what} {operand}, outside {} to {}", row.name, row.least, row.most);
     }
     match (row.number, row.most) {
-        (TEST, _) => format!("{language} {}", head(row, operand)),
+        (scheme::TEST, _) => format!("{language} {}", head(row, operand)),
         (LUMP, _) => format!("{language} {}", lump_name(operand)),
         (_, 0) => format!("{language} {}", row.name),
         _ => format!("{language} {} {operand}", row.name),

@@ -5,7 +5,7 @@ use super::faults::no_type;
 use super::scope::Scope;
 use super::tokens::{Position, Token, Tokens};
 use super::{numbers, spelling};
-use crate::kinds::{kind, Sort, LUMP};
+use crate::kinds::{kind, Sort, FUNCTION, LIST, LUMP, N};
 use crate::tree::MOST_OWNER;
 use std::cell::Cell;
 use std::fmt;
@@ -174,16 +174,16 @@ impl<'a> Parser<'a> {
     pub fn read_type(&mut self) -> Result<(), Fault> {
         let token = self.next("a type")?;
         match token.text {
-            "N" => self.put(1, token.position),
+            "N" => self.put(N, token.position),
             "{" => {
                 self.open.push(token);
-                self.put(3, token.position)?;
+                self.put(LIST, token.position)?;
                 self.read_type()?;
                 self.close().map(drop)
             }
             "(" => {
                 self.open.push(token);
-                self.put(4, token.position)?;
+                self.put(FUNCTION, token.position)?;
                 self.read_type()?;
                 self.to()?;
                 self.read_type()?;

@@ -3,7 +3,7 @@
 use super::calling::{crossed, Called};
 use super::names::{atom, head, lump_name, shows_operand, Atom};
 use super::print::Style;
-use crate::kinds::{row_of, Sort};
+use crate::kinds::{ml, row_of, scheme, Sort, FUNCTION, LIST};
 use crate::node::Node;
 use crate::scope::{is_lambda, variable};
 use crate::tree::Type;
@@ -91,8 +91,10 @@ impl Writer<'_> {
         let here = self.words;
         let piece = match (node.word() % 256, node.parts()) {
             _ if is_lambda(node) => self.function(node),
-            (19 | 35, [Some(function), ..]) if self.is_let(function) => self.binding(node, function),
-            (25 | 40, _) if !self.style.numbers => self.conses(node),
+            (ml::APPLICATION | scheme::APPLICATION, [Some(function), ..]) if self.is_let(function) => {
+                self.binding(node, function)
+            }
+            (ml::CONS | scheme::CONS, _) if !self.style.numbers => self.conses(node),
             _ => self.plain(node),
         };
         self.with_marks(here, piece)
@@ -126,8 +128,8 @@ impl Writer<'_> {
             (_, Some(Atom::Number)) => alone(operand.to_string()),
             (_, Some(Atom::Lump)) => alone(lump_name(operand)),
             (_, Some(Atom::Name)) => alone(row.name.to_string()),
-            (3, _) => Piece::new("{", parts, "}"),
-            (4, _) => Piece::with("(".into(), " to ", parts, ")"),
+            (LIST, _) => Piece::new("{", parts, "}"),
+            (FUNCTION, _) => Piece::with("(".into(), " to ", parts, ")"),
             _ => {
                 let code = if shows_operand(row) { format!(" {operand}") } else { String::new() };
                 let gap = if parts.is_empty() { "" } else { " " };
@@ -222,8 +224,8 @@ impl Writer<'_> {
         let unmarked = !(nil..self.words).any(|word| self.is_marked(word));
         let found = || conses.iter().rev().find_map(|cons| self.types.get(&(cons + 1)));
         match (tail.word() % 256, tail.parts()) {
-            (39, _) => unmarked,
-            (24, [Some(Node::Type(t)), ..]) => unmarked && **t == *found().map_or(&Type::Number, |found| &**found),
+            (scheme::NIL, _) => unmarked,
+            (ml::NIL, [Some(Node::Type(t)), ..]) => unmarked && **t == *found().map_or(&Type::Number, |found| &**found),
             _ => false,
         }
     }

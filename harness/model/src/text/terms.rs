@@ -6,7 +6,7 @@ use super::numbers::{is_number, operand};
 use super::parse::{fault, Fault, Parser};
 use super::spelling::{is_name, is_type, shown, variable_digits};
 use super::tokens::{Position, Token};
-use crate::kinds::{kind, Kind, Sort};
+use crate::kinds::{kind, ml, scheme, Kind, Sort};
 use crate::node::Node;
 use crate::read::read_ml;
 use crate::tree::{Type, MOST};
@@ -22,7 +22,7 @@ impl<'a> Parser<'a> {
             "(" => self.node(sort, token),
             "{" => self.list(sort, token),
             ")" | "}" => Err(self.closes(token, a_term(sort))),
-            "nil" if sort == Sort::Scheme => self.put(39, token.position),
+            "nil" if sort == Sort::Scheme => self.put(scheme::NIL, token.position),
             word if is_name(word) => self.named(sort, token),
             word => match variable_digits(word) {
                 Some(digits) => self.numbered(sort, digits, token),
@@ -34,7 +34,7 @@ impl<'a> Parser<'a> {
 
     /// A number.
     fn number(&mut self, sort: Sort, token: Token<'a>) -> Result<(), Fault> {
-        let row = row(if sort == Sort::Ml { 17 } else { 33 });
+        let row = row(if sort == Sort::Ml { ml::NUMBER } else { scheme::NUMBER });
         let number = operand(row, token.text, "number").map_err(|why| fault(token.position, why))?;
         self.put(row.number + 256 * number, token.position)
     }
@@ -120,7 +120,7 @@ impl<'a> Parser<'a> {
         let token = self.peek(")")?;
         match token.text {
             ")" | "}" => self.close().map(drop),
-            text if row.number == 44 && is_type(text) => {
+            text if row.number == scheme::WRONG && is_type(text) => {
                 Err(fault(token.position, "wrong takes a code alone in Scheme: (wrong 300)"))
             }
             _ => Err(too_many(row, head, token)),
@@ -137,14 +137,14 @@ impl<'a> Parser<'a> {
                 break;
             }
             let here = if items.is_empty() { bracket.position } else { token.position };
-            self.put(if sort == Sort::Ml { 25 } else { 40 }, here)?;
+            self.put(if sort == Sort::Ml { ml::CONS } else { scheme::CONS }, here)?;
             let start = self.words.len();
             self.term(sort)?;
             items.push(start..self.words.len());
         }
         let end = self.close()?.position;
         match sort {
-            Sort::Scheme => self.put(39, end),
+            Sort::Scheme => self.put(scheme::NIL, end),
             _ if items.is_empty() => Err(fault(bracket.position, "in ML the empty list has its type: (nil t) is due")),
             _ => self.nil(&items, end),
         }
@@ -157,7 +157,7 @@ impl<'a> Parser<'a> {
         let read = |item: &Range<usize>| read_ml(&self.words[item.clone()], 0, usize::MAX).ok();
         let found = items.iter().rev().find_map(|item| type_among(&read(item)?, lambdas.clone()));
         let found = found.unwrap_or(Rc::new(Type::Number));
-        self.put(24, end)?;
+        self.put(ml::NIL, end)?;
         Node::Type(&found).words().into_iter().try_for_each(|word| self.put(word, end))
     }
 }
@@ -165,9 +165,9 @@ impl<'a> Parser<'a> {
 /// The kind of a language's variables.
 fn variable(sort: Sort) -> u32 {
     if sort == Sort::Ml {
-        16
+        ml::VARIABLE
     } else {
-        32
+        scheme::VARIABLE
     }
 }
 

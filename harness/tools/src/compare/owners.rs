@@ -231,7 +231,7 @@ fn kinds(turn: &Turn, rule: Rule) -> [bool; STEPS.len()] {
         rule == Rule::SmListCons && at_owner,
         rule == Rule::MsFunction && at_owner,
         rule == Rule::SmFunction && at_owner,
-        rule.name().contains(": wrong ") && matches!(node, Node::Ml(_)) && at_owner,
+        rule.code().is_some() && matches!(node, Node::Ml(_)) && at_owner,
         false,
     ]
 }

@@ -1,11 +1,12 @@
 //! A run carried along as flat words, each with its origin in the file: the program's own steps, without the engine.
 
-use super::contracta::{contract, wrong_of};
+use super::contracta::contract;
 use super::due::rule_at;
-use super::flat::{behind, kind_at, ml, scheme, turn, Frame};
+use super::flat::{behind, kind_at, turn, Frame};
 use super::input::Input;
 use model::check::DECLARED;
 use model::file::{regions, words_of};
+use model::kinds::{ml, scheme};
 use model::laws::class_at;
 use model::rules::{Rule, RuleCounts};
 use model::{Class, ClassCounts};
@@ -148,7 +149,7 @@ impl Carried {
         if around + size > capacity {
             return Carry::Full(around + size);
         }
-        if wrong_of(rule).is_some() {
+        if rule.code().is_some() {
             self.failed = Some(Failed { rule, term: self.term.clone(), due });
         }
         self.count(due.class);

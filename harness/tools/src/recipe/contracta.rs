@@ -6,7 +6,8 @@
 
 use super::carried::{Origin, Term};
 use super::due::numbers;
-use super::flat::{behind, kind_at, ml, parts_of, scheme, LIST, N};
+use super::flat::{behind, kind_at, parts_of};
+use model::kinds::{ml, scheme, LIST, N};
 use model::rules::Rule;
 use std::ops::Range;
 
@@ -31,17 +32,12 @@ pub fn contract(rule: Rule, from: &Term, place: usize, most: usize, out: &mut Te
     match rule {
         Rule::MlApplication | Rule::SchemeApplication => return work.body(work.part(1), most),
         Rule::MlFix => return work.body(place..parts[1], most),
-        _ if wrong_of(rule).is_some() => work.wrong(rule),
+        _ if rule.code().is_some() => work.wrong(rule),
         _ if work.copied(rule) => {}
         _ if work.converted(rule) => {}
         _ => work.number(rule),
     }
     out.words.len()
-}
-
-/// The code of the wrong that a rule makes.
-pub fn wrong_of(rule: Rule) -> Option<u32> {
-    rule.name().split_once(": wrong ").and_then(|(_, code)| code.parse().ok())
 }
 
 impl Contraction<'_> {
@@ -168,7 +164,7 @@ impl Contraction<'_> {
 
     /// The wrong of a rule; in ML it has the type of the node that it stands for.
     fn wrong(&mut self, rule: Rule) {
-        let code = 256 * wrong_of(rule).unwrap_or(0);
+        let code = 256 * rule.code().unwrap_or(0);
         let node = kind_at(&self.from.words, self.place);
         if node >= scheme::VARIABLE {
             return self.make(scheme::WRONG + code);

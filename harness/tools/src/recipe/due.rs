@@ -1,6 +1,7 @@
 //! Which rule fits the node whose turn it is, by its words.
 
-use super::flat::{behind, kind_at, ml, scheme, FUNCTION, LIST, LUMP, N};
+use super::flat::{behind, kind_at};
+use model::kinds::{ml, scheme, FUNCTION, LIST, LUMP, N};
 use model::rules::Rule;
 use model::tree::MOST;
 

@@ -1,50 +1,7 @@
-//! Terms as flat words: the numbers of the kinds, where a node ends, and whose turn it is. No tree is built, and no stack is
+//! Terms as flat words: where a node ends, and whose turn it is. No tree is built, and no stack is
 //! needed, however deep a term nests.
 
-use model::kinds::KINDS;
-
-/// The kinds of types that a rule looks at or makes.
-pub const N: u32 = 1;
-pub const LUMP: u32 = 2;
-pub const LIST: u32 = 3;
-pub const FUNCTION: u32 = 4;
-
-/// The kinds of ML.
-pub mod ml {
-    pub const VARIABLE: u32 = 16;
-    pub const NUMBER: u32 = 17;
-    pub const LAMBDA: u32 = 18;
-    pub const APPLICATION: u32 = 19;
-    pub const FIX: u32 = 20;
-    pub const ADD: u32 = 21;
-    pub const SUBTRACT: u32 = 22;
-    pub const IF0: u32 = 23;
-    pub const NIL: u32 = 24;
-    pub const CONS: u32 = 25;
-    pub const HD: u32 = 26;
-    pub const TL: u32 = 27;
-    pub const NULL: u32 = 28;
-    pub const WRONG: u32 = 29;
-    pub const MS: u32 = 30;
-}
-
-/// The kinds of Scheme.
-pub mod scheme {
-    pub const VARIABLE: u32 = 32;
-    pub const NUMBER: u32 = 33;
-    pub const LAMBDA: u32 = 34;
-    pub const APPLICATION: u32 = 35;
-    pub const ADD: u32 = 36;
-    pub const SUBTRACT: u32 = 37;
-    pub const IF0: u32 = 38;
-    pub const NIL: u32 = 39;
-    pub const CONS: u32 = 40;
-    pub const HD: u32 = 41;
-    pub const TL: u32 = 42;
-    pub const TEST: u32 = 43;
-    pub const WRONG: u32 = 44;
-    pub const SM: u32 = 45;
-}
+use model::kinds::{ml, scheme, KINDS, LUMP};
 
 /// How many parts each kind has, by its number; from the table of kinds.
 const PARTS: [u8; 64] = {
