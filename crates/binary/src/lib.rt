@@ -1,5 +1,7 @@
 // The rules of the operators of two parts, and of if0.
 
+#![tactic(auto)]
+
 ghost use Rattle.std.specs.Prelude.{◌≡◌, ◌≤◌, ◌-◌, length};
 ghost use Rattle.binary.specs.Operators.{operator2, sum_in};
 ghost use Rattle.pieces.specs.Pieces.{BecameIn};

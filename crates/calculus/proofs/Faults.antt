@@ -161,7 +161,7 @@ Held x = fault_of x < x.place + size x.tree
 first_held : (r p q : ℕ) (xs : List Node) → r < q → Laid p q xs → Each Held xs → first r xs < q
 first_held r p q [] lt h i = lt
 first_held r p q (x ∷ xs) lt h i =
-    by_type x (λ n. n < q) _ _ (λ ne. omega (arith, i.0, laid_end _ q xs h.1)) (λ y. first_held r _ q xs lt h.1 i.1)
+    by_type x (λ n. n < q) _ _ (λ ne. omega (arith, i.0, laid_end _ q xs h.1)) (λ y. first_held r (x.place + size x.tree) q xs lt h.1 i.1)
 
 held : (x : Node) → Held x
 held x = induction Held node_held x

@@ -460,7 +460,7 @@ module _ (s : Sort) (ws : List ℕ) where
 
   -- What the walk gives.
   pub data Judged : Verdict ℕ → Type 0 where
-    in_order : (n : ℕ) → Ordered s ws → Judged (passed n)
+    all_in_order : (n : ℕ) → Ordered s ws → Judged (passed n)
     not_due_at : (p : ℕ) → NotDue s ws p → Judged (refused 3 p)
     too_deep_at : (p : ℕ) → TooDeep s ws p → Judged (refused 4 p)
 
@@ -495,7 +495,7 @@ module _ (s : Sort) (ws : List ℕ) where
       choose r p q (inr e) = numbered r p q e
 
       by : (v : Verdict ℕ) → in_order s ws ≡ v → Judged v
-      by (passed n) q = in_order n (passes_ordered s ws n q)
+      by (passed n) q = all_in_order n (passes_ordered s ws n q)
       by (refused r p) q = choose r p q (from_walk r p q)
 
   -- There is one offence at most, and none where words are in order.
@@ -554,7 +554,7 @@ module _ (s : Sort) (ws : List ℕ) where
   three_iff p = (not_due p, λ n. by n (in_order s ws) refl judged_so)
     where
       by : NotDue s ws p → (v : Verdict ℕ) → in_order s ws ≡ v → Judged v → in_order s ws ≡ refused 3 p
-      by n v q (in_order m o) = absurd (not_both_ways p o n)
+      by n v q (all_in_order m o) = absurd (not_both_ways p o n)
       by n v q (not_due_at m x) = q ∙ ap (λ (k : ℕ). refused 3 k) (same_place m p (one_place m p x n) (one_place p m n x))
       by n v q (too_deep_at m x) = absurd (not_both_kinds p m n x)
 
@@ -562,12 +562,12 @@ module _ (s : Sort) (ws : List ℕ) where
   four_iff p = (λ q. to q (in_order s ws) refl judged_so, λ n. by n (in_order s ws) refl judged_so)
     where
       to : in_order s ws ≡ refused 4 p → (v : Verdict ℕ) → in_order s ws ≡ v → Judged v → TooDeep s ws p
-      to q v e (in_order m o) = absurd (not_both 4 p m (sym q ∙ e))
+      to q v e (all_in_order m o) = absurd (not_both 4 p m (sym q ∙ e))
       to q v e (not_due_at m x) = absurd (omega (arith, (refused_injective (sym q ∙ e)).0))
       to q v e (too_deep_at m x) = subst (λ (k : ℕ). TooDeep s ws k) (sym (refused_injective (sym q ∙ e)).1) x
 
       by : TooDeep s ws p → (v : Verdict ℕ) → in_order s ws ≡ v → Judged v → in_order s ws ≡ refused 4 p
-      by n v q (in_order m o) = absurd (n.deep (ordered_due p n.within o))
+      by n v q (all_in_order m o) = absurd (n.deep (ordered_due p n.within o))
       by n v q (not_due_at m x) = absurd (not_both_kinds m p x n)
       by n v q (too_deep_at m x) = q ∙ ap (λ (k : ℕ). refused 4 k) (same_place m p (deep_once m p x n) (deep_once p m n x))
 
@@ -683,7 +683,7 @@ module _ (types terms : List ℕ) (start : ℕ) where
       no_five s ws o e = by (in_order s ws) e (judged_so s ws)
         where
           by : (v : Verdict ℕ) → v ≡ refused 5 o → Judged s ws v → ⊥
-          by v q (in_order m x) = not_both 5 o m (sym q)
+          by v q (all_in_order m x) = not_both 5 o m (sym q)
           by v q (not_due_at m x) = omega (arith, (refused_injective q).0)
           by v q (too_deep_at m x) = omega (arith, (refused_injective q).0)
 

@@ -1,5 +1,7 @@
 // The batch card: a priced run with one buffer more, in which the card of a value is laid out.
 
+#![tactic(auto)]
+
 ghost use Rattle.std.specs.Prelude.{◌≡◌, [], length};
 ghost use Rattle.calculus.specs.File.{padded};
 ghost use Rattle.engine.specs.Buffered.{Settled};
@@ -19,20 +21,20 @@ use pricing::{Unpriced, none, price};
 use text::clear;
 
 // Why there is no card: the can has no price, or the buffer is shorter than its card.
-#[derive(Drop)]
+#[derive(Clone, Copy)]
 pub enum Uncarded {
     Price(Unpriced),
     Short,
 }
 
-#[derive(Drop)]
+#[derive(Clone, Copy)]
 pub enum Outcome {
     Refused(Uncarded),
     Ended(Report),
 }
 
 // What the operation answers. The charges are 0 where there are none, and so is the length of the card.
-#[derive(Drop)]
+#[derive(Clone, Copy)]
 pub struct Carded {
     pub outcome: Outcome,
     pub charges: Charges,

@@ -1,5 +1,7 @@
 // What a can costs: bands, charges and their total, whatever the prices and however many the pulses.
 
+#![tactic(auto)]
+
 ghost use Rattle.std.specs.Prelude.{◌≡◌, [], ◌≤◌, ◌<◌, get_or};
 ghost use Rattle.charges.specs.Prices.{price, band, charge, charges, total, within, all_within};
 ghost use Rattle.charges.specs.Charged.{charged, most_charge, Small};
@@ -11,7 +13,7 @@ pub type Prices = [[u32; 3]; 9];
 const MOST_CENTS: u32 = 1000000;
 
 // Each charge and their total, in cents.
-#[derive(Drop)]
+#[derive(Clone, Copy)]
 pub struct Charges {
     pub charge: [u64; 9],
     pub total: u64,

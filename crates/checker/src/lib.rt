@@ -1,5 +1,7 @@
 // The check of a recipe: refusals 1 to 7 in their order, or accepted.
 
+#![tactic(auto)]
+
 ghost use Rattle.std.specs.Prelude.{◌≡◌, ◌+◌, length};
 ghost use Rattle.calculus.specs.File.{padded};
 ghost use Rattle.calculus.specs.File as calculus;
@@ -16,7 +18,7 @@ use types::{Comparison, compare};
 use typing::infer;
 use typing::rules::Inferred;
 
-#[derive(Drop)]
+#[derive(Clone, Copy)]
 pub enum Checked {
     Refused(Refusal),
     Accepted,

@@ -1,5 +1,7 @@
 // The rules of ms and sm: a value of one language is brought into the other.
 
+#![tactic(auto)]
+
 ghost use Rattle.std.specs.Prelude.{◌≡◌, ◌≤◌, length};
 ghost use Rattle.calculus.specs.Trees.{N};
 ghost use Rattle.writing.specs.Given.{most_words, Given};

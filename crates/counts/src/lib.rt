@@ -1,12 +1,14 @@
 // What a run counts: the steps that it makes, and how many of them are calls, conversions and others.
 
+#![tactic(auto)]
+
 ghost use Rattle.std.specs.Prelude.{◌≡◌, ◌<◌};
 ghost use Rattle.calculus.specs.Classes.{word_class};
 ghost use Rattle.calculus.specs.Counting.{AddsUp};
 ghost use Rattle.counts.specs.Counting.{class_of, counts_of, counted};
 
 // What a step is counted as.
-#[derive(Drop)]
+#[derive(Clone, Copy)]
 pub enum Class {
     Call,
     Conversion,
@@ -14,7 +16,7 @@ pub enum Class {
 }
 
 // The steps made, and the three into which they fall.
-#[derive(Drop)]
+#[derive(Clone, Copy)]
 pub struct Counts {
     pub steps: u32,
     pub calls: u32,

@@ -1,6 +1,8 @@
 // The demands as contracts of code that calls the public operations. Each is proved from what these promise and from nothing else of them: if one
 // promised less, no proof here would stand.
 
+#![tactic(auto)]
+
 ghost use Rattle.std.specs.Prelude.{true, ◌↔◌, ◌≡◌};
 ghost use Rattle.calculus.specs.Nodes.{GivenBack, OneWord};
 ghost use Rattle.engine.specs.Lent.{lent, returned};
@@ -13,7 +15,7 @@ use nodes::alone::alone;
 use nodes::walks::node;
 
 // Three answers: a check's, and those of two runs.
-#[derive(Drop)]
+#[derive(Clone, Copy)]
 pub struct Answers {
     pub checked: Checked,
     pub earlier: Answer,

@@ -1,5 +1,7 @@
 // The demands of the price of a can and of its card, as contracts of code that calls them.
 
+#![tactic(auto)]
+
 ghost use Rattle.engine.specs.Lent.{lent};
 ghost use Rattle.pricing.specs.Answered as pricing;
 ghost use Rattle.card.specs.Answered.{card_lent, card_returned};
@@ -11,7 +13,7 @@ use charges::Prices;
 use pricing::{Priced, price};
 
 // The answers of two pricings.
-#[derive(Drop)]
+#[derive(Clone, Copy)]
 pub struct PricedAnswers {
     pub earlier: Priced,
     pub later: Priced,
@@ -58,7 +60,7 @@ pub fn price_twice(
 }
 
 // The answers of two cards.
-#[derive(Drop)]
+#[derive(Clone, Copy)]
 pub struct CardedAnswers {
     pub earlier: Carded,
     pub later: Carded,

@@ -1,5 +1,7 @@
 // The demands of saving, as contracts of code that calls it.
 
+#![tactic(auto)]
+
 ghost use Rattle.std.specs.Prelude.{◌≡◌};
 ghost use Rattle.engine.specs.Lent.{lent, returned};
 ghost use Rattle.demands_of_saves.specs.Saved.{handed, SavedOnce, left_of, written_of, SaveRuns};
@@ -35,7 +37,7 @@ fn written(x: Saved) -> usize
 }
 
 // The answers of a run, of the save of what it left, of the run of the file saved, and of one run.
-#[derive(Drop)]
+#[derive(Clone, Copy)]
 pub struct SavedAnswers {
     pub earlier: Answer,
     pub saved: Saved,

@@ -1,5 +1,7 @@
 // The ends of a run, in the order in which document 01 tests them.
 
+#![tactic(auto)]
+
 ghost use Rattle.std.specs.Prelude.{◌≡◌};
 ghost use Rattle.calculus.specs.Run.{capacity};
 ghost use Rattle.ends.specs.Results.{end_number};
@@ -9,7 +11,7 @@ ghost use Rattle.ends.specs.Decided.{stop, raise, go, decide};
 use counts::{Class, Counts, counted, word_class};
 use reducer::steps::{Change, Move};
 
-#[derive(Drop)]
+#[derive(Clone, Copy)]
 pub enum End {
     Value,
     Spent,
@@ -30,7 +32,7 @@ pub fn number(e: End) -> u32
 }
 
 // The result of a run; `left` is how many words are left.
-#[derive(Drop)]
+#[derive(Clone, Copy)]
 pub struct Report {
     pub end: End,
     pub code: u32,
@@ -40,7 +42,7 @@ pub struct Report {
 }
 
 // What follows a move: the run's end, or the step is made.
-#[derive(Drop)]
+#[derive(Clone, Copy)]
 pub enum Choice {
     Stop(Report),
     Go(Change, Counts),

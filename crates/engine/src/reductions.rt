@@ -14,7 +14,7 @@ use reducer::steps::{Move, step};
 use reducer::turns::From;
 
 // A report, and whether the term stands in the first buffer.
-#[derive(Drop)]
+#[derive(Clone, Copy)]
 pub struct Halt {
     pub report: Report,
     pub front: bool,

@@ -12,7 +12,7 @@ use ends::Report;
 use file::Opened;
 use nodes::refusals::Refusal;
 
-#[derive(Drop)]
+#[derive(Clone, Copy)]
 pub enum Answer {
     Refused(Refusal),
     Ended(Report),

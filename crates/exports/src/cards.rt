@@ -12,7 +12,7 @@ use card::{Outcome, Uncarded, numbered};
 use charges::Charges;
 
 #[repr(C)]
-#[derive(Drop)]
+#[derive(Clone, Copy)]
 pub struct RecipeCard {
     pub priced: RecipePriced,
     pub bytes: u32,

@@ -1,5 +1,7 @@
 // The functions that a C program calls; include/recipe.h declares them.
 
+#![tactic(auto)]
+
 pub mod cards;
 pub mod prices;
 pub mod readers;

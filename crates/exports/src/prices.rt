@@ -10,7 +10,7 @@ use charges::Charges;
 use pricing::{Outcome, Unpriced, numbered, price};
 
 #[repr(C)]
-#[derive(Drop)]
+#[derive(Clone, Copy)]
 pub struct RecipePriced {
     pub run: RecipeRun,
     pub total: u64,

@@ -10,7 +10,7 @@ use engine::runs::{Answer, run};
 use nodes::refusals::{Numbers, Refusal, numbered};
 
 #[repr(C)]
-#[derive(Drop)]
+#[derive(Clone, Copy)]
 pub struct RecipeRun {
     pub refusal: u32,
     pub place: u32,

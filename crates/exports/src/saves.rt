@@ -9,7 +9,7 @@ use crate::runs::narrow;
 use saving::{Saved, Unsaved, numbered, save};
 
 #[repr(C)]
-#[derive(Drop)]
+#[derive(Clone, Copy)]
 pub struct RecipeSaved {
     pub refusal: u32,
     pub place: u32,

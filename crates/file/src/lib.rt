@@ -1,4 +1,7 @@
 // What comes in: a file's bytes as words, its size and its header. Refusals 1 and 2.
+
+#![tactic(auto)]
+
 ghost use Rattle.std.specs.Prelude.{◌≡◌, min, length};
 ghost use Rattle.calculus.specs.File.{word_of, words_of, is_size, padded};
 ghost use Rattle.file.specs.Opening.{opened, headed, opening, kept};
@@ -7,7 +10,7 @@ use nodes::refusals::Refusal;
 use writing::clear;
 
 // What opening a file finds: a refusal, or how many words the declared type has, and how many words the file has.
-#[derive(Drop)]
+#[derive(Clone, Copy)]
 pub enum Opened {
     Refused(Refusal),
     Recipe { type_count: usize, count: usize },

@@ -1,5 +1,7 @@
 // The layout of the batch card: lines put into a buffer, byte after byte. Bytes past the buffer's end are only counted.
 
+#![tactic(auto)]
+
 ghost use Rattle.std.specs.Prelude.{◌≡◌, [], ◌∷◌, ◌++◌, ◌+◌, ◌-◌, ◌≤◌, max, length, replicate};
 ghost use Rattle.calculus.specs.File.{padded};
 ghost use Rattle.writing.specs.Given.{most_place};

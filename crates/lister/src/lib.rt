@@ -1,5 +1,7 @@
 // The listing: from a file's bytes to the text that support reads, in a lent buffer.
 
+#![tactic(auto)]
+
 ghost use Rattle.std.specs.Prelude.{◌≡◌, ◌+◌, ◌*◌, ◌≤◌, length};
 ghost use Rattle.calculus.specs.File.{padded};
 ghost use Rattle.writing.specs.Given.{most_place};

@@ -1,6 +1,9 @@
 // The listing program: it reads a recipe file from standard input and prints what its run comes to. One byte more than a file may have is
 // read, so that a longer input is refusal 1. An input that cannot be read whole has no listing: a line on standard error says why, and nothing
 // is printed. So does a line where the listing cannot be written. A program of the kit has no exit status but 0: ./listing sees to that.
+
+#![tactic(auto)]
+
 fn main() {
     let mut file = [0u8; 16385];
     let n = io::read_full(0, &mut file);

@@ -147,7 +147,7 @@ pub const KINDS: Kinds = [
 
 // What the table says of a kind: its sort, its parts' sorts (the first in the lowest digit, in base 5; 0 ends them), its shape, how many parts it
 // has, and the least and the greatest operand.
-#[derive(Drop)]
+#[derive(Clone, Copy)]
 pub struct Row {
     pub sort: u64,
     pub parts: u64,

@@ -2,7 +2,7 @@ ghost use Rattle.std.specs.Prelude.{◌≡◌};
 ghost use Rattle.nodes.specs.Refusals.{plain, numbered, number_of, place_of};
 
 // Why a recipe is refused, in the order of document 01's table; specs/Refusals.antt gives each its number and its place in the file.
-#[derive(Drop)]
+#[derive(Clone, Copy)]
 pub enum Refusal {
     Bytes,
     Header,
@@ -15,7 +15,7 @@ pub enum Refusal {
 }
 
 // A refusal's number, and its place in the file.
-#[derive(Drop)]
+#[derive(Clone, Copy)]
 pub struct Numbers {
     pub number: u32,
     pub place: usize,

@@ -11,7 +11,7 @@ use crate::kinds::{Kinds, Row, row_at};
 use crate::refusals::Refusal;
 
 // How many words were gone by when the walk ended, or why it did not.
-#[derive(Drop)]
+#[derive(Clone, Copy)]
 pub enum Walked {
     Took(usize),
     Refused(Refusal),

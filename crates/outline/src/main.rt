@@ -1,6 +1,8 @@
 // Asks the reader of nodes at the places of several buffers, and prints what it gives back: a line for each place, with the place and the
 // node's words, or `none`. The file `stdout` beside src/ was written by hand from document 01.
 
+#![tactic(auto)]
+
 fn number(w: u32) {
     io::write_all(1, b" ");
     io::print_decimal(1, w as u64);

@@ -5,7 +5,7 @@ ghost use Rattle.pieces.specs.Pieces.{amiss_in, number_in};
 
 use nodes::words::scheme_wrong;
 
-#[derive(Drop)]
+#[derive(Clone, Copy)]
 pub enum Became {
     Nothing,
     Raises(u32),
@@ -13,7 +13,7 @@ pub enum Became {
 }
 
 // The words to write. Some stand in the node already, `from` a place `to` another; places are counted from the node's word on.
-#[derive(Drop)]
+#[derive(Clone, Copy)]
 pub enum Piece {
     Number {
         kind: u32,

@@ -1,5 +1,7 @@
 // What a node becomes, written from the place n on. Words past the end are only counted.
 
+#![tactic(auto)]
+
 ghost use Rattle.std.specs.Prelude.{◌∷◌, ◌+◌, ◌*◌, ◌≤◌, length};
 ghost use Rattle.writing.specs.Given.{most_words, most_piece, most_place, Given};
 ghost use Rattle.writing.specs.Wrote.{Wrote};

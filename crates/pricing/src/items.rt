@@ -9,7 +9,7 @@ use pieces::numbers::number_at;
 use writing::spans::skip;
 
 // How many items there are, and the pulses of the first nine.
-#[derive(Drop)]
+#[derive(Clone, Copy)]
 pub struct Items {
     pub pulses: [u32; 9],
     pub count: usize,

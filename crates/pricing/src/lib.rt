@@ -1,5 +1,7 @@
 // The price of a can: a run of a recipe of type {N}, with each charge and the total where it ends as a value.
 
+#![tactic(auto)]
+
 pub mod items;
 
 ghost use Rattle.std.specs.Prelude.{◌≡◌};
@@ -17,7 +19,7 @@ use file::Opened;
 use nodes::refusals::{Numbers, Refusal, plain};
 
 // Why a can has no price: a price is over 1,000,000, the recipe is refused, its declared type is not {N}, or it has more than nine items.
-#[derive(Drop)]
+#[derive(Clone, Copy)]
 pub enum Unpriced {
     Prices,
     Recipe(Refusal),
@@ -25,14 +27,14 @@ pub enum Unpriced {
     Items,
 }
 
-#[derive(Drop)]
+#[derive(Clone, Copy)]
 pub enum Outcome {
     Refused(Unpriced),
     Ended(Report),
 }
 
 // What pricing answers. The charges are 0 where there are none.
-#[derive(Drop)]
+#[derive(Clone, Copy)]
 pub struct Priced {
     pub outcome: Outcome,
     pub charges: Charges,

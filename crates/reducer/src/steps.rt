@@ -13,7 +13,7 @@ use writer::write_next;
 
 // The word of the node whose turn it was, its place, how many words stood there, how many stand there now, how many words the next term has,
 // whether it fits or not, and where the next walk may begin.
-#[derive(Drop)]
+#[derive(Clone, Copy)]
 pub struct Change {
     pub word: u32,
     pub place: usize,
@@ -23,7 +23,7 @@ pub struct Change {
     pub back: From,
 }
 
-#[derive(Drop)]
+#[derive(Clone, Copy)]
 pub enum Move {
     Value,
     Raised(u32),

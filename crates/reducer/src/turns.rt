@@ -12,7 +12,7 @@ use pieces::forms::form_at;
 use writing::spans::skip;
 
 // Where a walk begins: a place, and how many parts are due there.
-#[derive(Drop)]
+#[derive(Clone, Copy)]
 pub struct From {
     pub place: usize,
     pub due: usize,
@@ -20,7 +20,7 @@ pub struct From {
 
 // No node's: all parts that were due are values. Or the place of the node whose turn it is, where its words end, and where the next walk may
 // begin: a step leaves the words before the node as they were, so at the node that waits for it, or else at itself.
-#[derive(Drop)]
+#[derive(Clone, Copy)]
 pub enum Found {
     Nothing,
     At(usize, usize, From),
@@ -28,7 +28,7 @@ pub enum Found {
 
 // What evaluation does at a node: past so many words it takes so many parts, and leaves the rest. Then it is the node's own turn, unless the
 // node is a value.
-#[derive(Drop)]
+#[derive(Clone, Copy)]
 pub struct Look {
     pub start: usize,
     pub takes: usize,

@@ -1,5 +1,7 @@
 // What a run left, saved with its declared type as a recipe file, so that it can be gone on with.
 
+#![tactic(auto)]
+
 ghost use Rattle.std.specs.Prelude.{◌≡◌, [], ◌∷◌, ◌<◌, ◌≤◌, leb, length};
 ghost use Rattle.calculus.specs.File.{bytes_of, file_of};
 ghost use Rattle.writing.specs.Given.{most_place};
@@ -14,7 +16,7 @@ use nodes::refusals::{Numbers, Refusal, plain};
 use text::clear;
 
 // Why nothing is saved: the file would pass 16,384 bytes, the words are refused, or the buffer is shorter than the file.
-#[derive(Drop)]
+#[derive(Clone, Copy)]
 pub enum Unsaved {
     Long,
     Recipe(Refusal),
@@ -22,7 +24,7 @@ pub enum Unsaved {
 }
 
 // What saving answers: a refusal, or how many bytes the file has.
-#[derive(Drop)]
+#[derive(Clone, Copy)]
 pub enum Saved {
     Refused(Unsaved),
     File(usize),

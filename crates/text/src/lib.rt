@@ -1,5 +1,7 @@
 // Text put into a buffer, byte after byte: bytes as they stand, and numbers in decimal. Bytes past the buffer's end are only counted.
 
+#![tactic(auto)]
+
 ghost use Rattle.std.specs.Prelude.{◌≡◌, [], ◌∷◌, ◌+◌, ◌%◌, ◌<◌, length, take};
 ghost use Rattle.calculus.specs.File.{padded};
 ghost use Rattle.writing.specs.Given.{most_count, half_count};

@@ -3,6 +3,8 @@
 // the list of the type written after it; a lambda means the function from the type written after it to the type that its link refers to.
 // There is a link for each word of the file. 0, where the header stands, is no reference.
 
+#![tactic(auto)]
+
 ghost use Rattle.std.specs.Prelude.{◌≡◌, ◌<◌, ◌≤◌, length};
 ghost use Rattle.nodes.specs.Table.{kinds};
 ghost use Rattle.nodes.specs.Walks.{WordsAt};
@@ -13,14 +15,14 @@ ghost use Rattle.types.specs.Comparisons.{Matched, TypeEnd, lumps_compared, Comp
 use nodes::kinds::{Kinds, row_at};
 
 // How two written types compare: equal, with the place past the first; or the first of its words that differs from the second's.
-#[derive(Drop)]
+#[derive(Clone, Copy)]
 pub enum Match {
     Same(usize),
     Differ(usize),
 }
 
 // How the types of two references compare: equal, or the place of the first word of the first type, where that is written, in which they differ.
-#[derive(Drop)]
+#[derive(Clone, Copy)]
 pub enum Comparison {
     Equal,
     At(usize),

@@ -2,6 +2,8 @@
 // the part of the file that starts at the term's own word, and hands on those of a part, which are fewer. While the body of a lambda is inferred,
 // the lambda's link is the place of the next lambda around it, or 0; after that an ML lambda's is the type of the body.
 
+#![tactic(auto)]
+
 pub mod parts;
 pub mod rules;
 

@@ -12,14 +12,14 @@ use nodes::kinds::{Kinds, row_at};
 use types::{codomain, former_at, same, type_end};
 
 // The type of an ML term, as a reference, and the place past the term; or the place of its fault.
-#[derive(Drop)]
+#[derive(Clone, Copy)]
 pub enum Inferred {
     Typed(usize, usize),
     Bad(usize),
 }
 
 // The place past a well-formed Scheme term; or the place of its fault.
-#[derive(Drop)]
+#[derive(Clone, Copy)]
 pub enum Formed {
     Whole(usize),
     Bad(usize),

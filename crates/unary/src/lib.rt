@@ -1,5 +1,7 @@
 // The rules of the operators of one part.
 
+#![tactic(auto)]
+
 ghost use Rattle.std.specs.Prelude.{◌≡◌, ◌≤◌, length};
 ghost use Rattle.unary.specs.Operators.{answer_by, operator1, null_by};
 ghost use Rattle.pieces.specs.Pieces.{BecameIn};

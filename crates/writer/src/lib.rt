@@ -1,5 +1,7 @@
 // A writer: it borrows the unused buffer, and counts the words of the next term, those that did not fit too.
 
+#![tactic(auto)]
+
 ghost use Rattle.std.specs.Prelude.{◌≡◌};
 ghost use Rattle.writing.specs.Stretches.{StretchIn};
 ghost use Rattle.writer.specs.Kept.{Put, Gap, Next};

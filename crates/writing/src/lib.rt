@@ -1,5 +1,7 @@
 // Words put into a buffer, one after the other. Words past its end are only counted.
 
+#![tactic(auto)]
+
 ghost use Rattle.std.specs.Prelude.{◌≡◌, [], ◌∷◌, ◌+◌, ◌-◌, ◌<◌, ◌≤◌, min, length, take};
 ghost use Rattle.calculus.specs.File.{padded};
 ghost use Rattle.writing.specs.Given.{most_count};

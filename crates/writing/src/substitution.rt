@@ -8,7 +8,7 @@ use crate::{copy, put};
 use nodes::kinds::{Kinds, part_count, row_at};
 
 // How many words were read, and the place after the words written.
-#[derive(Drop)]
+#[derive(Clone, Copy)]
 pub struct Reached {
     pub read: usize,
     pub at: usize,
