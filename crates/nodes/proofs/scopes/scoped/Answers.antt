@@ -5,18 +5,14 @@ use borrow.Author.Rules.{rules}
 use Rattle.nodes.specs.Table.{row_of, kinds}
 use Rattle.nodes.specs.Walks.{sorts_of}
 use Rattle.nodes.proofs.Dues.{one_digit}
-use Rattle.nodes.proofs.scopes.scoped.Statement.{statement}
-use Rattle.nodes.proofs.scopes.scoped.Tie as tie
+use Rattle.nodes.proofs.scopes.scoped.Goals as goal
 
-variables-requires : tie.Need-variables-requires
+pub variables-requires : goal.variables-requires
 unfolding kinds row_of
-variables-requires c κs =
-    let few = c.before.before.before.requires in
+variables-requires c =
+    let few = c.requires in
     record { walk = record { words = record { tabled = refl; fits = omega arith }; digits = one_digit 2 (omega arith) }; room = omega (arith, few) }
 
-returns : tie.Need-returns
+pub returns : goal.returns
 unfolding sorts_of
-returns c = c.before.variables.ensures.0
-
-pub scoped_spec : {M : Type 1} → statement M
-scoped_spec = tie.close (tie.spec (λ c. search rules) variables-requires returns)
+returns c = c.variables.ensures.result_value
