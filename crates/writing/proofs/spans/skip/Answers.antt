@@ -1,0 +1,32 @@
+-- `writing::spans::skip` meets its contract: before each turn i words are gone by and `left` nodes are due. Assumes nothing.
+use borrow.Author.Rules.{rules}
+use mathlib.Core.Path.{◌≡◌}
+use Prim.Native.Nat.{◌+◌, ◌*◌, ◌≤◌, ◌-◌}
+use native.Mathlib.Omega.{arith}
+use lib.ListN.{length, drop}
+use Rattle.writing.specs.Spans.{span}
+use Rattle.writing.proofs.Measures.{span_turn, span_end, span_over}
+use Rattle.writing.proofs.spans.skip.Goals as goal
+
+pub loop-i-init : goal.loop-i-init
+loop-i-init c = (omega arith, omega arith, omega arith)
+
+pub returns-then-left-eq0 : goal.returns-then-left-eq0
+returns-then-left-eq0 c =
+    let l = c.loop-i in
+    record { within = l.invariant.0; is = omega (arith, l.invariant.2, span_over c.args.words.now l.left l.i c.if-left-eq0.true) }
+
+pub loop-i-preserved : goal.loop-i-preserved
+loop-i-preserved c =
+    let l = c.loop-i in
+    let ws = c.args.words.now in
+    let n = c.part_count in (
+      omega arith,
+      omega (arith, l.invariant.1, n.ensures.1),
+      span_turn ws l.left l.i n.result _ c.if-left-eq0.false c.loop-i-test.true n.ensures.0 l.invariant.2,
+    )
+
+pub returns : goal.returns
+returns c =
+    let l = c.loop-i in
+    record { within = l.invariant.0; is = omega (arith, l.invariant.2, span_end c.args.words.now l.left l.i c.loop-i-test.false) }
