@@ -22,8 +22,8 @@ loop-i-preserved c =
     let ws = c.args.words.now in
     let n = c.part_count in (
       omega arith,
-      omega (arith, l.invariant.1, n.ensures.1),
-      span_turn ws l.left l.i n.result _ c.if-left-eq0.false c.loop-i-test.true n.ensures.0 l.invariant.2,
+      omega (arith, l.invariant.1, n.ensures.most),
+      span_turn ws l.left l.i n.result _ c.if-left-eq0.false c.loop-i-test.true n.ensures.value l.invariant.2,
     )
 
 pub returns : goal.returns
