@@ -16,7 +16,6 @@ use Rattle.calculus.specs.Words.{put_ty, size_ty}
 use Rattle.calculus.specs.Kinds.{Sort, type, Tree, put_tree}
 use Rattle.calculus.proofs.Sizes.{tree_length, past_word, past_tree}
 use Rattle.calculus.proofs.Views.{view, sized}
-use Rattle.nodes.specs.declared.kinds.Row as code
 use Rattle.nodes.specs.Table.{row_of, shape_number}
 use Rattle.nodes.proofs.Shapes.{shape_first}
 use Rattle.types.specs.References.{shape_at, former, former_at, Written, Means, codomain}

@@ -25,6 +25,7 @@ use Rattle.typing.specs.Parts.{Function}
 use Rattle.typing.specs.Infers.{Infers}
 use Rattle.typing.proofs.Lasting.{binds_static, refers_later, good_part, passes_on}
 use Rattle.typing.proofs.Telling.{Branches, branch_lambda, branch_one, branch_more, Several, Of, word_told, shape_told, told}
+use Rattle.typing.proofs.Telling.{as_one_part, as_two_parts, as_if0}
 use Rattle.typing.proofs.OverParts.{ComeTo, Goal, further, whole_node, part, reached, sees, body, One, reached_1, first_good}
 use Rattle.typing.proofs.OverParts.{Two, reached_2, three_bad}
 
@@ -118,10 +119,7 @@ module _ {l : Lang} {row : code.Row} {start : ℕ} {ls2 : List ℕ} {t : Referen
   pub an_operator_1 : {r : Answer l} → Concluded1 l w ls2 at t second r → row.shape ≡ 4 → Infers l w at scope ls ls2 r
   an_operator_1 {r} f h =
       whole_node (reached A.entering) A.infers (passes_on at (length w) second r (reached_1 A).past (reached_1 A).within f.passes)
-      (λ e k d. by e (told A.entering.node.read 4 h l e k d))
-    where
-      by : (e : Term l) → Shaped l 4 e → Goal l w ls at scope ls2 r e
-      by e (node.one_part o a) = operator_1 o a f
+      (λ e k d. as_one_part (λ e. Goal l w ls at scope ls2 r e) (λ o a. operator_1 o a f) e (told A.entering.node.read 4 h l e k d))
 
 -- Two parts.
 module _ {l : Lang} {row : code.Row} {start : ℕ} {ls3 : List ℕ} {t u : Reference l} {third : ℕ} {w : List ℕ} {at : ℕ} {ls : List ℕ} {scope : ℕ}
@@ -130,10 +128,10 @@ module _ {l : Lang} {row : code.Row} {start : ℕ} {ls3 : List ℕ} {t u : Refer
   unfolding infer fault size put
   an_operator_2 {r} f seen =
       whole_node (reached_1 A.one) A.infers (passes_on at (length w) third r (reached_2 A).past (reached_2 A).within f.passes)
-      (λ e k d. by e (seen e k d))
+      (λ e k d. as_two_parts (λ e. Goal l w ls at scope ls3 r e) one e (seen e k d))
     where
-      by : (e : Term l) → Shaped l 5 e → Goal l w ls at scope ls3 r e
-      by e (node.two_parts o a c) Γ k d s =
+      one : (o : Op2) (a c : Term l) → Goal l w ls at scope ls3 r (op2 o a c)
+      one o a c Γ k d s =
           let y = past_word at _ w _ d in
           let g = first_good A.one (op2 o a c) k d refl (λ h. omega (arith, h)) a Γ (put c k) y s in
           let p = at + 1 + size a in
@@ -151,13 +149,14 @@ module _ {l : Lang} {row : code.Row} {start : ℕ} {ls3 : List ℕ} {t u : Refer
       → {r : Answer l} → Concluded3 l w ls4 at t u v next r → Of l w at (Shaped l 6) → Infers l w at scope ls ls4 r
   unfolding infer fault size put
   an_if0 {ls4} K {v} {next} z {r} f seen =
-      whole_node (reached_2 A) K (passes_on at (length w) next r reached_3.past reached_3.within f.passes) (λ e k d. by e (seen e k d))
+      whole_node (reached_2 A) K (passes_on at (length w) next r reached_3.past reached_3.within f.passes)
+      (λ e k d. as_if0 (λ e. Goal l w ls at scope ls4 r e) one e (seen e k d))
     where
       reached_3 : ComeTo w ls at next ls4
       reached_3 = further (reached_2 A) K z
 
-      by : (e : Term l) → Shaped l 6 e → Goal l w ls at scope ls4 r e
-      by i (node.an_if0 a c e) Γ k d s =
+      one : (a c e : Term l) → Goal l w ls at scope ls4 r (if0 a c e)
+      one a c e Γ k d s =
           let y = past_word at _ w _ d in
           let g = first_good A.one (if0 a c e) k d refl (λ h. omega (arith, h)) a Γ (put c (put e k)) y s in
           let p = at + 1 + size a in

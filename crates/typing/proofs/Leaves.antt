@@ -25,7 +25,7 @@ use Rattle.typing.specs.Parts.{lead_static, Leaf}
 use Rattle.typing.specs.Infers.{Infers}
 use Rattle.typing.proofs.Leading.{lead_written}
 use Rattle.typing.proofs.Lasting.{passes_on}
-use Rattle.typing.proofs.Telling.{Bare, bare_variable, bare_number, bare_nil, bare_wrong, word_told, shape_told, told, bare}
+use Rattle.typing.proofs.Telling.{Bare, bare_variable, bare_number, bare_nil, bare_wrong, word_told, shape_told, told, bare, as_variable}
 
 -- Nothing is written past the end.
 pub no_words : (l : Lang) (w ls : List ℕ) (at scope : ℕ) → length (drop at w) ≡ 0 → Infers l w at scope ls ls (bad at)
@@ -47,6 +47,12 @@ module _ {table w ls : List ℕ} {at : ℕ} {row : code.Row} {next : ℕ} (F : L
   index ml i q = omega (arith, q)
   index sc i q = omega (arith, q)
 
+  -- What there is to show of a term.
+  abbrev Answered : (l : Lang) → Answer l → Term l → Type 0
+  Answered l r e =
+      (Γ : Lambdas) (k : List ℕ) → drop at w ≡ put e k → Scope w ls at scope Γ
+      → Answers l w ls at (at + size e) (fault at Γ e) (at + size e) (infer Γ e) r
+
   -- A variable, and a term of another shape.
   pub at_variable : {l : Lang} {r : Answer l} → row.shape ≡ 1 → Variable l w ls scope (get_or w at 0) at r → Infers l w at scope ls ls r
   unfolding infer fault size put
@@ -55,12 +61,11 @@ module _ {table w ls : List ℕ} {at : ℕ} {row : code.Row} {next : ℕ} (F : L
         same = refl;
         kept = λ i j. refl;
         advances = passes_on at (length w) (at + 1) r (omega arith) (omega (arith, F.read.within)) v.passes;
-        is = λ e Γ k d s. record { answer = by e (told F.read 1 h l e k d) Γ k d s };
+        is = λ e Γ k d s. record { answer = as_variable (Answered l r) one e (told F.read 1 h l e k d) Γ k d s };
       }
     where
-      by : (e : Term l) → Shaped l 1 e → (Γ : Lambdas) (k : List ℕ) → drop at w ≡ put e k → Scope w ls at scope Γ
-          → Answers l w ls at (at + size e) (fault at Γ e) (at + size e) (infer Γ e) r
-      by e (node.a_variable {i = i}) Γ k d s =
+      one : (i : ℕ) → Answered l r (var i)
+      one i Γ k d s =
           subst (λ (j : ℕ). Answers l w ls at (at + 1) at (at + 1) (type_at l Γ j) r) (index l i (word_told F.read (var {l = l} i) k d))
           (v.is Γ at (at + 1) s)
 

@@ -27,7 +27,7 @@ use Rattle.typing.proofs.Leaves.{lead_lam}
 use Rattle.typing.proofs.Lasting.{scope_later, scope_inside, binds_static, answers_wider, no_part}
 use Rattle.typing.proofs.Lasting.{GoodPart, good_part, advances_later, advanced}
 use Rattle.typing.proofs.Telling.{Branches, branch_lambda, branch_one, branch_more, Several, several_two, several_three}
-use Rattle.typing.proofs.Telling.{Of, sort_told, shape_told, told, branches}
+use Rattle.typing.proofs.Telling.{Of, sort_told, shape_told, told, branches, as_if0}
 
 -- A node, and where the first term among its parts starts.
 pub record AtNode (w : List ℕ) (at : ℕ) (row : code.Row) (start : ℕ) : Type 0 where
@@ -245,10 +245,10 @@ module _ {l : Lang} {row : code.Row} {start : ℕ} {ls3 : List ℕ} {t u : Refer
   pub three_bad : {ls4 : List ℕ} {r3 : Answer l} → Infers l w third scope ls3 ls4 r3 → {b : ℕ} → r3 ≡ bad b → Of l w at (Shaped l 6)
       → Infers l w at scope ls ls4 r3
   unfolding infer fault size put Answers
-  three_bad {ls4} {r3} K {b} z seen = bad_node reached_2 K z (λ e k d. by e (seen e k d))
+  three_bad {ls4} {r3} K {b} z seen = bad_node reached_2 K z (λ e k d. as_if0 (λ e. Goal l w ls at scope ls4 r3 e) one e (seen e k d))
     where
-      by : (e : Term l) → Shaped l 6 e → Goal l w ls at scope ls4 r3 e
-      by e (node.an_if0 a c f) Γ k d s =
+      one : (a c f : Term l) → Goal l w ls at scope ls4 r3 (if0 a c f)
+      one a c f Γ k d s =
           let y = past_word at _ w _ d in
           let g = first_good A.one (if0 a c f) k d refl (λ h. omega (arith, h)) a Γ (put c (put f k)) y s in
           let y' = past_tree (term l) a (at + 1) w (put c (put f k)) y in

@@ -60,6 +60,19 @@ pub data Branches : (l : Lang) → Term l → Type 0 where
   branch_one : {l : Lang} (o : Op1 l) (a : Term l) → Branches l (op1 o a)
   branch_more : {l : Lang} {e : Term l} → Several l e → Branches l e
 
+-- A term of one of these shapes, in either language.
+pub as_variable : {l : Lang} (P : Term l → Type 0) → ((i : ℕ) → P (var i)) → (e : Term l) → Shaped l 1 e → P e
+as_variable P f e (node.a_variable {i = i}) = f i
+
+pub as_one_part : {l : Lang} (P : Term l → Type 0) → ((o : Op1 l) (a : Term l) → P (op1 o a)) → (e : Term l) → Shaped l 4 e → P e
+as_one_part P f e (node.one_part o a) = f o a
+
+pub as_two_parts : {l : Lang} (P : Term l → Type 0) → ((o : Op2) (a b : Term l) → P (op2 o a b)) → (e : Term l) → Shaped l 5 e → P e
+as_two_parts P f e (node.two_parts o a b) = f o a b
+
+pub as_if0 : {l : Lang} (P : Term l → Type 0) → ((a b c : Term l) → P (if0 a b c)) → (e : Term l) → Shaped l 6 e → P e
+as_if0 P f e (node.an_if0 a b c) = f a b c
+
 -- The word of a node is the first one from its place on.
 pub first_word : (w : List ℕ) (at : ℕ) → get_or (drop at w) 0 0 ≡ get_or w at 0
 first_word w at = get_or-drop at w 0 0 ∙ ap (λ (n : ℕ). get_or w n 0) (add-zero at)
