@@ -2,7 +2,7 @@
 use Prim.Native.Nat.{ℕ, zero, suc, ◌+◌, ◌*◌, ◌≤◌, ◌<◌}
 use mathlib.Core.Bool.{Bool, true, false, ◌&&◌}
 use mathlib.Core.List.{List, [], ◌∷◌, ◌++◌}
-use mathlib.Core.Path.{◌≡◌, refl, sym, ap, ◌∙◌}
+use mathlib.Core.Path.{◌≡◌, refl, sym, ap}
 use native.Mathlib.Nat.{zero-mul, mul-le-mul_right, mul-le-mul_left, le_trans}
 use native.Mathlib.Omega.{arith}
 use lib.Dec.{leb}
@@ -13,9 +13,8 @@ use denote.Plain.{UInt}
 use denote.Array.{Array, each}
 use denote.Shadow.{shadow}
 use denote.Laws.{Is}
-use lib.ListN.{length, get_or, set, take, drop, replicate, drop_of_length-le}
-use lib.Seq.{drop-cons, take_all}
-use Rattle.calculus.specs.File.{padded}
+use lib.ListN.{length, get_or, set, drop, replicate, drop_of_length-le}
+use lib.Seq.{drop-cons}
 use Rattle.charges.specs.Prices.{Prices, price, band, charge, charges, total, most_cents, within, all_within}
 use Rattle.charges.specs.Charged.{most_charge, Small}
 

@@ -10,7 +10,7 @@ use Rattle.writing.specs.Wrote.{Wrote}
 use Rattle.writing.proofs.Stores.{then, wrote_as}
 use Rattle.writing.proofs.Clearing.{front_copied}
 use Rattle.text.specs.Characters.{blank, line_feed}
-use Rattle.layout.specs.Layout.{up_to, right_to, ended, pump_line, pump_lines}
+use Rattle.layout.specs.Layout.{right_to, ended, pump_line, pump_lines}
 
 -- One blank more.
 pub blanks_more : (n k : ℕ) → n ≤ k → replicate (k - n) blank ++ blank ∷ [] ≡ replicate (k + 1 - n) blank

@@ -369,7 +369,8 @@ lines_only charges total i (n ∷ ns) text l p q =
     ∙ sym (append_assoc (pump_line (suc i) n (get_or charges i 0)) (pump_lines charges (suc i) ns) (last_line total))
   where
     moved : (k : ℕ)
-        → pump_line (i + suc k + 1) (get_or ns k 0) (get_or charges (i + suc k) 0) ≡ pump_line (suc i + k + 1) (get_or ns k 0) (get_or charges (suc i + k) 0)
+        → pump_line (i + suc k + 1) (get_or ns k 0) (get_or charges (i + suc k) 0)
+        ≡ pump_line (suc i + k + 1) (get_or ns k 0) (get_or charges (suc i + k) 0)
     moved k =
         let e : i + suc k ≡ suc i + k = omega arith in
         ap (λ (m : ℕ). pump_line (m + 1) (get_or ns k 0) (get_or charges m 0)) e

@@ -1,5 +1,5 @@
 -- Cards laid out by hand. proofs/Examples.antt proves them.
-use Rattle.std.specs.Prelude.{ℕ, List, [], ◌∷◌, ◌++◌, ◌≡◌}
+use Rattle.std.specs.Prelude.{[], ◌∷◌, ◌++◌, ◌≡◌}
 use Rattle.text.specs.Characters.{characters}
 use Rattle.layout.specs.Layout.{card}
 

@@ -1,5 +1,5 @@
 -- Laws of the card's layout, the statements alone; proofs/Laws.antt proves them.
-use Rattle.std.specs.Prelude.{ℕ, suc, ◌+◌, ◌*◌, ◌-◌, ◌≤◌, ◌<◌, cond, List, [], ◌∷◌, ◌++◌, ◌≡◌, eqb, length, take, drop, get_or, replicate}
+use Rattle.std.specs.Prelude.{ℕ, ◌+◌, ◌*◌, ◌-◌, ◌≤◌, ◌<◌, cond, List, [], ◌∷◌, ◌++◌, ◌≡◌, eqb, length, take, drop, get_or, replicate}
 use Rattle.text.specs.Decimal.{InDecimal}
 use Rattle.text.specs.Characters.{blank, line_feed, characters}
 use Rattle.layout.specs.Layout.{card, last_line}

@@ -1,0 +1,15 @@
+-- `text::clear` meets its contract: the bytes from n up to i are zero. Assumes nothing.
+use Prim.Native.Nat.{◌+◌, ◌-◌, ◌≤◌}
+use mathlib.Core.Path.{◌≡◌}
+use lib.ListN.{length}
+use lib.Seq.{sets}
+use Rattle.writing.proofs.Clearing.{zeros}
+use Rattle.text.proofs.clear.Given as goal
+
+abbrev pub invariant-loop-i : goal.invariant-loop-i
+invariant-loop-i l =
+    (l.n ≤ l.i) × (l.i ≤ l.n + (length l.text - l.n)) × (length l.text ≡ length l.initial.text)
+    × (l.text ≡ sets l.initial.text l.n (zeros l.n l.i))
+
+abbrev pub decreases-loop-i : goal.decreases-loop-i
+decreases-loop-i l = length l.text - l.i
