@@ -37,7 +37,7 @@ def odd(name):
 
 
 def snake(name):
-    name = name.replace("-", "_")
+    name = name.replace("-", "_").replace("ML", "Ml")
     name = re.sub(r"(?<=[a-z0-9])([A-Z])(?=[a-z])", lambda m: "_" + m.group(1).lower(), name)
     name = re.sub(r"(?<=[a-z0-9])([A-Z])(?![a-z])", lambda m: "_" + m.group(1).lower(), name)
     return name

@@ -76,7 +76,8 @@ size_ordinary {m} u k (var {l} i) = by m l u (eqb i k) (leb i k)
     kept l true = refl
     kept l false = refl
 
-    by : (m l : Lang) (u : Term m) (b c : Bool) → size {l = l} (cond b (for_own m l (shift k 0 u) (var i)) (cond c (var i) (var (i - 1)))) ≤ 1 * size u
+    by : (m l : Lang) (u : Term m) (b c : Bool) → size {l = l} (cond b (for_own m l (shift k 0 u) (var i)) (cond c (var i) (var (i - 1)))) ≤ 1 *
+        size u
     by ml ml u true c = omega (arith, size_shift k 0 u)
     by ml sc u true c = omega (arith, size_some u)
     by sc ml u true c = omega (arith, size_some u)
@@ -85,7 +86,14 @@ size_ordinary {m} u k (var {l} i) = by m l u (eqb i k) (leb i k)
     by sc l u false c = omega (arith, size_some u, kept l c)
 size_ordinary u k (num n) = omega (arith, size_some u)
 size_ordinary u k (lam {l} t b) =
-    omega (arith, size_some u, size_ordinary u (suc k) b, spread_2 (size_static l t) (size b) (size u), grown (size_static l t) (size u) (size_some u))
+    omega (
+      arith,
+      size_some u,
+      size_ordinary u (suc k) b,
+      spread_2 (size_static l t) (size b) (size u),
+      grown (size_static l t) (size u)
+          (size_some u),
+    )
 size_ordinary u k (op1 o a) = omega (arith, size_some u, size_ordinary u k a, spread_1 (size a) (size u))
 size_ordinary u k (op2 o a b) = omega (arith, size_some u, size_ordinary u k a, size_ordinary u k b, spread_2 (size a) (size b) (size u))
 size_ordinary u k (if0 a b c) =

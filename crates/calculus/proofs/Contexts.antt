@@ -2,7 +2,7 @@
 use Prim.Native.Nat.{ℕ}
 use mathlib.Core.Path.{◌≡◌, refl, ap, ◌∙◌}
 use Rattle.calculus.specs.Trees.{Lang, Static, Term, op1, op2, wrong, ms, sm}
-use Rattle.calculus.specs.Reduction.{Frame, under, first, second, tested, into_mL, into_scheme, plug, Context, here, within, fill}
+use Rattle.calculus.specs.Reduction.{Frame, under, first, second, tested, into_ml, into_scheme, plug, Context, here, within, fill}
 use Rattle.calculus.specs.Rules.{Around, hole, in_unary, in_first, in_second, in_test, in_ms, in_sm, around, ◌⊢◌⇒◌, ◌⟶◌, by_rule, Raises}
 use Rattle.calculus.specs.Rules.{by_wrong}
 use Rattle.calculus.specs.Evaluation.{Taken, Evaluated}
@@ -25,7 +25,7 @@ placed (in_unary o E) = in_frame (under o) tt (placed E) (λ e. refl)
 placed (in_first o E b) = in_frame (first o b) tt (placed E) (λ e. refl)
 placed (in_second o v h E) = in_frame (second o v) h (placed E) (λ e. refl)
 placed (in_test E b c) = in_frame (tested b c) tt (placed E) (λ e. refl)
-placed (in_ms t E) = in_frame (into_mL t) tt (placed E) (λ e. refl)
+placed (in_ms t E) = in_frame (into_ml t) tt (placed E) (λ e. refl)
 placed (in_sm t E) = in_frame (into_scheme t) tt (placed E) (λ e. refl)
 
 -- The published context of a place to which evaluation goes.
@@ -36,7 +36,7 @@ published (within (under o) F) ev = let x = published F ev.1 in (in_unary o x.0,
 published (within (first o b) F) ev = let x = published F ev.1 in (in_first o x.0 b, λ e. ap (plug (first o b)) (x.1 e))
 published (within (second o v) F) ev = let x = published F ev.1 in (in_second o v ev.0 x.0, λ e. ap (op2 o v) (x.1 e))
 published (within (tested b c) F) ev = let x = published F ev.1 in (in_test x.0 b c, λ e. ap (plug (tested b c)) (x.1 e))
-published (within (into_mL t) F) ev = let x = published F ev.1 in (in_ms t x.0, λ e. ap (ms t) (x.1 e))
+published (within (into_ml t) F) ev = let x = published F ev.1 in (in_ms t x.0, λ e. ap (ms t) (x.1 e))
 published (within (into_scheme t) F) ev = let x = published F ev.1 in (in_sm t x.0, λ e. ap (sm t) (x.1 e))
 
 -- A rule, and a wrong, at a place to which evaluation goes.

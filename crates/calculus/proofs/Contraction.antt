@@ -13,7 +13,7 @@ use Rattle.calculus.specs.Trees.{fix, null?, test}
 use Rattle.calculus.specs.Words.{largest}
 use Rattle.calculus.specs.Scope.{Scoped}
 use Rattle.calculus.specs.Reduction.{substitute, Form, number, lambda, nil_form, cons_form, sealed, other, form, Became, becomes, raises, nothing}
-use Rattle.calculus.specs.Reduction.{on_number, on_lambda, on_list, on_lump, amiss, answer, contract1, on_numbers, contract2, to_mL, to_scheme}
+use Rattle.calculus.specs.Reduction.{on_number, on_lambda, on_list, on_lump, amiss, answer, contract1, on_numbers, contract2, to_ml, to_scheme}
 use Rattle.calculus.specs.Reduction.{contract}
 use Rattle.calculus.specs.Evaluation.{Ready}
 use Rattle.calculus.specs.Rules.{Value, lam_v, num_v, nil_v, cons_v, lump_v, Lambda, Number, Nil, Cons, ◌⊢◌⇒◌, app_lambda, app_no_lambda, fix_lambda}
@@ -154,7 +154,7 @@ sm_ruled v t u r b s q =
 
 -- So it is at every node that is ready and closed.
 pub contract_ruled : {l : Lang} (e : Term l) → Scoped [] e → Ready e → Ruled e (contract e)
-unfolding contract contract1 contract2 to_mL to_scheme form on_lump amiss
+unfolding contract contract1 contract2 to_ml to_scheme form on_lump amiss
 contract_ruled (var i) s h = tt
 contract_ruled (num n) s h = tt
 contract_ruled (lam t b) s h = tt
@@ -194,7 +194,7 @@ contract_ruled (sm (list t) v) s h = on_list_lem (Ruled (sm (list t) v)) _ _ _ h
 contract_ruled (sm (t to u) v) s h = on_lambda_lem (Ruled (sm (t to u) v)) _ _ h (λ n. tt) (λ r b q. sm_ruled v t u r b s q)
 
 rule_made : {l : Lang} {e r : Term l} → Scoped [] e → l ⊢ e ⇒ r → Ready e × (contract e ≡ becomes r)
-unfolding contract contract1 contract2 to_mL to_scheme on_numbers on_number on_lambda on_list on_lump form amiss answer
+unfolding contract contract1 contract2 to_ml to_scheme on_numbers on_number on_lambda on_list on_lump form amiss answer
 rule_made s (app_lambda {b = b} {u} v) = ((refl, lam_v, v), ap becomes (substitute_ordinary u b s.1 s.0))
 rule_made s (app_no_lambda f u ne) = ((refl, f, u), no_lambda f _ _ ne)
 rule_made s (fix_lambda {t} {b}) = (lam_v, ap becomes (substitute_ordinary (fix (lam t b)) b s s))

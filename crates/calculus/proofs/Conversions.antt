@@ -321,7 +321,8 @@ no_lambda_back t u b k n p =
     let e = ms (t to u) (sm (t to u) (lam t b)) in
     let h : Typed [] e (t to u) = (k, refl) in
     let g : Term sc = sm u (app (shift 1 0 (lam t b)) (ms t (var 0))) in
-    let q : Steps 2 e (wrapper t u g) = then (into_ml_lem (t to u) (sm (t to u) (lam t b)) (lam tt g) (rule sm_lambda)) (then (rule ms_lambda) stay) in
+    let q : Steps 2 e (wrapper t u g) = then (into_ml_lem (t to u) (sm (t to u) (lam t b)) (lam tt g) (rule sm_lambda))
+    (then (rule ms_lambda) stay) in
     let same = one_end (t to u) h p (value_end (t to u) h p lam_v) q (value_end (t to u) h q lam_v) in
     omega (arith, ap size same, size_shift 1 0 (lam {l = sc} tt g), size_shift 1 0 (lam t b))
 
@@ -347,7 +348,8 @@ module _ (t : Ty) {v r : Term ml} {w : Term sc} (h : Value ml v) (f : Fits t w) 
       let rest = sm s (nil t) in
       onward (ms s) (into_ml_lem s) {Q = Back t r} {r = cons (sm t v) rest} (then (rule (sm_cons h nil_v)) stay)
       (onward (λ (e : Term sc). ms s (cons e rest)) (λ a b z. into_ml_lem s (cons a rest) (cons b rest) (step_in_first CONS a b z)) {Q = Back t r} q
-      (onward (λ (e : Term sc). ms s (cons w e)) (λ a b z. into_ml_lem s (cons w a) (cons w b) (step_in_second CONS (fits_value f) a b z)) {Q = Back t r}
+      (onward (λ (e : Term sc). ms s (cons w e)) (λ a b z. into_ml_lem s (cons w a) (cons w b) (step_in_second CONS (fits_value f) a b z)) {Q =
+      Back t r}
       (then (rule sm_nil) stay) (list_in p)))
 
 -- So a list of one element comes back as it was only if the element does.

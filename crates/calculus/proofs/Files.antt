@@ -45,7 +45,8 @@ pub size_iff : (n : ℕ) → (is_size n ≡ true) ↔ ((24 ≤ n) × (n ≤ 1638
 size_iff n = and_iff _ _ (and_iff _ _ (le_iff 24 n) (le_iff n 16384)) (eq_iff (n % 4) 0)
 
 pub header_iff : (ws : List ℕ) → (is_header ws ≡ true)
-    ↔ ((((1 ≤ get_or ws 0 0) × (get_or ws 1 0 ≡ 4)) × (1 ≤ get_or ws 2 0)) × (get_or ws 3 0 ≡ 4 + get_or ws 0 0)) × (get_or ws 3 0 + get_or ws 2 0 ≡ length ws)
+    ↔ ((((1 ≤ get_or ws 0 0) × (get_or ws 1 0 ≡ 4)) × (1 ≤ get_or ws 2 0)) × (get_or ws 3 0 ≡ 4 + get_or ws 0 0)) ×
+    (get_or ws 3 0 + get_or ws 2 0 ≡ length ws)
 header_iff ws = and_iff _ _ (and_iff _ _ (and_iff _ _ (and_iff _ _ (le_iff _ _) (eq_iff _ _)) (le_iff _ _)) (eq_iff _ _)) (eq_iff _ _)
 
 -- The words have a header in order, and behind it the words of τ and those of e.

@@ -38,7 +38,8 @@ module _ {m : Lang} (P : Became m → Type 0) (o : Became m) where
   on_lambda_lem R other k h ne p = ne (omega arith)
 
   pub on_list_lem : {l : Lang} (R : Form l → Type 0) (f : Form l) (e : Static l → Became m) (k : Term l → Term l → Became m) → R f
-      → ((class f ≡ 2 → ⊥) → P o) → ((t : Static l) → R (nil_form t) → P (e t)) → ((v w : Term l) → R (cons_form v w) → P (k v w)) → P (on_list f o e k)
+      → ((class f ≡ 2 → ⊥) → P o) → ((t : Static l) → R (nil_form t) → P (e t)) → ((v w : Term l) → R (cons_form v w) → P (k v w)) → P
+      (on_list f o e k)
   unfolding on_list
   on_list_lem R (number n) e k h ne p q = ne (omega arith)
   on_list_lem R (lambda t b) e k h ne p q = ne (omega arith)

@@ -38,7 +38,8 @@ Takes s t = TreeInRange s t → (n : ℕ) → nesting_tree s t ≤ n → (k : Li
     → walk nested_due (put_tree s t k) ((s, n) ∷ ds) ≡ later (size_tree s t) (walk nested_due k ds)
 
 parts_take : (ss : List Sort) (ts : Trees ss) → Holds Takes ss ts → TreesInRange ss ts → (n : ℕ) → deepest ss ts ≤ n
-    → (k : List ℕ) (ds : List (Sort × ℕ)) → walk nested_due (put_trees ss ts k) (levelled n ss ++ ds) ≡ later (size_trees ss ts) (walk nested_due k ds)
+    → (k : List ℕ) (ds : List (Sort × ℕ)) → walk nested_due (put_trees ss ts k) (levelled n ss ++ ds) ≡ later (size_trees ss ts)
+    (walk nested_due k ds)
 parts_take [] ts hs rs n h k ds = sym (later_zero (walk nested_due k ds))
 parts_take (s ∷ ss) ts hs rs n h k ds =
     let d = deepest_first s ss ts n h in

@@ -50,7 +50,8 @@ no_nesting [] (d ∷ ds) h = refl
 no_nesting (w ∷ ws) [] h = refl
 no_nesting (w ∷ ws) (d ∷ ds) h = by_row_lem (λ es g. no_nesting ws es g) d.1 h.0 (row_for d.0 w)
   where
-    by_row_lem : ((es : List (Sort × ℕ)) → Roomy (length ws) es → walk nested_due ws es ≡ walk kind_due ws (sorts es)) → (room : ℕ) → suc (length ws) ≤ room
+    by_row_lem : ((es : List (Sort × ℕ)) → Roomy (length ws) es → walk nested_due ws es ≡ walk kind_due ws (sorts es)) → (room : ℕ) → suc
+        (length ws) ≤ room
         → (o : Option (Row d.0)) → acted (nested_by room o) (λ ps. walk nested_due ws (ps ++ ds))
         ≡ acted (found o (refuses 3) (λ r. opens r.parts)) (λ ps. walk kind_due ws (ps ++ sorts ds))
     by_row_lem more room g none = refl

@@ -159,7 +159,8 @@ rule1_kept FIX t τ h = ap ownerless h
 rule1_kept NULL? t τ h = (ownerless h.0, ap ownerless h.1, ap ownerless h.2)
 rule1_kept (TEST k) t τ h = tt
 
-rule2_kept : (l : Lang) (o : Op2) (t u τ : Static l) → Rule2 l o t u τ → Rule2 l o (ownerless_static l t) (ownerless_static l u) (ownerless_static l τ)
+rule2_kept : (l : Lang) (o : Op2) (t u τ : Static l) → Rule2 l o t u τ → Rule2 l o (ownerless_static l t) (ownerless_static l u)
+    (ownerless_static l τ)
 rule2_kept l APP t u τ h = ap (ownerless_static l) h ∙ functions_kept l u τ
 rule2_kept l ADD t u τ h = (number_kept l t h.0, number_kept l u h.1, number_kept l τ h.2)
 rule2_kept l SUB t u τ h = (number_kept l t h.0, number_kept l u h.1, number_kept l τ h.2)

@@ -10,8 +10,8 @@ use Rattle.calculus.specs.Trees.{TL, FIX, NULL?, TEST, Op2, APP, ADD, SUB, CONS,
 use Rattle.calculus.specs.Words.{largest, last_code}
 use Rattle.calculus.specs.Limits.{InRangeTy, InRangeStatic, InRange}
 use Rattle.calculus.specs.Reduction.{replaced, substitute, Form, number, lambda, nil_form, cons_form, sealed, other, form, Became, becomes}
-use Rattle.calculus.specs.Reduction.{raises, nothing, on_number, on_lambda, on_list, amiss, answer, contract1, on_numbers, contract2, to_mL}
-use Rattle.calculus.specs.Reduction.{to_scheme, contract, Frame, under, first, second, tested, into_mL, into_scheme, plug, Context, here, within}
+use Rattle.calculus.specs.Reduction.{raises, nothing, on_number, on_lambda, on_list, amiss, answer, contract1, on_numbers, contract2, to_ml}
+use Rattle.calculus.specs.Reduction.{to_scheme, contract, Frame, under, first, second, tested, into_ml, into_scheme, plug, Context, here, within}
 use Rattle.calculus.specs.Reduction.{fill, Outcome, value, raised, next, stuck, outcome, step}
 use Rattle.calculus.proofs.Forms.{on_number_lem, on_lambda_lem, on_list_lem, on_lump_lem}
 use Rattle.calculus.proofs.Turns.{step_by}
@@ -143,12 +143,12 @@ contract2_in_range l ADD v w h i =
 contract2_in_range l SUB v w h i = numbers_in_range l v w _ h i (λ n m p. omega arith)
 contract2_in_range l CONS v w h i = tt
 
-to_mL_in_range : (t : Ty) (v : Term sc) → InRangeTy t → InRange v → BecameInRange (to_mL t v)
-unfolding InRange InRangeTy to_mL
-to_mL_in_range N v g h = by_number v h _ (omega arith, omega arith, tt) _ (λ n p. p)
-to_mL_in_range (L o) v g h = tt
-to_mL_in_range (list t) v g h = by_list v h _ (omega arith, omega arith, g) _ _ (λ u i. g) (λ a b p q. ((g, p), (g, q)))
-to_mL_in_range (t to u) v g h = by_lambda v h _ (omega arith, omega arith, g) _ (λ s b i p. (g.0, (g.1, (h, (g.0, omega arith)))))
+to_ml_in_range : (t : Ty) (v : Term sc) → InRangeTy t → InRange v → BecameInRange (to_ml t v)
+unfolding InRange InRangeTy to_ml
+to_ml_in_range N v g h = by_number v h _ (omega arith, omega arith, tt) _ (λ n p. p)
+to_ml_in_range (L o) v g h = tt
+to_ml_in_range (list t) v g h = by_list v h _ (omega arith, omega arith, g) _ _ (λ u i. g) (λ a b p q. ((g, p), (g, q)))
+to_ml_in_range (t to u) v g h = by_lambda v h _ (omega arith, omega arith, g) _ (λ s b i p. (g.0, (g.1, (h, (g.0, omega arith)))))
 
 opened_in_range : (b : Bool) (v : Term sc) → InRange v → BecameInRange (cond b (becomes v) nothing)
 opened_in_range true v h = h
@@ -173,7 +173,7 @@ contract_in_range (if0 {l} a b c) h =
     by_number a h.0 _ (amiss_in_range l _ (omega arith, omega arith)) _ (λ n p. cond_in_range (eqb n 0) b c (λ q. h.1) h.2)
 contract_in_range (nil t) h = tt
 contract_in_range (wrong c t) h = (h.0, h.1)
-contract_in_range (ms t a) h = to_mL_in_range t a h.0 h.1
+contract_in_range (ms t a) h = to_ml_in_range t a h.0 h.1
 contract_in_range (sm t a) h = to_scheme_in_range t a h.0 h.1
 
 -- A term in range has a node in range at every place, and takes another there.
@@ -183,7 +183,7 @@ plug_in_range (under o) x h = (h, λ y p. p)
 plug_in_range (first o b) x h = (h.0, λ y p. (p, h.1))
 plug_in_range (second o a) x h = (h.1, λ y p. (h.0, p))
 plug_in_range (tested b c) x h = (h.0, λ y p. (p, h.1, h.2))
-plug_in_range (into_mL t) x h = (h.1, λ y p. (h.0, p))
+plug_in_range (into_ml t) x h = (h.1, λ y p. (h.0, p))
 plug_in_range (into_scheme t) x h = (h.1, λ y p. (h.0, p))
 
 fill_in_range : {m l : Lang} (F : Context m l) (x : Term m) → InRange (fill F x) → InRange x × ((y : Term m) → InRange y → InRange (fill F y))

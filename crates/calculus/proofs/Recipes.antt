@@ -7,13 +7,13 @@ use Rattle.calculus.specs.Comparison.{first_difference}
 use Rattle.calculus.specs.Inference.{infer}
 use Rattle.calculus.specs.Faults.{fault}
 use Rattle.calculus.specs.Reduction.{substitute, form, on_number, on_lambda, on_list, on_lump, amiss, answer, contract1, contract2}
-use Rattle.calculus.specs.Reduction.{on_numbers, to_mL, to_scheme, contract, fill, turn, step}
+use Rattle.calculus.specs.Reduction.{on_numbers, to_ml, to_scheme, contract, fill, turn, step}
 use Rattle.calculus.specs.Run.{run}
 use Rattle.calculus.specs.File.{words_of, typed, check_words, check, run_in, operate}
 use Rattle.calculus.specs.Recipes.{Starred, Classified, SavedBefore, Owned, Refused, Pointed}
 
 pub starred : Starred
-unfolding operate run_in check check_words typed words_of run step turn fill contract to_scheme to_mL contract2 contract1 on_numbers answer amiss
+unfolding operate run_in check check_words typed words_of run step turn fill contract to_scheme to_ml contract2 contract1 on_numbers answer amiss
     on_lump on_list on_lambda on_number form substitute infer fault first_difference read read_tree in_order walk row_for put put_ty size size_ty
 starred =
     record {
@@ -35,7 +35,7 @@ starred =
     }
 
 pub classified : Classified
-unfolding operate run_in check check_words typed words_of run step turn fill contract to_mL contract2 amiss on_number on_lambda form infer fault
+unfolding operate run_in check check_words typed words_of run step turn fill contract to_ml contract2 amiss on_number on_lambda form infer fault
     first_difference read
     read_tree in_order walk row_for put put_ty size size_ty
 classified = record { failed_call = refl; failed_conversion = refl; own_step_lem = refl }
@@ -47,7 +47,8 @@ unfolding operate run_in check check_words typed words_of run step turn fill con
 saved_before = record { goes_on = refl }
 
 pub owned : Owned
-unfolding operate run_in check check_words typed words_of run step turn fill contract to_scheme to_mL contract2 on_lump on_lambda on_number form substitute
+unfolding operate run_in check check_words typed words_of run step turn fill contract to_scheme to_ml contract2 on_lump on_lambda on_number form
+    substitute
     infer fault first_difference read read_tree in_order walk row_for put put_ty size size_ty
 owned =
     record {

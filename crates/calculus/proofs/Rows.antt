@@ -43,7 +43,8 @@ abbrev pub Laws : {s : Sort} → List (Row s) → Type 0
 Laws [] = Unit {0}
 Laws (r ∷ rs) = Law r × Laws rs
 
-plainly : {s : Sort} {k : ℕ} {ps : List Sort} {f : Trees ps → Tree s} → ((ts : Trees ps) (ks : List ℕ) → put_tree s (f ts) ks ≡ k ∷ put_trees ps ts ks)
+plainly : {s : Sort} {k : ℕ} {ps : List Sort} {f : Trees ps → Tree s} →
+    ((ts : Trees ps) (ks : List ℕ) → put_tree s (f ts) ks ≡ k ∷ put_trees ps ts ks)
     → ((ts : Trees ps) → TreesInRange ps ts → TreeInRange s (f ts)) → ((ts : Trees ps) → nesting_tree s (f ts) ≡ suc (deepest ps ts))
     → Law {s = s} (plain k ps f)
 plainly {k = k} {ps = ps} spelt in-range nests =

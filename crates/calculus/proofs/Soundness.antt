@@ -10,8 +10,8 @@ use Rattle.calculus.specs.Trees.{ADD, SUB, CONS, Term, var, num, lam, op1, op2, 
 use Rattle.calculus.specs.Words.{largest}
 use Rattle.calculus.specs.Typing.{of, Rule1, Rule2, Typed}
 use Rattle.calculus.specs.Reduction.{is_lump, is_cons, Form, number, lambda, nil_form, cons_form, sealed, other, form, Became, becomes, raises}
-use Rattle.calculus.specs.Reduction.{nothing, on_number, on_lambda, on_list, on_lump, amiss, contract1, on_numbers, contract2, to_mL, to_scheme}
-use Rattle.calculus.specs.Reduction.{contract, Frame, under, first, second, tested, into_mL, into_scheme, plug, Context, fill, Turn, done, at}
+use Rattle.calculus.specs.Reduction.{nothing, on_number, on_lambda, on_list, on_lump, amiss, contract1, on_numbers, contract2, to_ml, to_scheme}
+use Rattle.calculus.specs.Reduction.{contract, Frame, under, first, second, tested, into_ml, into_scheme, plug, Context, fill, Turn, done, at}
 use Rattle.calculus.specs.Reduction.{into, own, turn, Outcome, value, raised, next, stuck, outcome, stepped, step}
 use Rattle.calculus.proofs.Forms.{class, on_number_lem, on_lambda_lem, on_list_lem, on_lump_lem}
 use Rattle.calculus.proofs.Typing.{weaken, substitute_typed}
@@ -165,7 +165,7 @@ op2_placed l SUB a b τ t u h k r f g = own_placed (op2 SUB a b) τ (numbers_typ
 op2_placed l CONS a b τ t u h k r f g = (t, u, h, k, r)
 
 ms_placed : (t : Ty) (a : Term sc) → Typed [] a tt → FormTyped (form a) tt → Placed (ms t a) t (own (is_lump t) (ms t a))
-unfolding form contract to_mL
+unfolding form contract to_ml
 ms_placed N a h f = own_placed (ms N a) N (by_number {l = sc} N (form a) _ refl _ f (λ n. refl))
 ms_placed (L o) a h f = (h, refl)
 ms_placed (list t) a h f =
@@ -194,7 +194,7 @@ turn_placed (if0 {l} a b c) τ h =
 turn_placed (nil t) τ h = h
 turn_placed (wrong {l} c t) τ h = own_placed {l = l} (wrong c t) τ tt
 turn_placed (ms t a) τ h =
-    into_placed (into_mL t) a (ms t a) tt τ (turn a) _ (turn_placed a tt h.0) (λ x p. (p, h.1)) (λ f. rw h.1 (ms_placed t a h.0 f))
+    into_placed (into_ml t) a (ms t a) tt τ (turn a) _ (turn_placed a tt h.0) (λ x p. (p, h.1)) (λ f. rw h.1 (ms_placed t a h.0 f))
 turn_placed (sm t a) τ h =
     into_placed (into_scheme t) a (sm t a) t tt (turn a) _ (turn_placed a t h) (λ x p. p) (λ f. own_placed (sm t a) tt (to_scheme_typed t a h f))
 

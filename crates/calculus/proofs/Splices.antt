@@ -4,7 +4,7 @@ use mathlib.Core.List.{List, [], ◌++◌, append_assoc, append-nil}
 use mathlib.Core.Path.{◌≡◌, refl, sym, ap, ◌∙◌, subst}
 use Rattle.calculus.specs.Trees.{Lang, Term}
 use Rattle.calculus.specs.Words.{put, words}
-use Rattle.calculus.specs.Reduction.{Became, becomes, raises, nothing, contract, Frame, under, first, second, tested, into_mL, into_scheme, plug}
+use Rattle.calculus.specs.Reduction.{Became, becomes, raises, nothing, contract, Frame, under, first, second, tested, into_ml, into_scheme, plug}
 use Rattle.calculus.specs.Reduction.{Context, here, within, fill, at, turn, Outcome, value, raised, next, stuck, outcome, step}
 use Rattle.calculus.specs.Splices.{words_before_open, words_after_open, words_before, words_after, Splice}
 use Rattle.calculus.proofs.Sizes.{put_ty_append, put_append}
@@ -16,7 +16,7 @@ put_plug (under o) x k = refl
 put_plug (first o b) x k = rw (put_append b [] k)
 put_plug (second o a) x k = rw (put_append a [] (put x k))
 put_plug (tested b c) x k = rw (put_append c [] k, put_append b (words c) k)
-put_plug (into_mL t) x k = rw (put_ty_append t [] (put x k))
+put_plug (into_ml t) x k = rw (put_ty_append t [] (put x k))
 put_plug (into_scheme t) x k = rw (put_ty_append t [] (put x k))
 
 -- The words of a term with x at a place: those before, those of x, those after.

@@ -11,7 +11,7 @@ use native.Mathlib.Omega.{arith}
 use Rattle.calculus.specs.Trees.{Lang, ml, sc, Term, var, num, lam, op1, op2, if0, nil, wrong, ms, sm}
 use Rattle.calculus.specs.Words.{word, by, put}
 use Rattle.calculus.specs.Scope.{lambda_at, Scoped}
-use Rattle.calculus.specs.Reduction.{replaced, substitute, Frame, under, first, second, tested, into_mL, into_scheme, plug, Context, here, within}
+use Rattle.calculus.specs.Reduction.{replaced, substitute, Frame, under, first, second, tested, into_ml, into_scheme, plug, Context, here, within}
 use Rattle.calculus.specs.Reduction.{fill}
 use Rattle.calculus.specs.Substitution.{shift, for_own, ordinary}
 
@@ -74,7 +74,7 @@ plug_closed (under o) a h = h
 plug_closed (first o b) a h = h.0
 plug_closed (second o b) a h = h.1
 plug_closed (tested b c) a h = h.0
-plug_closed (into_mL t) a h = h
+plug_closed (into_ml t) a h = h
 plug_closed (into_scheme t) a h = h
 
 -- What stands in a closed term where evaluation goes is closed: no frame is a lambda.

@@ -4,7 +4,7 @@ use mathlib.Core.Bool.{Bool, true, false}
 use mathlib.Core.Path.{◌≡◌, refl, ap}
 use lib.Dec.{T}
 use Rattle.calculus.specs.Trees.{Lang, Term, var, num, lam, op1, op2, if0, nil, wrong, ms, sm}
-use Rattle.calculus.specs.Reduction.{is_lump, is_cons, Frame, under, first, second, tested, into_mL, into_scheme, plug, Context, here, within, fill}
+use Rattle.calculus.specs.Reduction.{is_lump, is_cons, Frame, under, first, second, tested, into_ml, into_scheme, plug, Context, here, within, fill}
 use Rattle.calculus.specs.Reduction.{contract, Turn, done, at, into, own, turn, Outcome, value, outcome, stepped, step}
 use Rattle.calculus.specs.Rules.{Value, lam_v, num_v, nil_v}
 use Rattle.calculus.specs.Evaluation.{Taken, Evaluated, Ready}
@@ -44,7 +44,7 @@ turn_found (if0 a b c) = into_found (tested b c) a (turn a) (own false (if0 a b 
 turn_found (nil t) = nil_v
 turn_found (wrong c t) = ready_found (wrong c t) tt
 turn_found (ms t a) =
-    into_found (into_mL t) a (turn a) (own (is_lump t) (ms t a)) tt (turn_found a) λ v.
+    into_found (into_ml t) a (turn a) (own (is_lump t) (ms t a)) tt (turn_found a) λ v.
     own_found (ms t a) (is_lump t) (λ h. lump_value t h v) (λ q. (q, v))
 turn_found (sm t a) = into_found (into_scheme t) a (turn a) (own false (sm t a)) tt (turn_found a) (ready_found (sm t a))
 
@@ -79,7 +79,7 @@ plug_turn (under o) x ev q = rw q
 plug_turn (first o b) x ev q = rw q
 plug_turn (second o v) x ev q = rw (value_turn ev, q)
 plug_turn (tested b c) x ev q = rw q
-plug_turn (into_mL t) x ev q = rw q
+plug_turn (into_ml t) x ev q = rw q
 plug_turn (into_scheme t) x ev q = rw q
 
 -- A node that is ready, in an evaluation context, is the one whose turn it is.

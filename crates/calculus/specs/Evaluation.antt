@@ -1,7 +1,7 @@
 -- The places of the computed reduction to which evaluation goes; proofs/Contexts.antt says that these are the published contexts.
 use Rattle.std.specs.Prelude.{false, ◌≡◌}
 use Rattle.calculus.specs.Trees.{Lang, ml, sc, Term, var, num, lam, op1, op2, if0, nil, wrong, ms, sm}
-use Rattle.calculus.specs.Reduction.{is_lump, is_cons, Frame, under, first, second, tested, into_mL, into_scheme, Context, here, within}
+use Rattle.calculus.specs.Reduction.{is_lump, is_cons, Frame, under, first, second, tested, into_ml, into_scheme, Context, here, within}
 use Rattle.calculus.specs.Rules.{Value}
 
 -- What stands before the open part of a node of two parts is a value.
@@ -10,7 +10,7 @@ Taken (under o) = Unit {0}
 Taken (first o b) = Unit {0}
 Taken (second {l} o v) = Value l v
 Taken (tested b c) = Unit {0}
-Taken (into_mL t) = Unit {0}
+Taken (into_ml t) = Unit {0}
 Taken (into_scheme t) = Unit {0}
 
 abbrev pub Evaluated : {m l : Lang} → Context m l → Type 0

@@ -175,11 +175,11 @@ contract2 l CONS v w = nothing
 -- "ms N of a number becomes that number; of another value, wrong 1. ms {t} of nil becomes nil t; of cons v w, cons of ms t v and
 -- ms {t} w; of another value, wrong 3. ms at t to u of a lambda becomes a new ML lambda with type t, whose body is ms u of the old lambda
 -- applied to sm t of the new variable; of another value, wrong 2."
-unfoldable pub to_mL : Ty → Term sc → Became ml
-to_mL N v = on_number (form v) (becomes (wrong 1 N)) (λ n. becomes (num n))
-to_mL (L o) v = nothing
-to_mL (list t) v = on_list (form v) (becomes (wrong 3 (list t))) (λ u. becomes (nil t)) (λ a b. becomes (cons (ms t a) (ms (list t) b)))
-to_mL (t to u) v = on_lambda (form v) (becomes (wrong 2 (t to u))) (λ s b. becomes (lam t (ms u (app v (sm t (var 0))))))
+unfoldable pub to_ml : Ty → Term sc → Became ml
+to_ml N v = on_number (form v) (becomes (wrong 1 N)) (λ n. becomes (num n))
+to_ml (L o) v = nothing
+to_ml (list t) v = on_list (form v) (becomes (wrong 3 (list t))) (λ u. becomes (nil t)) (λ a b. becomes (cons (ms t a) (ms (list t) b)))
+to_ml (t to u) v = on_lambda (form v) (becomes (wrong 2 (t to u))) (λ s b. becomes (lam t (ms u (app v (sm t (var 0))))))
 
 -- Document 02, "sm at an owner's L takes an ms at that same owner's L": what the owner u has sealed, at the owner o's.
 abbrev pub opened : ℕ → ℕ → Term sc → Became sc
@@ -204,7 +204,7 @@ contract (op2 {l} o v w) = contract2 l o v w
 contract (if0 {l} v b c) = on_number (form v) (amiss l 1) (λ n. becomes (cond (eqb n 0) b c))
 contract (nil t) = nothing
 contract (wrong c t) = raises c
-contract (ms t v) = to_mL t v
+contract (ms t v) = to_ml t v
 contract (sm t v) = to_scheme t v
 
 -- A node with one of its parts left open: `Frame m l` is a node of the language l, the open part of the language m.
@@ -213,7 +213,7 @@ pub data Frame : Lang → Lang → Type 0 where
   first : {l : Lang} → Op2 → Term l → Frame l l
   second : {l : Lang} → Op2 → Term l → Frame l l
   tested : {l : Lang} → Term l → Term l → Frame l l
-  into_mL : Ty → Frame sc ml
+  into_ml : Ty → Frame sc ml
   into_scheme : Ty → Frame ml sc
 
 abbrev pub plug : {m l : Lang} → Frame m l → Term m → Term l
@@ -221,7 +221,7 @@ plug (under o) a = op1 o a
 plug (first o b) a = op2 o a b
 plug (second o a) b = op2 o a b
 plug (tested b c) a = if0 a b c
-plug (into_mL t) a = ms t a
+plug (into_ml t) a = ms t a
 plug (into_scheme t) a = sm t a
 
 -- A place in a term: the frames around it, from the root inwards.
@@ -260,7 +260,7 @@ turn (op2 o a b) = into (first o b) (turn a) (into (second o a) (turn b) (own (i
 turn (if0 a b c) = into (tested b c) (turn a) (own false (if0 a b c))
 turn (nil t) = done
 turn (wrong c t) = own false (wrong c t)
-turn (ms t a) = into (into_mL t) (turn a) (own (is_lump t) (ms t a))
+turn (ms t a) = into (into_ml t) (turn a) (own (is_lump t) (ms t a))
 turn (sm t a) = into (into_scheme t) (turn a) (own false (sm t a))
 
 -- "A term where it is a wrong's turn is a raised error. A reduction applies to any other term that is no value, if one of the rules above

@@ -2,7 +2,7 @@
 use Rattle.std.specs.Prelude.{ℕ, List, [], ◌∷◌, ◌++◌, ◌≡◌}
 use Rattle.calculus.specs.Trees.{Lang, Term}
 use Rattle.calculus.specs.Words.{by, word1, word2, put, words_ty, words}
-use Rattle.calculus.specs.Reduction.{becomes, contract, Frame, under, first, second, tested, into_mL, into_scheme, Context, here, within, at}
+use Rattle.calculus.specs.Reduction.{becomes, contract, Frame, under, first, second, tested, into_ml, into_scheme, Context, here, within, at}
 use Rattle.calculus.specs.Reduction.{turn}
 
 -- The words of a node before and after its open part, and those of a term before and after a place.
@@ -11,7 +11,7 @@ words_before_open (under o) = word1 o ∷ []
 words_before_open (first {l} o b) = word2 l o ∷ []
 words_before_open (second {l} o a) = word2 l o ∷ words a
 words_before_open (tested {l} b c) = by l 23 38 ∷ []
-words_before_open (into_mL t) = 30 ∷ words_ty t
+words_before_open (into_ml t) = 30 ∷ words_ty t
 words_before_open (into_scheme t) = 45 ∷ words_ty t
 
 abbrev pub words_after_open : {m l : Lang} → Frame m l → List ℕ
@@ -19,7 +19,7 @@ words_after_open (under o) = []
 words_after_open (first o b) = words b
 words_after_open (second o a) = []
 words_after_open (tested b c) = put b (words c)
-words_after_open (into_mL t) = []
+words_after_open (into_ml t) = []
 words_after_open (into_scheme t) = []
 
 unfoldable pub words_before : {m l : Lang} → Context m l → List ℕ

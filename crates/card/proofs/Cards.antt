@@ -18,7 +18,8 @@ use Rattle.card.specs.Carding.{carding}
 use Rattle.card.specs.Cards.{Tried}
 
 pub tried : Tried
-unfolding carding card pump_lines pump_line last_line decimal pricing billed run_in check check_words typed words_of run step turn fill contract contract2
+unfolding carding card pump_lines pump_line last_line decimal pricing billed run_in check check_words typed words_of run step turn fill contract
+    contract2
     on_numbers amiss on_number form infer fault first_difference read read_tree in_order walk row_for put put_ty size size_ty items items_in
     charges total within all_within
 tried =

@@ -38,7 +38,8 @@ term_at o =
 
 -- The ways out of admitting a file.
 pub unopened : (bs : List ℕ) {n p : ℕ} → refused n p ≡ opening bs → refused n p ≡ admitting bs
-unopened bs {n} {p} e = sym (ap (λ (v : Verdict Recipe). and_then v (λ x. passed (type_count (words_of bs), length (words_of bs)))) (check_refused bs e))
+unopened bs {n} {p} e = sym (ap (λ (v : Verdict Recipe). and_then v (λ x. passed (type_count (words_of bs), length (words_of bs))))
+    (check_refused bs e))
 
 module _ {bs all : List ℕ} {types n : ℕ} (o : Opens bs all types n) where
   pub judged_out : {m p : ℕ} → refused m p ≡ accepting (judging (words_of bs) types) → refused m p ≡ admitting bs

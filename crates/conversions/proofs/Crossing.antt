@@ -11,7 +11,7 @@ use native.Mathlib.Omega.{arith}
 use Rattle.calculus.specs.Trees.{Ty, N, L, Lang, ml, sc, Term, wrong, ms}
 use Rattle.calculus.specs.Words.{word, put, put_ty, size, size_ty}
 use Rattle.calculus.specs.Kinds.{type, term}
-use Rattle.calculus.specs.Reduction.{form, becomes, nothing, on_number, on_lump, to_mL, to_scheme}
+use Rattle.calculus.specs.Reduction.{form, becomes, nothing, on_number, on_lump, to_ml, to_scheme}
 use Rattle.calculus.proofs.Sizes.{put_ty_append, put_append}
 use Rattle.pieces.specs.declared.became.Became.{Became}
 use Rattle.pieces.specs.declared.became.Became.TheVariants.{Nothing, Becomes}
@@ -37,11 +37,12 @@ pub function_words : (x y z : ℕ) (l : Lang) (t u : Ty) (v : Term l) (k : List 
 function_words x y z l t u v k =
     ap (λ (w : List ℕ). x ∷ w)
     (put_ty_append u [] (y ∷ put v (z ∷ put_ty t k))
-    ∙ ap (λ (w : List ℕ). put_ty u [] ++ (y ∷ w)) (put_append v [] (z ∷ put_ty t k) ∙ ap (λ (w : List ℕ). put v [] ++ (z ∷ w)) (put_ty_append t [] k)))
+    ∙ ap (λ (w : List ℕ). put_ty u [] ++ (y ∷ w)) (put_append v [] (z ∷ put_ty t k) ∙ ap (λ (w : List ℕ). put v [] ++ (z ∷ w))
+    (put_ty_append t [] k)))
 
 -- Into one language only.
 abbrev IntoML : List ℕ → Became → Ty → Type 0
-IntoML ws r t = (v : Term sc) (k : List ℕ) → drop 1 ws ≡ put_ty t (put v k) → Tells ws r (to_mL t v)
+IntoML ws r t = (v : Term sc) (k : List ℕ) → drop 1 ws ≡ put_ty t (put v k) → Tells ws r (to_ml t v)
 
 abbrev IntoScheme : List ℕ → Became → Ty → Type 0
 IntoScheme ws r t = (v : Term ml) (k : List ℕ) → drop 1 ws ≡ put_ty t (put v k) → Tells ws r (to_scheme t v)
@@ -86,7 +87,7 @@ module _ {ws : List ℕ} {form_number_lem value end : ℕ} (p : ValueAt ws form_
 
   number_amiss : (l : Lang) (v : Term (from l)) (k : List ℕ) → drop 1 ws ≡ put_ty N (put v k) → (form_number_lem ≡ 1 → ⊥)
       → Tells ws (misfit_in (is_scheme l) 1 value) (converted l N v)
-  unfolding to_mL to_scheme
+  unfolding to_ml to_scheme
   number_amiss ml v k q h =
       subst (Tells ws (misfit_in false 1 value)) (sym (no_number (becomes (wrong 1 N)) _ (value_form sc N v k q form_number_lem refl) h))
       (misfit_told sc N v k 1 q)
@@ -98,7 +99,7 @@ module _ {ws : List ℕ} {form_number_lem value end : ℕ} (p : ValueAt ws form_
   module _ {n : ℕ} (n_is : n ≡ get_or (drop value ws) 0 0 / 256) where
     number_at : (l : Lang) (v : Term (from l)) (k : List ℕ) → drop 1 ws ≡ put_ty N (put v k) → Formed (from l) 1 v
         → Tells ws (number_in (is_scheme l) n) (converted l N v)
-    unfolding to_mL to_scheme on_number form
+    unfolding to_ml to_scheme on_number form
     number_at ml v k q (is_number m) =
         rw (n_is ∙ number_of sc m k (drop value ws) (type_stands sc N v k q).after) (number_told ws ml m)
     number_at sc v k q (is_number m) =
@@ -109,7 +110,7 @@ module _ {ws : List ℕ} {form_number_lem value end : ℕ} (p : ValueAt ws form_
 
   -- At an owner's L.
   pub lump_ml : AtLump ws false Nothing
-  unfolding to_mL
+  unfolding to_ml
   lump_ml = record { of = λ o. in_ml (λ v k q. refl) }
 
   pub lump_other : (form_number_lem ≡ 5 → ⊥) → AtLump ws true Nothing
@@ -136,7 +137,8 @@ module _ {ws : List ℕ} {form_number_lem value end : ℕ} (p : ValueAt ws form_
   unfolding put put_ty
   owner_inside o u a k q = sym (get_or-drop value ws 1 0) ∙ ap (λ (w : List ℕ). get_or w 1 0) (type_stands ml (L o) (ms (L u) a) k q).after
 
-  lump_refused : (o : ℕ) (v : Term ml) (k : List ℕ) → drop 1 ws ≡ put_ty (L o) (put v k) → (get_or ws (value + 1) 0 ≡ get_or ws 1 0 → ⊥) → Formed ml 5 v
+  lump_refused : (o : ℕ) (v : Term ml) (k : List ℕ) → drop 1 ws ≡ put_ty (L o) (put v k) → (get_or ws (value + 1) 0 ≡ get_or ws 1 0 → ⊥) → Formed
+      ml 5 v
       → Tells ws Nothing (to_scheme (L o) v)
   unfolding to_scheme on_lump form
   lump_refused o v k q n (is_lump_lem u a) =

@@ -9,7 +9,7 @@ use native.Mathlib.Omega.{arith}
 use Rattle.calculus.specs.Trees.{Ty, N, L, list, ◌to◌, Lang, ml, sc, Term, wrong}
 use Rattle.calculus.specs.Words.{word, put, put_ty, size_ty}
 use Rattle.calculus.specs.Kinds.{type, term}
-use Rattle.calculus.specs.Reduction.{form, becomes, nothing, on_lambda, to_mL, to_scheme}
+use Rattle.calculus.specs.Reduction.{form, becomes, nothing, on_lambda, to_ml, to_scheme}
 use Rattle.calculus.proofs.Sizes.{put_ty_append}
 use Rattle.calculus.proofs.Views.{view, sized}
 use Rattle.writing.specs.Spans.{span}
@@ -29,7 +29,7 @@ use Rattle.conversions.proofs.Crossing.{function_words, in_ml, in_scheme, type_s
 module _ {ws : List ℕ} {form_number_lem value end : ℕ} (p : ValueAt ws form_number_lem value end) where
   function_amiss : (l : Lang) (t u : Ty) (v : Term (from l)) (k : List ℕ) → drop 1 ws ≡ put_ty (t to u) (put v k) → (form_number_lem ≡ 2 → ⊥)
       → Tells ws (misfit_in (is_scheme l) 2 value) (converted l (t to u) v)
-  unfolding to_mL to_scheme
+  unfolding to_ml to_scheme
   function_amiss ml t u v k q h =
       subst (Tells ws (misfit_in false 2 value))
       (sym (no_lambda (becomes (wrong 2 (t to u))) _ (value_form p sc (t to u) v k q form_number_lem refl) h))
@@ -60,8 +60,8 @@ module _ {ws : List ℕ} {form_number_lem value end : ℕ} (p : ValueAt ws form_
 
     module _ (h : form_number_lem ≡ 2) where
       function_into_ml : (t u : Ty) (v : Term sc) (k : List ℕ) → drop 1 ws ≡ put_ty (t to u) (put v k) → Formed sc 2 v
-          → Tells ws (Becomes (IntoML second value end)) (to_mL (t to u) v)
-      unfolding to_mL on_lambda form put
+          → Tells ws (Becomes (IntoML second value end)) (to_ml (t to u) v)
+      unfolding to_ml on_lambda form put
       function_into_ml t u v k q (is_function r b) =
           let e = put_ty_append t [] _ ∙ ap (λ (w : List ℕ). put_ty t [] ++ w) (function_words 30 35 45 sc t u v (16 ∷ [])) in
           let l = (value_stands p sc (t to u) v k q).own in

@@ -9,7 +9,7 @@ use native.Mathlib.Omega.{arith}
 use Rattle.calculus.specs.Trees.{Ty, list, Lang, ml, sc, CONS, Term, op2, wrong}
 use Rattle.calculus.specs.Words.{put, put_ty, size, size_ty}
 use Rattle.calculus.specs.Kinds.{type, term}
-use Rattle.calculus.specs.Reduction.{form, becomes, nothing, on_list, to_mL, to_scheme}
+use Rattle.calculus.specs.Reduction.{form, becomes, nothing, on_list, to_ml, to_scheme}
 use Rattle.writing.specs.Spans.{span}
 use Rattle.pieces.specs.declared.became.Became.TheVariants.{Nothing, Becomes}
 use Rattle.pieces.specs.declared.became.Piece.TheVariants.{Led, Cons}
@@ -32,7 +32,7 @@ module _ {ws : List ℕ} {form_number_lem value end : ℕ} (p : ValueAt ws form_
   list_amiss : (l : Lang) (t : Ty) (v : Term (from l)) (k : List ℕ) → drop 1 ws ≡ put_ty (list t) (put v k) → (form_number_lem ≡ 3 → ⊥)
       → (form_number_lem ≡ 4 → ⊥)
       → Tells ws (misfit_in (is_scheme l) 3 value) (converted l (list t) v)
-  unfolding to_mL to_scheme
+  unfolding to_ml to_scheme
   list_amiss ml t v k q h g =
       subst (Tells ws (misfit_in false 3 value))
       (sym (no_list (becomes (wrong 3 (list t))) _ _ (value_form p sc (list t) v k q form_number_lem refl) h g))
@@ -44,8 +44,8 @@ module _ {ws : List ℕ} {form_number_lem value end : ℕ} (p : ValueAt ws form_
   list_other h g = record { of = λ t. record { of = λ l v k q s. rw s (list_amiss l t v k q h g) } }
 
   nil_into_ml : (t : Ty) (v : Term sc) (k : List ℕ) → drop 1 ws ≡ put_ty (list t) (put v k) → Formed sc 3 v
-      → Tells ws (Becomes (Led 24 2 value)) (to_mL (list t) v)
-  unfolding to_mL on_list form put
+      → Tells ws (Becomes (Led 24 2 value)) (to_ml (list t) v)
+  unfolding to_ml on_list form put
   nil_into_ml t v k q (is_nil u) = (_, refl, ap (λ (w : List ℕ). 24 ∷ w) (sym (element sc t v k q).own))
 
   pub nil_ml : form_number_lem ≡ 3 → AtList ws false (Becomes (Led 24 2 value))
@@ -81,8 +81,8 @@ module _ {ws : List ℕ} {form_number_lem value end : ℕ} (p : ValueAt ws form_
         record { of = λ t. record { of = λ l v k q s. absurd (cons_order (from l) t v k q g (value_form p (from l) (list t) v k q 4 h)) } }
 
     cons_into_ml : (t : Ty) (v : Term sc) (k : List ℕ) → drop 1 ws ≡ put_ty (list t) (put v k) → Formed sc 4 v
-        → Tells ws (Becomes (Cons 25 30 value tail end)) (to_mL (list t) v)
-    unfolding to_mL on_list form put put_ty
+        → Tells ws (Becomes (Cons 25 30 value tail end)) (to_ml (list t) v)
+    unfolding to_ml on_list form put put_ty
     cons_into_ml t v k q (is_cons_lem a b) =
         let z = (type_stands p sc (list t) v k q).own in
         (_, refl, rw ((element sc t v k q).own, z, (head_stands sc t a b k q).own, (tail_stands sc t a b k q).own) (cons_words_lem 25 30 sc t a b))

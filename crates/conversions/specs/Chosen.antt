@@ -2,7 +2,7 @@
 use Rattle.std.specs.Prelude.{ℕ, ◌+◌, ◌≤◌, Bool, true, false, List, ◌≡◌, length, drop}
 use Rattle.calculus.specs.Trees.{Ty, L, list, ◌to◌, Lang, ml, sc, Term, ms, sm}
 use Rattle.calculus.specs.Words.{put, put_ty, word}
-use Rattle.calculus.specs.Reduction.{to_mL, to_scheme}
+use Rattle.calculus.specs.Reduction.{to_ml, to_scheme}
 use Rattle.writing.specs.Spans.{span}
 use Rattle.pieces.specs.declared.became.Became.{Became}
 use Rattle.pieces.specs.Forms.{form_at, is_scheme}
@@ -22,7 +22,7 @@ from ml = sc
 from sc = ml
 
 abbrev pub converted : (l : Lang) → Ty → Term (from l) → calculus.Became l
-converted ml t v = to_mL t v
+converted ml t v = to_ml t v
 converted sc t v = to_scheme t v
 
 -- ms and sm: the value's form, where its words start and where they end.
@@ -49,5 +49,5 @@ pub record AtFunction (ws : List ℕ) (scheme : Bool) (r : Became) : Type 0 wher
   pub of : (t u : Ty) → AtType ws scheme r (t to u)
 
 pub record OfBoundary (ws : List ℕ) (r : Became) : Type 0 where
-  pub ms_told : (t : Ty) (v : Term sc) (k : List ℕ) → ws ≡ put (ms t v) k → Tells ws r (to_mL t v)
+  pub ms_told : (t : Ty) (v : Term sc) (k : List ℕ) → ws ≡ put (ms t v) k → Tells ws r (to_ml t v)
   pub sm_told : (t : Ty) (v : Term ml) (k : List ℕ) → ws ≡ put (sm t v) k → Tells ws r (to_scheme t v)

@@ -125,7 +125,8 @@ lambdas_set zero e b v h = refl
 lambdas_set (suc d) e b v h = rw (get_or-set_other b e d v 0 (λ p. omega (arith, p)), lambdas_set d e b v (omega arith))
 
 -- What stays around a word's parts stays around the word.
-pub kept_outside : {b b' : List ℕ} {d w r : ℕ} → Entered b b' d w r → (c : List ℕ) → lambdas_in r c ≡ lambdas_in r b' → lambdas_in d c ≡ lambdas_in d b
+pub kept_outside : {b b' : List ℕ} {d w r : ℕ} → Entered b b' d w r → (c : List ℕ) → lambdas_in r c ≡ lambdas_in r b' → lambdas_in d c ≡ lambdas_in
+    d b
 kept_outside {b} {b'} {d} {w} {r} h c e = by (eqb r d) refl ∙ h.kept
   where
     by : (t : Bool) → eqb r d ≡ t → lambdas_in d c ≡ lambdas_in d b'

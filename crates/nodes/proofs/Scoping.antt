@@ -38,7 +38,8 @@ module _ (ws : List ℕ) (at due : ℕ) (Γ : List Lang) (small : SortDigits due
     pub free : is_free Γ (get_or ws 0 0) ≡ true → refused 5 at ≡ scoped_at ws at due Γ
     free h = ways.stopped scope_due ws at Γ (each Γ (due / 5)) more 5 (rw h) ∙ answer_is
 
-    pub inner : {row : code.Row} → row ≡ row_of (get_or ws 0 0 % 256) → is_free Γ (get_or ws 0 0) ≡ false → (Δ : List Lang) → Δ ≡ inside Γ (get_or ws 0 0)
+    pub inner : {row : code.Row} → row ≡ row_of (get_or ws 0 0 % 256) → is_free Γ (get_or ws 0 0) ≡ false → (Δ : List Lang) → Δ ≡ inside Γ
+        (get_or ws 0 0)
         → (x : Walked) → walked x ≡ scoped_at (take (length ws - 1) (drop 1 ws)) (at + 1) row.parts Δ
         → Inner scope_due ws at (each Γ (due / 5)) (scoped_at ws at due Γ) x
     inner {row} is h Δ within x e =

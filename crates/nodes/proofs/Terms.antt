@@ -37,4 +37,5 @@ shaped sc (sm t a) = an_sm t a
 -- The term that stands at the start of the words, by the shape of their first word.
 pub by_shape : (l : Lang) (e : Term l) (k ws : List ℕ) → ws ≡ put e k → (n : ℕ) → (row_of (get_or ws 0 0 % 256)).shape ≡ n → Shaped l n e
 by_shape l e k ws q n h =
-    subst (λ (j : ℕ). Shaped l j e) (sym (shape_first (term l) e k) ∙ ap (λ (v : List ℕ). (row_of (get_or v 0 0 % 256)).shape) (sym q) ∙ h) (shaped l e)
+    subst (λ (j : ℕ). Shaped l j e) (sym (shape_first (term l) e k) ∙ ap (λ (v : List ℕ). (row_of (get_or v 0 0 % 256)).shape) (sym q) ∙ h)
+    (shaped l e)

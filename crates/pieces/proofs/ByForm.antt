@@ -44,7 +44,8 @@ formed ml (ms (t to u) a) = is_other refl
 formed sc (sm t a) = is_other refl
 
 -- The form is told by the first two words.
-form_by_lem : (l : Lang) (e : Term l) (k : List ℕ) → form_number (form e) ≡ form_by (shape_number (term l) e) (get_or (put e k) 0 0) (get_or (put e k) 1 0)
+form_by_lem : (l : Lang) (e : Term l) (k : List ℕ) → form_number (form e) ≡ form_by (shape_number (term l) e) (get_or (put e k) 0 0)
+    (get_or (put e k) 1 0)
 unfolding form put put_ty
 form_by_lem ml (var i) k =
     rw (ne_eqb (word 16 i) 25 (λ e. omega (arith, e)), ne_eqb (word 16 i) 40 (λ e. omega (arith, e)), ne_eqb (word 16 i) 30 (λ e. omega (arith, e)))
@@ -86,7 +87,8 @@ form_by_lem sc (sm t a) k = refl
 pub form_at_lem : (l : Lang) (e : Term l) (k ws : List ℕ) → ws ≡ put e k → form_at ws ≡ form_number (form e)
 unfolding form_at
 form_at_lem l e k ws q =
-    ap (λ (s : ℕ). form_by s (get_or ws 0 0) (get_or ws 1 0)) (ap (λ (w : ℕ). (row_of (w % 256)).shape) (head_is (term l) e k ws q) ∙ shape_is (term l) e)
+    ap (λ (s : ℕ). form_by s (get_or ws 0 0) (get_or ws 1 0))
+    (ap (λ (w : ℕ). (row_of (w % 256)).shape) (head_is (term l) e k ws q) ∙ shape_is (term l) e)
     ∙ ap (λ (l' : List ℕ). form_by (shape_number (term l) e) (get_or l' 0 0) (get_or l' 1 0)) q ∙ sym (form_by_lem l e k)
 
 -- The value that stands at the start of the words, by their form.

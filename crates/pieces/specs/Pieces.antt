@@ -16,8 +16,8 @@ use Rattle.writing.specs.Wrote.{Wrote}
 abbrev pub cons_words : ℕ → ℕ → ℕ → ℕ → ℕ → List ℕ → List ℕ
 cons_words c m v t e ws = c ∷ ((m ∷ stretch 2 v ws) ++ (stretch (v + 1) t ws ++ ((m ∷ stretch 1 v ws) ++ stretch t e ws)))
 
-abbrev pub into_mLWords : ℕ → ℕ → ℕ → List ℕ → List ℕ
-into_mLWords s v e ws = (18 ∷ stretch 2 s ws) ++ ((30 ∷ stretch s v ws) ++ ((35 ∷ stretch v e ws) ++ ((45 ∷ stretch 2 s ws) ++ (16 ∷ []))))
+abbrev pub into_ml_words : ℕ → ℕ → ℕ → List ℕ → List ℕ
+into_ml_words s v e ws = (18 ∷ stretch 2 s ws) ++ ((30 ∷ stretch s v ws) ++ ((35 ∷ stretch v e ws) ++ ((45 ∷ stretch 2 s ws) ++ (16 ∷ []))))
 
 abbrev pub into_scheme_words : ℕ → ℕ → ℕ → List ℕ → List ℕ
 into_scheme_words s v e ws = 34 ∷ ((45 ∷ stretch s v ws) ++ ((19 ∷ stretch v e ws) ++ ((30 ∷ stretch 2 s ws) ++ (32 ∷ []))))
@@ -29,7 +29,7 @@ Gives ws (Part a e) u = words u ≡ stretch a e ws
 Gives ws (Led w a e) u = words u ≡ w ∷ stretch a e ws
 Gives ws (Led2 w v a e) u = words u ≡ w ∷ v ∷ stretch a e ws
 Gives ws (Cons c m v t e) u = words u ≡ cons_words c m v t e ws
-Gives ws (IntoML s v e) u = words u ≡ into_mLWords s v e ws
+Gives ws (IntoML s v e) u = words u ≡ into_ml_words s v e ws
 Gives ws (IntoScheme s v e) u = words u ≡ into_scheme_words s v e ws
 Gives {l} ws (Substituted x b a e) u =
     (v : Term l) × (body : Term l) × (k : List ℕ) × (x ≡ by l 16 32) × (drop b ws ≡ put body k)

@@ -5,7 +5,7 @@
 ghost use Rattle.std.specs.Prelude.{◌∷◌, ◌+◌, ◌*◌, ◌≤◌, length};
 ghost use Rattle.writing.specs.Given.{most_words, most_piece, most_place, Given};
 ghost use Rattle.writing.specs.Wrote.{Wrote};
-ghost use Rattle.pieces.specs.Pieces.{PartIn, ConsIn, LambdaIn, Placed, cons_words, into_mLWords, into_scheme_words, Near, Writes};
+ghost use Rattle.pieces.specs.Pieces.{PartIn, ConsIn, LambdaIn, Placed, cons_words, into_ml_words, into_scheme_words, Near, Writes};
 ghost use Rattle.writing.specs.Stretches.{stretch};
 ghost use Rattle.pieces.specs.declared.became.Piece.TheVariants.{Substituted};
 
@@ -63,7 +63,7 @@ fn into_ml(
     n: usize,
 ) -> usize
     requires { Near words.now n most_place × LambdaIn (length words.now) second lambda end }
-    ensures wrote { Wrote target.old n (into_mLWords second lambda end words.now) result target.new }
+    ensures wrote { Wrote target.old n (into_ml_words second lambda end words.now) result target.new }
     ensures bound { (n ≤ result) × (result ≤ n + 8 * most_words) }
 {
     let a = lead(nodes::words::ML_LAMBDA, words, 2, second, target, n);

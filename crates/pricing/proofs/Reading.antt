@@ -32,7 +32,8 @@ here : (ws : List ℕ) (at : ℕ) → get_or ws at 0 ≡ get_or (drop at ws) 0 0
 here ws at = sym (get_or-drop at ws 0 0 ∙ ap (λ (i : ℕ). get_or ws i 0) (add-zero at))
 
 -- What the test of a cons tells.
-pub cons_at : (ws : List ℕ) (at : ℕ) (b : Bool) → b ≡ true → b ≡ ltb at (length ws) && eqb (get_or ws at 0) 25 → (at < length ws) × (get_or ws at 0 ≡ 25)
+pub cons_at : (ws : List ℕ) (at : ℕ) (b : Bool) → b ≡ true → b ≡ ltb at (length ws) && eqb (get_or ws at 0) 25 → (at < length ws) ×
+    (get_or ws at 0 ≡ 25)
 cons_at ws at b t e = by (ltb at (length ws)) (eqb (get_or ws at 0) 25) refl refl (sym t ∙ e)
   where
     by : (p q : Bool) → ltb at (length ws) ≡ p → eqb (get_or ws at 0) 25 ≡ q → true ≡ p && q → (at < length ws) × (get_or ws at 0 ≡ 25)

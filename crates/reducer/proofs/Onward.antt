@@ -11,7 +11,7 @@ use native.Mathlib.Omega.{arith}
 use Rattle.calculus.specs.Trees.{N, L, list, ◌to◌, Lang, ml, Op2, APP, ADD, SUB, CONS, Term}
 use Rattle.calculus.specs.Words.{put, put_ty, words, size}
 use Rattle.calculus.specs.Kinds.{type, term}
-use Rattle.calculus.specs.Reduction.{Frame, under, first, second, tested, into_mL, into_scheme, plug, Context, here, within, fill, turn}
+use Rattle.calculus.specs.Reduction.{Frame, under, first, second, tested, into_ml, into_scheme, plug, Context, here, within, fill, turn}
 use Rattle.calculus.specs.Reduction as calculus
 use Rattle.calculus.specs.Rules.{Value, cons_v, lump_v}
 use Rattle.calculus.specs.Evaluation.{Evaluated, Ready}
@@ -42,10 +42,11 @@ before_length (under o) F = omega arith
 before_length (first o b) F = omega arith
 before_length {m = m} (second o a) F = omega (arith, length-append (words a) (words_before F), tree_length (term m) a [])
 before_length (tested b c) F = omega arith
-before_length (into_mL t) F = omega (arith, length-append (put_ty t []) (words_before F), tree_length type t [])
+before_length (into_ml t) F = omega (arith, length-append (put_ty t []) (words_before F), tree_length type t [])
 before_length (into_scheme t) F = omega (arith, length-append (put_ty t []) (words_before F), tree_length type t [])
 
-pub context_length : {j m : Lang} (A : Frames m) (F : Context j m) → length (words_before (context_of A F)) ≡ length_frames A + length (words_before F)
+pub context_length : {j m : Lang} (A : Frames m) (F : Context j m) → length (words_before (context_of A F)) ≡ length_frames A + length
+    (words_before F)
 context_length root F = omega arith
 context_length (inside f A) F = omega (arith, context_length A (within f F), before_length f F)
 
@@ -109,7 +110,7 @@ frame_some (under o) = omega arith
 frame_some (first o b) = omega arith
 frame_some (second o a) = omega arith
 frame_some (tested b c) = omega arith
-frame_some (into_mL t) = omega arith
+frame_some (into_ml t) = omega arith
 frame_some (into_scheme t) = omega arith
 
 pub start_free : {m : Lang} (A : Frames m) → 0 ≡ length_frames A → Free A
@@ -199,9 +200,9 @@ onward m (inside (second SUB a) A) x r v = inr (ripe_over (second SUB a) A x ref
 onward m (inside (second CONS a) A) x r v =
     value_on (second CONS a) A x refl refl (omega arith) (onward m A (plug (second CONS a) x) r.1 (cons_v r.0 v))
 onward m (inside (tested b c) A) x r v = inr (ripe_over (tested b c) A x refl refl r.1 v)
-onward m (inside (into_mL N) A) x r v = inr (ripe_over (into_mL N) A x refl refl r.1 (refl, v))
-onward m (inside (into_mL (L o)) A) x r v =
-    value_on (into_mL (L o)) A x refl refl (omega arith) (onward ml A (plug (into_mL (L o)) x) r.1 (lump_v v))
-onward m (inside (into_mL (list t)) A) x r v = inr (ripe_over (into_mL (list t)) A x refl refl r.1 (refl, v))
-onward m (inside (into_mL (t to u)) A) x r v = inr (ripe_over (into_mL (t to u)) A x refl refl r.1 (refl, v))
+onward m (inside (into_ml N) A) x r v = inr (ripe_over (into_ml N) A x refl refl r.1 (refl, v))
+onward m (inside (into_ml (L o)) A) x r v =
+    value_on (into_ml (L o)) A x refl refl (omega arith) (onward ml A (plug (into_ml (L o)) x) r.1 (lump_v v))
+onward m (inside (into_ml (list t)) A) x r v = inr (ripe_over (into_ml (list t)) A x refl refl r.1 (refl, v))
+onward m (inside (into_ml (t to u)) A) x r v = inr (ripe_over (into_ml (t to u)) A x refl refl r.1 (refl, v))
 onward m (inside (into_scheme t) A) x r v = inr (ripe_over (into_scheme t) A x refl refl r.1 v)

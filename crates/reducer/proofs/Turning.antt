@@ -10,7 +10,7 @@ use native.Mathlib.Omega.{arith}
 use Rattle.calculus.specs.Trees.{Ty, N, L, list, ◌to◌, Lang, ml, sc, Op2, APP, ADD, SUB, CONS, Term, op2, ms}
 use Rattle.calculus.specs.Words.{put, put_ty, size, size_ty}
 use Rattle.calculus.specs.Kinds.{type, term}
-use Rattle.calculus.specs.Reduction.{is_lump, is_cons, form, under, first, tested, into_mL, into_scheme}
+use Rattle.calculus.specs.Reduction.{is_lump, is_cons, form, under, first, tested, into_ml, into_scheme}
 use Rattle.calculus.specs.Rules.{Value, lam_v, num_v, nil_v}
 use Rattle.calculus.specs.Evaluation.{Ready}
 use Rattle.nodes.specs.Table.{row_of}
@@ -174,7 +174,7 @@ module _ (ws : List ℕ) (shape : ℕ) (Shape_is : shape ≡ (row_of (get_or ws 
           inr
           (record {
             lang = sc;
-            frame = into_mL t;
+            frame = into_ml t;
             part = a;
             is = refl;
             taken = tt;
@@ -198,7 +198,8 @@ module _ (ws : List ℕ) (shape : ℕ) (Shape_is : shape ≡ (row_of (get_or ws 
       pub look_boundary : start ≤ length ws → shape ≡ 9 → Looked ws (taking start 1 0 (eqb form_number_lem 0))
       look_boundary w h =
           record {
-            ends = sym (span_next ws 1 start 1 1 start_is (span ws 1) (span_parts ws 2 some (shape_parts (get_or ws 0 0) 9 (sym Shape_is ∙ h) 2 refl)));
+            ends = sym (span_next ws 1 start 1 1 start_is (span ws 1)
+            (span_parts ws 2 some (shape_parts (get_or ws 0 0) 9 (sym Shape_is ∙ h) 2 refl)));
             some = omega (arith, start_is);
             within = w;
             few = omega arith;

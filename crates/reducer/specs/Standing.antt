@@ -2,7 +2,7 @@
 use Rattle.std.specs.Prelude.{ℕ, ◌+◌, Bool, true, cond, not, ◌≡◌}
 use Rattle.calculus.specs.Trees.{Lang, ml, Term}
 use Rattle.calculus.specs.Words.{words, size, size_ty}
-use Rattle.calculus.specs.Reduction.{is_lump, is_cons, Frame, under, first, second, tested, into_mL, into_scheme, plug}
+use Rattle.calculus.specs.Reduction.{is_lump, is_cons, Frame, under, first, second, tested, into_ml, into_scheme, plug}
 use Rattle.calculus.specs.Evaluation.{Taken, Ready}
 
 -- The frames around an open place of a term, from the place outwards; and the term, with x there.
@@ -25,7 +25,7 @@ length_before (under o) = 1
 length_before (first o b) = 1
 length_before (second o a) = 1 + size a
 length_before (tested b c) = 1
-length_before (into_mL t) = 1 + size_ty t
+length_before (into_ml t) = 1 + size_ty t
 length_before (into_scheme t) = 1 + size_ty t
 
 abbrev pub length_frames : {m : Lang} → Frames m → ℕ
@@ -38,7 +38,7 @@ waits_for (under o) = true
 waits_for (first o b) = not (is_cons o)
 waits_for (second o a) = not (is_cons o)
 waits_for (tested b c) = true
-waits_for (into_mL t) = not (is_lump t)
+waits_for (into_ml t) = not (is_lump t)
 waits_for (into_scheme t) = true
 
 -- How many parts evaluation takes after the open one: of the node; and up to the end of the nearest node that waits.
@@ -47,7 +47,7 @@ follows (under o) = 0
 follows (first o b) = 1
 follows (second o a) = 0
 follows (tested b c) = 0
-follows (into_mL t) = 0
+follows (into_ml t) = 0
 follows (into_scheme t) = 0
 
 abbrev pub pending : {m : Lang} → Frames m → ℕ

@@ -7,7 +7,7 @@ use Rattle.calculus.specs.Comparison.{first_difference}
 use Rattle.calculus.specs.Inference.{infer}
 use Rattle.calculus.specs.Faults.{fault}
 use Rattle.calculus.specs.Reduction.{substitute, form, on_number, on_lambda, on_list, on_lump, amiss, answer, contract1, contract2}
-use Rattle.calculus.specs.Reduction.{on_numbers, to_mL, to_scheme, contract, fill, turn, step}
+use Rattle.calculus.specs.Reduction.{on_numbers, to_ml, to_scheme, contract, fill, turn, step}
 use Rattle.calculus.specs.Run.{run}
 use Rattle.calculus.specs.File.{words_of, typed, check_words, check, run_in, operate}
 use Rattle.saving.specs.Saving.{saving}
@@ -33,6 +33,7 @@ tried =
     }
 
 pub too_deep : TooDeep
-unfolding saving operate run_in check check_words typed words_of run step turn fill contract to_scheme to_mL contract2 contract1 on_numbers answer
-    amiss on_lump on_list on_lambda on_number form substitute infer fault first_difference read read_tree in_order walk row_for put put_ty size size_ty
+unfolding saving operate run_in check check_words typed words_of run step turn fill contract to_scheme to_ml contract2 contract1 on_numbers answer
+    amiss on_lump on_list on_lambda on_number form substitute infer fault first_difference read read_tree in_order walk row_for put put_ty size
+    size_ty
 too_deep = record { spent_after_one = refl; refused_by_four = refl }

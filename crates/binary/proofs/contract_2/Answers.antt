@@ -92,7 +92,11 @@ returns-then-form-ne-NUMBER c =
       order = omega (arith, n);
       most = e.most;
     } in
-    record { placed = rw c.amiss.ensures (amiss_placed (length c.args.words.now) (leb 32 (get_or c.args.words.now 0 0)) 1); told = rw c.amiss.ensures (two_no_number known c.operator-op.ensures c.if-op-eq-APP.false c.if-op-eq-CONS.false c.if-form-ne-NUMBER.true) }
+    record {
+      placed = rw c.amiss.ensures (amiss_placed (length c.args.words.now) (leb 32 (get_or c.args.words.now 0 0)) 1);
+      told =
+          rw c.amiss.ensures (two_no_number known c.operator-op.ensures c.if-op-eq-APP.false c.if-op-eq-CONS.false c.if-form-ne-NUMBER.true);
+    }
 
 pub slice_bounds-form_at-count-2 : goal.slice_bounds-form_at-count-2
 slice_bounds-form_at-count-2 c =
@@ -124,7 +128,8 @@ returns-then-form_at-ne-NUMBER c =
     } in
     let h = rest_form c.args.words.now (1 + c.skip-middle.result) c.form_at.ensures in record {
       placed = rw c.amiss-then-form_at-ne-NUMBER.ensures (amiss_placed (length c.args.words.now) (leb 32 (get_or c.args.words.now 0 0)) 1);
-      told = rw c.amiss-then-form_at-ne-NUMBER.ensures (two_no_second known c.operator-op.ensures c.if-op-eq-APP.false c.if-op-eq-CONS.false c.if-form-ne-NUMBER.false h
+      told = rw c.amiss-then-form_at-ne-NUMBER.ensures (two_no_second known c.operator-op.ensures c.if-op-eq-APP.false c.if-op-eq-CONS.false
+          c.if-form-ne-NUMBER.false h
           c.if-form_at-ne-NUMBER.true);
     }
 
@@ -165,7 +170,8 @@ returns-then-op-eq-ADD c =
     let b = c.number_at-b in record {
       placed = rw c.sum.ensures (sum_placed (length c.args.words.now) (leb 32 (get_or c.args.words.now 0 0)) a.result b.result);
       told = rw c.sum.ensures (two_plus known c.operator-op.ensures c.if-op-eq-APP.false c.if-op-eq-CONS.false c.if-form-ne-NUMBER.false
-          second_is c.if-form_at-ne-NUMBER.false (rest_number c.args.words.now 1 a.ensures.value) (rest_number c.args.words.now (1 + c.skip-middle.result) b.ensures.value)
+          second_is c.if-form_at-ne-NUMBER.false (rest_number c.args.words.now 1 a.ensures.value)
+          (rest_number c.args.words.now (1 + c.skip-middle.result) b.ensures.value)
           c.if-op-eq-ADD.true);
     }
 
@@ -191,8 +197,10 @@ returns c =
     let b = c.number_at-b in
     let g = c.number_in.ensures in
     let d = c.difference.ensures in record {
-      placed = rw (g, d) (number_placed (length c.args.words.now) (leb 32 (get_or c.args.words.now 0 0)) (a.result - b.result) (omega (arith, a.ensures.small)));
+      placed = rw (g, d) (number_placed (length c.args.words.now) (leb 32 (get_or c.args.words.now 0 0)) (a.result - b.result)
+          (omega (arith, a.ensures.small)));
       told = rw (g, d) (two_minus known c.operator-op.ensures c.if-op-eq-APP.false c.if-op-eq-CONS.false c.if-form-ne-NUMBER.false second_is
-          c.if-form_at-ne-NUMBER.false (rest_number c.args.words.now 1 a.ensures.value) (rest_number c.args.words.now (1 + c.skip-middle.result) b.ensures.value)
+          c.if-form_at-ne-NUMBER.false (rest_number c.args.words.now 1 a.ensures.value)
+          (rest_number c.args.words.now (1 + c.skip-middle.result) b.ensures.value)
           c.if-op-eq-ADD.false);
     }

@@ -12,7 +12,12 @@ returns-then-form-ne-FUNCTION c =
     record { placed = rw g (amiss_placed _ c.args.scheme 2); told = rw g (apply_other c.requires c.if-form-ne-FUNCTION.true) }
 
 pub returns-then-scheme : goal.returns-then-scheme
-returns-then-scheme c = let p = c.requires in record { placed = record { variable = omega arith; body = omega (arith, p.least, p.order, p.most); order = p.order; most = p.most }; told = known_apply c.if-scheme.true (apply_scheme p c.if-form-ne-FUNCTION.false) }
+returns-then-scheme c = let p = c.requires in record {
+  placed =
+      record { variable = omega arith; body = omega (arith, p.least, p.order, p.most); order = p.order; most = p.most };
+  told =
+      known_apply c.if-scheme.true (apply_scheme p c.if-form-ne-FUNCTION.false);
+}
 
 pub returns : goal.returns
 returns c =

@@ -28,10 +28,20 @@ pub returns-then-scheme : goal.returns-then-scheme
 returns-then-scheme c =
     let second_is : 2 + c.skip-second.result ≡ 2 + span (drop 2 c.args.words.now) 1 =
     rest_span c.args.words.now 2 c.skip-second.ensures.is in
-    let p = c.requires.1 in record { placed = record { first = omega arith; second = omega (arith, c.if-value-second.false); lambda = omega (arith, p.some); most = p.most }; told = known_function c.if-scheme.true (function_scheme p second_is c.if-form-ne-FUNCTION.false) }
+    let p = c.requires.1 in record {
+      placed =
+          record { first = omega arith; second = omega (arith, c.if-value-second.false); lambda = omega (arith, p.some); most = p.most };
+      told =
+          known_function c.if-scheme.true (function_scheme p second_is c.if-form-ne-FUNCTION.false);
+    }
 
 pub returns : goal.returns
 returns c =
     let second_is : 2 + c.skip-second.result ≡ 2 + span (drop 2 c.args.words.now) 1 =
     rest_span c.args.words.now 2 c.skip-second.ensures.is in
-    let p = c.requires.1 in record { placed = record { first = omega arith; second = omega (arith, c.if-value-second.false); lambda = omega (arith, p.some); most = p.most }; told = known_function c.if-scheme.false (function_ml p second_is c.if-form-ne-FUNCTION.false) }
+    let p = c.requires.1 in record {
+      placed =
+          record { first = omega arith; second = omega (arith, c.if-value-second.false); lambda = omega (arith, p.some); most = p.most };
+      told =
+          known_function c.if-scheme.false (function_ml p second_is c.if-form-ne-FUNCTION.false);
+    }

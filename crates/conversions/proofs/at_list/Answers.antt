@@ -14,7 +14,11 @@ pub returns-then-scheme : goal.returns-then-scheme
 returns-then-scheme c = record { placed = no_part _; told = known_list c.if-scheme.true (nil_scheme c.requires.1 c.if-form-eq-NIL.true) }
 
 pub returns-then-form-eq-NIL : goal.returns-then-form-eq-NIL
-returns-then-form-eq-NIL c = let p = c.requires.1 in record { placed = record { order = p.least; most = omega (arith, p.some, p.most) }; told = known_list c.if-scheme.false (nil_ml p c.if-form-eq-NIL.true) }
+returns-then-form-eq-NIL c = let p = c.requires.1 in record {
+  placed = record { order = p.least; most = omega (arith, p.some, p.most) };
+  told =
+      known_list c.if-scheme.false (nil_ml p c.if-form-eq-NIL.true);
+}
 
 pub returns-then-form-ne-CONS : goal.returns-then-form-ne-CONS
 returns-then-form-ne-CONS c =
@@ -35,10 +39,20 @@ pub returns-then-scheme-2 : goal.returns-then-scheme-2
 returns-then-scheme-2 c =
     let tail_is : let v = c.args.value + 1 in v + c.skip.result ≡ v + span (drop v c.args.words.now) 1 =
     rest_span c.args.words.now (c.args.value + 1) c.skip.ensures.is in
-    let p = c.requires.1 in record { placed = record { type = p.least; head = omega arith; tail = omega (arith, c.if-end-tail.false); most = p.most }; told = known_list c.if-scheme-2.true (cons_scheme p tail_is c.if-form-ne-CONS.false) }
+    let p = c.requires.1 in record {
+      placed =
+          record { type = p.least; head = omega arith; tail = omega (arith, c.if-end-tail.false); most = p.most };
+      told =
+          known_list c.if-scheme-2.true (cons_scheme p tail_is c.if-form-ne-CONS.false);
+    }
 
 pub returns : goal.returns
 returns c =
     let tail_is : let v = c.args.value + 1 in v + c.skip.result ≡ v + span (drop v c.args.words.now) 1 =
     rest_span c.args.words.now (c.args.value + 1) c.skip.ensures.is in
-    let p = c.requires.1 in record { placed = record { type = p.least; head = omega arith; tail = omega (arith, c.if-end-tail.false); most = p.most }; told = known_list c.if-scheme-2.false (cons_ml p tail_is c.if-form-ne-CONS.false) }
+    let p = c.requires.1 in record {
+      placed =
+          record { type = p.least; head = omega arith; tail = omega (arith, c.if-end-tail.false); most = p.most };
+      told =
+          known_list c.if-scheme-2.false (cons_ml p tail_is c.if-form-ne-CONS.false);
+    }

@@ -36,13 +36,21 @@ pub returns-then-words-value : goal.returns-then-words-value
 returns-then-words-value c =
     let scheme-is : c.args.scheme ≡ true =
     c.if-scheme.true in
-    record { placed = tt; told = known_lump scheme-is (lump_kept c.requires.1 c.if-form-ne-LUMP.false (λ e. omega (arith, e, c.if-words-value.true))) }
+    record {
+      placed = tt;
+      told =
+          known_lump scheme-is (lump_kept c.requires.1 c.if-form-ne-LUMP.false (λ e. omega (arith, e, c.if-words-value.true)));
+    }
 
 pub returns-then-scheme : goal.returns-then-scheme
 returns-then-scheme c =
     let scheme-is : c.args.scheme ≡ true =
     c.if-scheme.true in
-    let p = c.requires.1 in record { placed = record { order = omega (arith, c.if-end-value.false); most = p.most }; told = known_lump scheme-is (lump_scheme p c.if-form-ne-LUMP.false c.if-words-value.false) }
+    let p = c.requires.1 in record {
+      placed = record { order = omega (arith, c.if-end-value.false); most = p.most };
+      told =
+          known_lump scheme-is (lump_scheme p c.if-form-ne-LUMP.false c.if-words-value.false);
+    }
 
 pub returns : goal.returns
 returns c = record { placed = search rules; told = known_lump c.if-scheme.false (lump_ml c.requires.1) }

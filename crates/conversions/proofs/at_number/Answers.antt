@@ -18,4 +18,8 @@ returns-then-form-ne-NUMBER c =
 pub returns : goal.returns
 returns c =
     let n = c.number_at in
-    let g = c.number_in.ensures in record { placed = rw g (number_placed (length c.args.words.now) c.args.scheme n.result n.ensures.small); told = rw g (number_number c.requires (rest_number c.args.words.now c.args.value n.ensures.value) c.if-form-ne-NUMBER.false) }
+    let g = c.number_in.ensures in record {
+      placed = rw g (number_placed (length c.args.words.now) c.args.scheme n.result n.ensures.small);
+      told =
+          rw g (number_number c.requires (rest_number c.args.words.now c.args.value n.ensures.value) c.if-form-ne-NUMBER.false);
+    }

@@ -117,7 +117,11 @@ at_list-requires c =
     (c.requires.given, known)
 
 pub returns-then-t-eq-LIST : goal.returns-then-t-eq-LIST
-returns-then-t-eq-LIST c = let g = c.at_list.ensures in record { placed = g.placed; told = at_list_lem _ (sym (get_or-drop 1 c.args.words.now 0 0)) c.if-t-eq-LIST.true g.told }
+returns-then-t-eq-LIST c = let g = c.at_list.ensures in record {
+  placed = g.placed;
+  told =
+      at_list_lem _ (sym (get_or-drop 1 c.args.words.now 0 0)) c.if-t-eq-LIST.true g.told;
+}
 
 pub at_function-requires : goal.at_function-requires
 at_function-requires c =

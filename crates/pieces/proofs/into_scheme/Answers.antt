@@ -35,4 +35,8 @@ returns c =
     let b = c.lead-b.ensures in
     let d = c.lead-c.ensures in
     let e = c.lead-d.ensures in
-    let f = c.put.ensures in record { wrote = then a (then b.wrote (then d.wrote (then e.wrote f))); bound = (omega (arith, a.place, b.bound, d.bound, e.bound, f.place), omega (arith, a.place, b.bound, d.bound, e.bound, f.place)) }
+    let f = c.put.ensures in record {
+      wrote = then a (then b.wrote (then d.wrote (then e.wrote f)));
+      bound =
+          (omega (arith, a.place, b.bound, d.bound, e.bound, f.place), omega (arith, a.place, b.bound, d.bound, e.bound, f.place));
+    }

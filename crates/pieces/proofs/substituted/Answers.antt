@@ -20,4 +20,8 @@ pub returns : goal.returns
 returns c =
     let r = c.substitute-r.ensures in
     let l = part_length c.args.words.now c.args.body in
-    record { writes = substituted_writes _ _ _ _ _ _ _ _ _ _ r.is; bound = (r.bound.0, omega (arith, l, r.within.1, r.bound.1, c.requires.given.0.few)) }
+    record {
+      writes = substituted_writes _ _ _ _ _ _ _ _ _ _ r.is;
+      bound =
+          (r.bound.0, omega (arith, l, r.within.1, r.bound.1, c.requires.given.0.few));
+    }

@@ -48,13 +48,21 @@ pub substituted-requires : goal.substituted-requires
 substituted-requires c = record { given = c.requires.given; placed = placed _ c.requires.placed c.in-Substituted.is }
 
 pub returns-in-Number : goal.returns-in-Number
-returns-in-Number c = let w = c.put_number.ensures in record { writes = known_piece c.in-Number.is (words_write (λ l u g. g) w); bound = (omega (arith, w.place), omega (arith, w.place)) }
+returns-in-Number c = let w = c.put_number.ensures in record {
+  writes = known_piece c.in-Number.is (words_write (λ l u g. g) w);
+  bound =
+      (omega (arith, w.place), omega (arith, w.place));
+}
 
 pub returns-in-Part : goal.returns-in-Part
 returns-in-Part c =
     let w = c.copy.ensures in
     let l = stretch_length c.args.words.now c.in-Part.from c.in-Part.to in
-    record { writes = known_piece c.in-Part.is (words_write (λ l u g. g) w); bound = (omega (arith, w.place), omega (arith, w.place, l, c.requires.given.0.few)) }
+    record {
+      writes = known_piece c.in-Part.is (words_write (λ l u g. g) w);
+      bound =
+          (omega (arith, w.place), omega (arith, w.place, l, c.requires.given.0.few));
+    }
 
 pub returns-in-Led : goal.returns-in-Led
 returns-in-Led c =

@@ -43,7 +43,11 @@ returns-then-op-eq-NULL c =
       least = omega (arith, c.if-end-lt2.false);
       most = c.requires.most;
     } in
-    record { placed = rw c.of_null.ensures (null_placed (length c.args.words.now) c.form_at-form.result); told = rw c.of_null.ensures (one_null known c.operator-op.ensures c.if-op-eq-NULL.true) }
+    record {
+      placed = rw c.of_null.ensures (null_placed (length c.args.words.now) c.form_at-form.result);
+      told =
+          rw c.of_null.ensures (one_null known c.operator-op.ensures c.if-op-eq-NULL.true);
+    }
 
 pub returns-then-op-eq-TEST : goal.returns-then-op-eq-TEST
 returns-then-op-eq-TEST c =
@@ -56,7 +60,11 @@ returns-then-op-eq-TEST c =
       most = c.requires.most;
     } in
     let g = c.answer.ensures in
-    record { placed = record { kind = omega arith; small = omega (arith, g.small) }; told = rw g.value (one_test known c.operator-op.ensures c.if-op-eq-TEST.true) }
+    record {
+      placed = record { kind = omega arith; small = omega (arith, g.small) };
+      told =
+          rw g.value (one_test known c.operator-op.ensures c.if-op-eq-TEST.true);
+    }
 
 pub of_list-requires : goal.of_list-requires
 of_list-requires c =

@@ -12,4 +12,9 @@ pub returns : goal.returns
 returns c =
     let w = c.args.words.now in
     let k = c.skip-body.ensures in
-    let p = c.requires in record { placed = record { variable = omega arith; body = omega (arith, k.within, part_length w 2, p.least, p.most); order = omega arith; most = p.most }; told = fix_lambda p (rest_span w 2 k.is) c.if-form-ne-FUNCTION.false }
+    let p = c.requires in record {
+      placed =
+          record { variable = omega arith; body = omega (arith, k.within, part_length w 2, p.least, p.most); order = omega arith; most = p.most };
+      told =
+          fix_lambda p (rest_span w 2 k.is) c.if-form-ne-FUNCTION.false;
+    }

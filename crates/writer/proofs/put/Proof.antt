@@ -133,7 +133,8 @@ module _ {M : Type 1} {𝓤 : Ura M} (𝓛 : Logic 𝓤) (mem : Memory → SProp
       (sep 𝓤 (A.lft (ν ∷ []) full_share) (sep 𝓤 (sem 𝓛 Oz) (sem 𝓛 ((MutSlice (named 1) (ν ∷ []) u32).own_val (x δ ys) (s ∷ []))))))
       ((Stretch 𝓛 mem run).pre (to-stretch ν δ))
   goes ν δ within =
-      qed 𝓛 (‵ (flft κ' q') ∷ ‵ (flft (ν ∷ []) full_share) ∷ ‵ Oz ∷ ‵ ((MutSlice (named 1) (ν ∷ []) u32).own_val (x δ ys) (s ∷ [])) ∷ []) ∵ says ! within $
+      qed 𝓛 (‵ (flft κ' q') ∷ ‵ (flft (ν ∷ []) full_share) ∷ ‵ Oz ∷ ‵ ((MutSlice (named 1) (ν ∷ []) u32).own_val (x δ ys) (s ∷ [])) ∷ []) ∵ says !
+      within $
       nothing ! $ move ! (2 ∷ 0 ∷ []) $ join ! $ move ! (1 ∷ 0 ∷ []) $ join ! $ frame ! $
       nothing ! $ owned ! usize (Is usize) (uint_Makes 𝓛 w64) n _ (refl, n-fits) $ fjoin ! $ move ! (2 ∷ 0 ∷ []) $ fjoin ! $
       owned ! usize (Is usize) (uint_Makes 𝓛 w64) j _ (refl, j-fits) $ fjoin ! $
@@ -193,7 +194,8 @@ module _ {M : Type 1} {𝓤 : Ura M} (𝓛 : Logic 𝓤) (mem : Memory → SProp
         split ! $ move ! (1 ∷ []) $ split ! $
         -- [src's token; true; buf's token; src; src; the numbers; buf; at; _10 at 8; …]: buf is lent again, for a lifetime ν of the call
         lft_new ! tt (λ ν. move ! (7 ∷ 3 ∷ []) $
-        use2 𝓛 (later (some (λ (δ : GName). ‵ ((MutSlice (named 1) (ν ∷ []) u32).own_val (x δ ys) (s ∷ [])) ⊛ ‵ (LentAgain u32 κ (ν ∷ []) q γ b o δ ys))))
+        use2 𝓛 (later (some (λ (δ : GName). ‵ ((MutSlice (named 1) (ν ∷ []) u32).own_val (x δ ys) (s ∷ [])) ⊛ ‵
+        (LentAgain u32 κ (ν ∷ []) q γ b o δ ys))))
         (lends_again u32 κ (ν ∷ []) q γ b o 𝓛 (named 0) (named 1) ys) $ await ! tt $ pick ! (λ δ. split ! $
         move ! (5 ∷ 0 ∷ []) $ join ! $ move ! (3 ∷ 2 ∷ 0 ∷ []) $ use3 𝓛 (raw ((Stretch 𝓛 mem run).pre (to-stretch ν δ))) (goes ν δ within) $
         -- [what stretch asks; LentAgain; true; src; the numbers; at; _10 at 6; …]

@@ -9,7 +9,8 @@ use Rattle.writing.proofs.Clearing.{zeros, cleared_more, cleared_all}
 use Rattle.writing.proofs.clear.Given as goal
 
 abbrev pub invariant-loop-i : goal.invariant-loop-i
-invariant-loop-i l = (l.n ≤ l.i) × (l.i ≤ l.n + (length l.buffer - l.n)) × (length l.buffer ≡ length l.initial.buffer) × (l.buffer ≡ sets l.initial.buffer l.n (zeros l.n l.i))
+invariant-loop-i l = (l.n ≤ l.i) × (l.i ≤ l.n + (length l.buffer - l.n)) × (length l.buffer ≡ length l.initial.buffer) ×
+    (l.buffer ≡ sets l.initial.buffer l.n (zeros l.n l.i))
 
 abbrev pub decreases-loop-i : goal.decreases-loop-i
 decreases-loop-i l = length l.buffer - l.i

@@ -9,7 +9,8 @@ use Rattle.writing.proofs.Stores.{sets_snoc, sets_cut}
 use Rattle.writing.proofs.copy.Given as goal
 
 abbrev pub invariant-loop-i : goal.invariant-loop-i
-invariant-loop-i l = (l.i ≤ l.m) × (l.m ≡ min (length l.source) (length l.initial.target - l.n)) × (l.target ≡ sets l.initial.target l.n (take l.i l.source))
+invariant-loop-i l = (l.i ≤ l.m) × (l.m ≡ min (length l.source) (length l.initial.target - l.n)) ×
+    (l.target ≡ sets l.initial.target l.n (take l.i l.source))
 
 abbrev pub decreases-loop-i : goal.decreases-loop-i
 decreases-loop-i l = l.m - l.i

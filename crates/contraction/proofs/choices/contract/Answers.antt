@@ -24,7 +24,8 @@ pub contract_1-requires : goal.contract_1-requires
 contract_1-requires c =
     let shape_is : c.row_at-shape.result.shape ≡ (row_of (get_or c.args.words.now 0 0 % 256)).shape =
     ap (λ r. r.shape) c.row_at-shape.ensures in
-    let node : (shape n : ℕ) → c.row_at-shape.result.shape ≡ shape → parts_by shape (part_count (get_or c.args.words.now 0 0)) ≡ n → NodeIn n c.args.table.now c.args.words.now c.args.end =
+    let node : (shape n : ℕ) → c.row_at-shape.result.shape ≡ shape → parts_by shape (part_count (get_or c.args.words.now 0 0)) ≡ n → NodeIn n
+    c.args.table.now c.args.words.now c.args.end =
     λ shape n e p. parts.node c.requires.0 (omega (arith, c.if-words-lt1.false)) c.requires.1
     (shape_parts (get_or c.args.words.now 0 0) shape (sym shape_is ∙ e) n p) in
     node 4 1 c.if-shape-eq-OPERATOR_1.true refl
@@ -39,7 +40,8 @@ pub contract_2-requires : goal.contract_2-requires
 contract_2-requires c =
     let shape_is : c.row_at-shape.result.shape ≡ (row_of (get_or c.args.words.now 0 0 % 256)).shape =
     ap (λ r. r.shape) c.row_at-shape.ensures in
-    let node : (shape n : ℕ) → c.row_at-shape.result.shape ≡ shape → parts_by shape (part_count (get_or c.args.words.now 0 0)) ≡ n → NodeIn n c.args.table.now c.args.words.now c.args.end =
+    let node : (shape n : ℕ) → c.row_at-shape.result.shape ≡ shape → parts_by shape (part_count (get_or c.args.words.now 0 0)) ≡ n → NodeIn n
+    c.args.table.now c.args.words.now c.args.end =
     λ shape n e p. parts.node c.requires.0 (omega (arith, c.if-words-lt1.false)) c.requires.1
     (shape_parts (get_or c.args.words.now 0 0) shape (sym shape_is ∙ e) n p) in
     node 5 2 c.if-shape-eq-OPERATOR_2.true refl
@@ -54,7 +56,8 @@ pub of_if-requires : goal.of_if-requires
 of_if-requires c =
     let shape_is : c.row_at-shape.result.shape ≡ (row_of (get_or c.args.words.now 0 0 % 256)).shape =
     ap (λ r. r.shape) c.row_at-shape.ensures in
-    let node : (shape n : ℕ) → c.row_at-shape.result.shape ≡ shape → parts_by shape (part_count (get_or c.args.words.now 0 0)) ≡ n → NodeIn n c.args.table.now c.args.words.now c.args.end =
+    let node : (shape n : ℕ) → c.row_at-shape.result.shape ≡ shape → parts_by shape (part_count (get_or c.args.words.now 0 0)) ≡ n → NodeIn n
+    c.args.table.now c.args.words.now c.args.end =
     λ shape n e p. parts.node c.requires.0 (omega (arith, c.if-words-lt1.false)) c.requires.1
     (shape_parts (get_or c.args.words.now 0 0) shape (sym shape_is ∙ e) n p) in
     node 6 3 c.if-shape-eq-IF0.true refl
@@ -69,7 +72,8 @@ pub converted-requires : goal.converted-requires
 converted-requires c =
     let shape_is : c.row_at-shape.result.shape ≡ (row_of (get_or c.args.words.now 0 0 % 256)).shape =
     ap (λ r. r.shape) c.row_at-shape.ensures in
-    let node : (shape n : ℕ) → c.row_at-shape.result.shape ≡ shape → parts_by shape (part_count (get_or c.args.words.now 0 0)) ≡ n → NodeIn n c.args.table.now c.args.words.now c.args.end =
+    let node : (shape n : ℕ) → c.row_at-shape.result.shape ≡ shape → parts_by shape (part_count (get_or c.args.words.now 0 0)) ≡ n → NodeIn n
+    c.args.table.now c.args.words.now c.args.end =
     λ shape n e p. parts.node c.requires.0 (omega (arith, c.if-words-lt1.false)) c.requires.1
     (shape_parts (get_or c.args.words.now 0 0) shape (sym shape_is ∙ e) n p) in
     node 9 2 c.if-shape-eq-BOUNDARY.true refl

@@ -105,7 +105,8 @@ returns-clause-result_value t c =
     (inner a.words.now a.at a.due Γ c.requires.walk.digits c.if-due-eq0.false c.if-words-eq0.false c.row_at-row.ensures
     (sym c.is_free.ensures ∙ c.if-is_free.false) (lambdas_in c.enter-inside.result c.enter-inside.new.scope) c.enter-inside.ensures.parts _
     c.variables-inner.ensures.result_value).goes_on _
-    c.in-Took.is c.variables.result (rw (kept_outside c.enter-inside.ensures _ c.variables-inner.ensures.scope_unchanged) at c.variables.ensures.result_value)
+    c.in-Took.is c.variables.result (rw (kept_outside c.enter-inside.ensures _ c.variables-inner.ensures.scope_unchanged) at
+    c.variables.ensures.result_value)
 
 pub returns-clause-scope_unchanged : goal.returns-clause-scope_unchanged
 returns-clause-scope_unchanged t c =

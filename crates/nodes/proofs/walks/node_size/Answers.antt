@@ -29,10 +29,12 @@ walk-requires c =
 
 pub returns-in-Took : goal.returns-in-Took
 returns-in-Took c =
-    ap (λ y. taken (walked y)) (sym c.in-Took.is) ∙ (node_is c.args.words.now c.row_at-row.result c.walk.result c.row_at-row.ensures c.if-words-eq0.false
+    ap (λ y. taken (walked y)) (sym c.in-Took.is) ∙ (node_is c.args.words.now c.row_at-row.result c.walk.result c.row_at-row.ensures
+    c.if-words-eq0.false
     c.walk.ensures)
 
 pub returns-in-Refused : goal.returns-in-Refused
 returns-in-Refused c =
-    ap (λ y. taken (walked y)) (sym c.in-Refused.is) ∙ (node_is c.args.words.now c.row_at-row.result c.walk.result c.row_at-row.ensures c.if-words-eq0.false
+    ap (λ y. taken (walked y)) (sym c.in-Refused.is) ∙ (node_is c.args.words.now c.row_at-row.result c.walk.result c.row_at-row.ensures
+    c.if-words-eq0.false
     c.walk.ensures)

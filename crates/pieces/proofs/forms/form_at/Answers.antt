@@ -10,7 +10,8 @@ pub returns-then-words-lt1 : goal.returns-then-words-lt1
 returns-then-words-lt1 c = form_none _ c.if-words-lt1.true
 
 pub returns-then-shape-eq-NUMBER : goal.returns-then-shape-eq-NUMBER
-returns-then-shape-eq-NUMBER c = let r = c.row_at-shape in form_is _ _ 1 (ap (λ r. r.shape) r.ensures) (rw (eq-eqb r.result.shape 2 c.if-shape-eq-NUMBER.true))
+returns-then-shape-eq-NUMBER c = let r = c.row_at-shape in form_is _ _ 1 (ap (λ r. r.shape) r.ensures)
+    (rw (eq-eqb r.result.shape 2 c.if-shape-eq-NUMBER.true))
 
 pub returns-then-shape-eq-LAMBDA : goal.returns-then-shape-eq-LAMBDA
 returns-then-shape-eq-LAMBDA c =

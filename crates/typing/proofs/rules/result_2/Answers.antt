@@ -10,7 +10,8 @@ pub returns-then-w-eq-ML_CONS : goal.returns-then-w-eq-ML_CONS
 returns-then-w-eq-ML_CONS c = two_cons _ _ _ _ _ c.if-w-eq-ML_CONS.true _ c.cons_type.ensures
 
 pub returns-then-former_at-ne-NUMBERS : goal.returns-then-former_at-ne-NUMBERS
-returns-then-former_at-ne-NUMBERS c = two_first _ _ _ _ _ c.if-w-eq-ML_APPLICATION.false c.if-w-eq-ML_CONS.false _ c.former_at.ensures c.if-former_at-ne-NUMBERS.true
+returns-then-former_at-ne-NUMBERS c = two_first _ _ _ _ _ c.if-w-eq-ML_APPLICATION.false c.if-w-eq-ML_CONS.false _ c.former_at.ensures
+    c.if-former_at-ne-NUMBERS.true
 
 pub returns-then-former_at-ne-NUMBERS-2 : goal.returns-then-former_at-ne-NUMBERS-2
 returns-then-former_at-ne-NUMBERS-2 c =

@@ -114,7 +114,8 @@ loop-left-preserved t c =
       omega (arith, i.2, w.place, o.within, o.bound),
       omega (arith, i.3, o.within),
       search rules,
-      enters i.5 some _ _ _ _ other w c.part_count-parts.ensures.value (ap (λ r. r.shape) c.row_at-row.ensures) _ _ _ c.if-row-ne-LAMBDA.false (omega (arith, o.within)) o.is,
+      enters i.5 some _ _ _ _ other w c.part_count-parts.ensures.value (ap (λ r. r.shape) c.row_at-row.ensures) _ _ _ c.if-row-ne-LAMBDA.false
+          (omega (arith, o.within)) o.is,
     )
 
 pub returns : goal.returns
