@@ -24,7 +24,8 @@ Behind l w (some t) r = (0 < r) × WrittenStatic l w (r + 1) t
 
 pub record LambdaOf (w ls : List ℕ) (sort scope between r : ℕ) : Type 0 where
   pub there : r ≤ length w
-  pub is : (l : Lang) (Γ : Lambdas) (hi : ℕ) → sort ≡ sort_number (term l) → hi ≤ length w → Scope w ls hi scope Γ → Behind l w (type_at l Γ between) r
+  pub is : (l : Lang) (Γ : Lambdas) (hi : ℕ) → sort ≡ sort_number (term l) → hi ≤ length w → Scope w ls hi scope Γ
+      → Behind l w (type_at l Γ between) r
 
 -- "a variable the type written at its lambda".
 pub record Variable (l : Lang) (w ls : List ℕ) (scope x at : ℕ) (r : Answer l) : Type 0 where
