@@ -1,7 +1,7 @@
 -- A file that is opened and judged: refused as the check refuses it, or accepted with its counts. Assumes nothing.
 use Prim.Native.Nat.{ℕ, ◌+◌}
 use mathlib.Core.List.{List}
-use mathlib.Core.Path.{◌≡◌, refl, sym, ap, ◌∙◌, subst}
+use mathlib.Core.Path.{◌≡◌, refl, sym, ap, ◌∙◌}
 use lib.ListN.{length}
 use native.Mathlib.Omega.{arith}
 use Rattle.calculus.specs.Verdicts.{Verdict, refused, passed, and_then}
@@ -38,8 +38,8 @@ term_at o =
 
 -- The ways out of admitting a file.
 pub unopened : (bs : List ℕ) {n p : ℕ} → refused n p ≡ opening bs → refused n p ≡ admitting bs
-unopened bs {n} {p} e = sym (ap (λ (v : Verdict Recipe). and_then v (λ x. passed (type_count (words_of bs), length (words_of bs))))
-    (check_refused bs e))
+unopened bs {n} {p} e =
+    sym (ap (λ (v : Verdict Recipe). and_then v (λ x. passed (type_count (words_of bs), length (words_of bs)))) (check_refused bs e))
 
 module _ {bs all : List ℕ} {types n : ℕ} (o : Opens bs all types n) where
   pub judged_out : {m p : ℕ} → refused m p ≡ accepting (judging (words_of bs) types) → refused m p ≡ admitting bs
@@ -52,14 +52,6 @@ module _ {bs all : List ℕ} {types n : ℕ} (o : Opens bs all types n) where
       let c = passes tt (check bs) tt (e ∙ ap accepting (judged_as o)) in
       ap passed (ap (λ (i : ℕ). (i, n)) o.types_are ∙ ap (λ (i : ℕ). (type_count (words_of bs), i)) o.count_is)
       ∙ sym (ap (λ (v : Verdict Recipe). and_then v (λ x. passed (type_count (words_of bs), length (words_of bs)))) c.1)
-
--- The check alone.
-module _ (bs : List ℕ) where
-  pub check_out : {n p : ℕ} → refused n p ≡ admitting bs → refused n p ≡ accepting (check bs)
-  check_out e = sym (ap accepting (refuses (type_count (words_of bs), length (words_of bs)) (check bs) e))
-
-  pub check_in : {types n : ℕ} → passed (types, n) ≡ admitting bs → passed tt ≡ accepting (check bs)
-  check_in {types} {n} e = sym (ap accepting (passes (type_count (words_of bs), length (words_of bs)) (check bs) (types, n) e).1)
 
 -- What is known of a file by its answer: refused by the check, or a recipe whose words were left in the array `all`.
 pub not_admitted : (bs : List ℕ) {n p : ℕ} → refused n p ≡ admitting bs → check bs ≡ refused n p

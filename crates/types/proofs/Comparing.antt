@@ -72,9 +72,6 @@ module _ (w ls : List ℕ) (p q room : ℕ) where
   abbrev Right : Comparison → Ty → Ty → Type 0
   Right r t u = (lo hi lo' hi' : ℕ) → Means w ls lo hi p t → Means w ls lo' hi' q u → arrows t < room → Says w p t (compare_types t u) r
 
-  pub no_room : room ≡ 0 → Compares w ls p q room (At p)
-  no_room z t u lo hi lo' hi' mp mq less = absurd (omega arith)
-
   module _ (f : ℕ) (ef : f ≡ former_at w p) (g : ℕ) (eg : g ≡ former_at w q) where
     pub other_formers : (f ≡ g → ⊥) → Compares w ls p q room (At p)
     unfolding Says

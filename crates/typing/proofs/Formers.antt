@@ -76,9 +76,8 @@ module _ (w : List ℕ) (t r : ℕ) (e : r ≡ element_of w t) where
 module _ (w : List ℕ) (t f : ℕ) (e : f ≡ former_at w t) (ls : List ℕ) (lo hi : ℕ) where
   pub is_number : f ≡ 10 → (s : Ty) → Means w ls lo hi t s → same_type ml s N ≡ true
   is_number h =
-      by_former w t f e ls lo hi (λ s. same_type ml s N ≡ true) (λ k. (same_iff ml N N).1 refl) (λ k. absurd (omega arith))
-      (λ k. absurd (omega arith))
-      (λ k. absurd (omega arith))
+      by_former w t f e ls lo hi (λ s. same_type ml s N ≡ true) (λ k. (same_iff ml N N).1 refl)
+      (λ k. absurd (omega arith)) (λ k. absurd (omega arith)) (λ k. absurd (omega arith))
 
   pub no_number : (f ≡ 10 → ⊥) → (s : Ty) → Means w ls lo hi t s → same_type ml s N ≡ false
   no_number n =

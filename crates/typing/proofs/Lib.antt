@@ -4,7 +4,6 @@ pub mod RuleResults
 pub mod Variables
 pub mod Telling
 pub mod Leading
-pub mod Linking
 pub mod Lasting
 pub mod Leaves
 pub mod OverParts

@@ -1,10 +1,9 @@
 -- The walk over the parts of a node, in either language, and the ways out at a part that is bad. Assumes nothing.
-use Prim.Native.Nat.{ℕ, ◌+◌, ◌-◌, ◌≤◌, ◌<◌}
+use Prim.Native.Nat.{ℕ, ◌+◌, ◌≤◌, ◌<◌}
 use mathlib.Core.List.{List, ◌∷◌}
 use mathlib.Core.Path.{◌≡◌, refl, sym, ap, ◌∙◌, subst}
-use lib.ListN.{length, take, drop, length-drop}
+use lib.ListN.{length, drop}
 use native.Mathlib.Omega.{arith}
-use borrow.Author.Rules.{part_to_end}
 use Rattle.calculus.specs.Trees.{Lang, ml, sc, Static, Term, lam, op1, op2, if0, ms, sm}
 use Rattle.calculus.specs.Words.{put, size, size_ty, size_static}
 use Rattle.calculus.specs.Kinds.{type, term}
@@ -14,13 +13,12 @@ use Rattle.calculus.specs.Faults.{fault}
 use Rattle.calculus.proofs.Sizes.{past_word, past_tree, past_static}
 use Rattle.nodes.specs.declared.kinds.Row as code
 use Rattle.nodes.specs.Table.{shape_number}
-use Rattle.nodes.proofs.Ways.{part_length}
 use Rattle.nodes.proofs.Terms as node
 use Rattle.nodes.proofs.Terms.{Shaped}
-use Rattle.types.specs.Links.{Linked, KeptBefore}
+use Rattle.types.specs.Links.{KeptBefore}
 use Rattle.typing.specs.Answers.{Reference, Answer, whole, bad, Advances, Answers, other, Crossed}
 use Rattle.typing.specs.Variables.{Scope}
-use Rattle.typing.specs.Parts.{lead_size, Begins, Read, PartsStart, ScopeWithin}
+use Rattle.typing.specs.Parts.{lead_size, Read, PartsStart, ScopeWithin}
 use Rattle.typing.specs.Infers.{Told, Infers}
 use Rattle.typing.proofs.Leading.{lead_written}
 use Rattle.typing.proofs.Leaves.{lead_lam}
@@ -42,25 +40,6 @@ pub record ComeTo (w ls : List ℕ) (at p : ℕ) (now : List ℕ) : Type 0 where
   pub within : p ≤ length w
   pub same : length now ≡ length ls
   pub kept : KeptBefore at ls now
-
--- There: the links serve as they did, and what is handed on for the part there, fewer words, from its own on.
-module _ {table w term : List ℕ} {at : ℕ} {ls : List ℕ} {p : ℕ} {now : List ℕ} where
-  pub links_at : Begins table w term at ls → ComeTo w ls at p now → Linked table w now
-  links_at B G = record { tabled = B.tabled; linked = G.same ∙ B.linked }
-
-  pub hands_on : {t : ℕ} → (length term ≡ t) × Begins table w term at ls → ComeTo w ls at p now
-      → let part = take (length w - p) (drop p w) in (length part < t) × Begins table w part p now
-  hands_on (q, B) G = (
-    omega (arith, part_length w p, ap length B.here, length-drop at w, G.past, G.within, B.within),
-    record {
-      tabled = B.tabled;
-      here = part_to_end w p;
-      behind = omega (arith, G.past);
-      within = G.within;
-      few = B.few;
-      linked = G.same ∙ B.linked;
-    },
-  )
 
 -- What there is to show of a term.
 abbrev pub Goal : (l : Lang) → List ℕ → List ℕ → ℕ → ℕ → List ℕ → Answer l → Term l → Type 0

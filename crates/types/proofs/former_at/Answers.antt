@@ -17,5 +17,6 @@ pub returns-then-shape-eq-LAMBDA : goal.returns-then-shape-eq-LAMBDA
 returns-then-shape-eq-LAMBDA c = of_lambda _ c.if-shape-eq-LAMBDA.true ∙ ap former c.shape_at-shape.ensures
 
 pub returns : goal.returns
-returns c = of_type _ c.if-shape-eq-NUMBER.false c.if-shape-eq-OPERATOR_1.false c.if-shape-eq-NIL.false c.if-shape-eq-LAMBDA.false ∙ ap former
-    c.shape_at-shape.ensures
+returns c =
+    of_type _ c.if-shape-eq-NUMBER.false c.if-shape-eq-OPERATOR_1.false c.if-shape-eq-NIL.false c.if-shape-eq-LAMBDA.false
+    ∙ ap former c.shape_at-shape.ensures

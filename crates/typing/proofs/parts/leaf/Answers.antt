@@ -1,5 +1,4 @@
 -- `typing::parts::leaf` meets its contract: each way out is one law of Leaves. Assumes nothing.
-use borrow.Author.Rules.{rules}
 use Rattle.typing.proofs.Leaves.{at_variable, wrongs, numbers_and_nil}
 use Rattle.typing.proofs.parts.leaf.Goals as goal
 

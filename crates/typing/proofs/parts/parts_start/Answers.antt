@@ -1,5 +1,4 @@
 -- `typing::parts::parts_start` meets its contract: each way out is one law of Leading. Assumes nothing.
-use borrow.Author.Rules.{rules}
 use Rattle.typing.proofs.Leading.{past_lead, right_behind}
 use Rattle.typing.proofs.parts.parts_start.Goals as goal
 

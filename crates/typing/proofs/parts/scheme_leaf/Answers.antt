@@ -1,5 +1,4 @@
 -- `typing::parts::scheme_leaf` meets its contract: each way out is one law of Leaves. Assumes nothing.
-use borrow.Author.Rules.{rules}
 use Rattle.typing.proofs.Leaves.{at_variable, in_scheme}
 use Rattle.typing.proofs.parts.scheme_leaf.Goals as goal
 

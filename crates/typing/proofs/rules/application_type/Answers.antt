@@ -1,5 +1,4 @@
 -- `typing::rules::application_type` meets its contract: each way out is one law of Operations. Assumes nothing.
-use borrow.Author.Rules.{rules}
 use native.Mathlib.Omega.{arith}
 use Rattle.typing.proofs.Operations.{apply_other, apply_rule}
 use Rattle.typing.proofs.rules.application_type.Goals as goal

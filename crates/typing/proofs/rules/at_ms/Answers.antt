@@ -1,5 +1,4 @@
 -- `typing::rules::at_ms` meets its contract: the answer by cases. Assumes nothing.
-use borrow.Author.Rules.{rules}
 use Rattle.calculus.specs.Trees.{ml}
 use Rattle.typing.proofs.RuleResults.{crossed_bad, ms_whole}
 use Rattle.typing.proofs.rules.at_ms.Goals as goal

@@ -1,5 +1,4 @@
 -- `typing::rules::at_sm` meets its contract: each way out is one law of RuleResults. Assumes nothing.
-use borrow.Author.Rules.{rules}
 use Rattle.calculus.specs.Trees.{sc}
 use Rattle.typing.proofs.RuleResults.{crossed_bad, sm_same, sm_differ}
 use Rattle.typing.proofs.rules.at_sm.Goals as goal

@@ -1,5 +1,4 @@
 -- `typing::rules::cons_type` meets its contract: each way out is one law of Operations. Assumes nothing.
-use borrow.Author.Rules.{rules}
 use Rattle.typing.proofs.Operations.{cons_other, cons_rule}
 use Rattle.typing.proofs.rules.cons_type.Goals as goal
 

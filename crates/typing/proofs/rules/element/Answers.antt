@@ -1,5 +1,4 @@
 -- `typing::rules::element` meets its contract: each way out is one law of Formers. Assumes nothing.
-use borrow.Author.Rules.{rules}
 use native.Mathlib.Omega.{arith}
 use Rattle.types.proofs.Meanings.{behind}
 use Rattle.typing.proofs.Formers.{no_element, an_element}

@@ -1,5 +1,4 @@
 -- `typing::rules::fix_type` meets its contract: each way out is one law of Operations. Assumes nothing.
-use borrow.Author.Rules.{rules}
 use native.Mathlib.Omega.{arith}
 use Rattle.typing.proofs.Operations.{fix_other, fix_rule}
 use Rattle.typing.proofs.rules.fix_type.Goals as goal

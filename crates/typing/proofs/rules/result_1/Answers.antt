@@ -1,5 +1,4 @@
 -- `typing::rules::result_1` meets its contract: each way out is one law of RuleResults. Assumes nothing.
-use borrow.Author.Rules.{rules}
 use Rattle.typing.proofs.RuleResults.{one_fix, one_other, one_hd, one_tl, one_null}
 use Rattle.typing.proofs.rules.result_1.Goals as goal
 

@@ -1,5 +1,4 @@
 -- `typing::rules::result_3` meets its contract: each way out is one law of RuleResults. Assumes nothing.
-use borrow.Author.Rules.{rules}
 use Rattle.typing.proofs.RuleResults.{three_test, three_rule}
 use Rattle.typing.proofs.rules.result_3.Goals as goal
 

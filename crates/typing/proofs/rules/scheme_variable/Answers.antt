@@ -1,5 +1,4 @@
 -- `typing::rules::scheme_variable` meets its contract: each way out is one law of Variables. Assumes nothing.
-use borrow.Author.Rules.{rules}
 use Rattle.calculus.specs.Trees.{sc}
 use Rattle.typing.proofs.Variables.{unbound, bound}
 use Rattle.typing.proofs.rules.scheme_variable.Goals as goal

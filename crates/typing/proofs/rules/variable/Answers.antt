@@ -1,5 +1,4 @@
 -- `typing::rules::variable` meets its contract: each way out is one law of Variables. Assumes nothing.
-use borrow.Author.Rules.{rules}
 use Rattle.calculus.specs.Trees.{ml}
 use Rattle.typing.proofs.Variables.{unbound, bound, written_behind}
 use Rattle.typing.proofs.rules.variable.Goals as goal
