@@ -83,7 +83,7 @@ module _ (types terms : List ℕ) where
         by (passed x) e h = absurd (not_both (nodes.number_of r) (nodes.place_of r) tt h)
 
     pub judged_in : passed tt ≡ accepting (judging (file_of types terms) (length types)) → written (file_of types terms) room ≡ saving types terms
-    room
+        room
     judged_in q = by (judged types terms (4 + length types)) refl (q ∙ ap accepting file_judged)
       where
         length_is : 4 * length (file_of types terms) ≡ file_bytes (length types) (length terms)
