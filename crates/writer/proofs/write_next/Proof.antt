@@ -10,10 +10,13 @@ use mathlib.Core.List.{[], ◌∷◌, List}
 use lib.Dec.{T as Holds, lit<}
 use lib.ListN.{length}
 use seplogic.Ra.Ura.{Ura}
-use mir.Syntax.{named, erased, w64}
+use mir.Syntax.{named, erased, w32, w64}
 use mir.Val.{Val, WT, has_ty, vint}
 use base.Logic.{SProp, ent, sep, id⊢, ex_e, snd∗}
-use base.Fml.{Lft, Share, GName, Fml, ftrue, flft}
+use base.Fml.{Lft, Share, GName, Fml, ftrue, flft, fsep, fbor}
+use types.SemTy.{Arr, Body}
+use types.Hole.{Holey}
+use denote.Memory.{mem as mem-of}
 use prog.Memory.{Memory}
 use prog.Routine.{Routine}
 use prog.Wp.{Calls, Loops, WpFn, Tables}
@@ -28,10 +31,10 @@ use types.Part.{agg, whole, sub, look_in}
 use sound.WpLaws.{FmC, fm_of, WpFn-mono}
 use denote.RattleType.{owns}
 use denote.Laws.{Is, shows}
-use denote.Plain.{uint_Makes, uint_vals, uint_Tells, uint_Lawful}
+use denote.Plain.{uint_row_laws, uint_Makes, uint_vals, uint_Tells, uint_Lawful}
 use denote.Builtin.{u32, usize}
-use denote.Ref.{Bor, MutBor, NamedLft}
-use denote.Slice.{slice_val, MutSlice, ShrSlice, Room, finally, shr_slice_vals, mut_slice_Tells, shr_slice_Tells, shr_slice_copy}
+use denote.Ref.{MutBor, Bor, NamedLft}
+use denote.Slice.{slice_val, MutSlice, ShrSlice, Room, finally, mut_slice_vals, shr_slice_vals, mut_slice_Tells, shr_slice_Tells, shr_slice_copy}
 use contract.Lifetimes.{Lfts}
 use denote.Steps.{only, owned, peeks, heard, nothing}
 use denote.Struct.Laws as LL
@@ -52,19 +55,15 @@ use Rattle.writer.specs.declared.Writer.{Writer}
 use Rattle.writer.specs.contracts.Writer as T
 use Rattle.writer.proofs.Writer.TheLaws as T'
 use Rattle.writer.specs.contracts.new as new
-use Rattle.writer.proofs.new.Symbol as new-def
 use Rattle.writer.proofs.new.Symbol.{name as #writer·new}
 use Rattle.writer.proofs.new.Met as new-thm
 use Rattle.writer.specs.contracts.put as put
-use Rattle.writer.proofs.put.Symbol as put-def
 use Rattle.writer.proofs.put.Symbol.{name as #writer·put}
 use Rattle.writer.proofs.put.Met as put-thm
 use Rattle.writer.specs.contracts.over as over
-use Rattle.writer.proofs.over.Symbol as over-def
 use Rattle.writer.proofs.over.Symbol.{name as #writer·over}
 use Rattle.writer.proofs.over.Met as over-thm
 use Rattle.writer.specs.contracts.filled as filled
-use Rattle.writer.proofs.filled.Symbol as filled-def
 use Rattle.writer.proofs.filled.Symbol.{name as #writer·filled}
 use Rattle.writer.proofs.filled.Met as filled-thm
 use Rattle.writer.specs.contracts.write_next.Key.{name as #writer·write-next}
@@ -103,7 +102,7 @@ module _ {M : Type 1} {𝓤 : Ura M} (𝓛 : Logic 𝓤) (mem : Memory → SProp
   Filled = triple_of 𝓛 filled.signature (filled.spec 𝓛 mem run)
 
   -- of what `new`, `put` and `over` ensure, the clause alone: none has a last value
-  new-of : (κ : Lft) (x : Bor (List ℕ)) (r : Writer)
+  new-of : (κ : Lft) (x : MutBor (List ℕ)) (r : Writer)
       → ent 𝓤 (ensured 𝓛 new.ended (new.clauses 𝓛 mem run) (κ, tt) (x, tt) tt r) (fact 𝓤 ((r.buf ≡ x) × (r.at ≡ 0)))
   new-of κ x r = ex_e 𝓤 _ (λ ws. snd∗ 𝓤 (sem 𝓛 (lasts new.ended (κ, tt) (x, tt) ws)) (fact 𝓤 ((r.buf ≡ x) × (r.at ≡ 0))))
 
@@ -117,7 +116,7 @@ module _ {M : Type 1} {𝓤 : Ura M} (𝓛 : Logic 𝓤) (mem : Memory → SProp
       ex_e 𝓤 _ (λ ws. snd∗ 𝓤 (sem 𝓛 (lasts over.ended (κ, tt) (h, (i, tt)) ws)) (fact 𝓤 ((r.buf ≡ h.buf) × (r.at ≡ i))))
 
 module _ {M : Type 1} {𝓤 : Ura M} (𝓛 : Logic 𝓤) (mem : Memory → SProp 𝓤) (run : Routine → Fun 𝓤) (κ κ' : Lft)
-    (q q' : Share) (b o : ℕ) (γ : GName) (ys : List ℕ) (z : MutBor (List ℕ)) (p i j : ℕ)
+    (q q' : Share) (b o : ℕ) (γ : GName) (ys : List ℕ) (z : Bor (List ℕ)) (p i j : ℕ)
     (p-fits : p < 2 ^ 64) (i-fits : i < 2 ^ 64) (j-fits : j < 2 ^ 64) (gap : Gap z.now p i j) where
   open 𝓛 use {H, A}
 
@@ -127,7 +126,7 @@ module _ {M : Type 1} {𝓤 : Ura M} (𝓛 : Logic 𝓤) (mem : Memory → SProp
   abbrev κs : Lfts 2
   κs = (κ, (κ', tt))
 
-  abbrev x : Bor (List ℕ)
+  abbrev x : MutBor (List ℕ)
   x = record { ref_ptr = (b, o); ghost_name = γ; now = ys }
 
   abbrev s : Val
@@ -138,6 +137,9 @@ module _ {M : Type 1} {𝓤 : Ura M} (𝓛 : Logic 𝓤) (mem : Memory → SProp
 
   abbrev Oz : Fml
   Oz = (ShrSlice (named 1) κ' u32).own_val z (zv ∷ [])
+
+  twice : ent 𝓤 (sem 𝓛 Oz) (sep 𝓤 (sem 𝓛 Oz) (sem 𝓛 Oz))
+  twice = (shr_slice_copy 𝓛 (named 1) κ' u32 (uint_row_laws w32)).twice z (zv ∷ [])
 
   -- the writer with the same borrow, at a list and a count
   abbrev wr : List ℕ → ℕ → Writer
@@ -150,7 +152,7 @@ module _ {M : Type 1} {𝓤 : Ura M} (𝓛 : Logic 𝓤) (mem : Memory → SProp
       subst (λ (u : Val). Holds (has_ty (T'.mir erased) u) × WT u) (sym (ap only (LL.tells (T.the_type α) (T'.the_laws α) h _ is)))
       (tt, ((tt, (record { fits = fields.0.0.1.0 }, tt)), (record { fits = fields.1.0.1 }, tt)))
 
-  abbrev a : Bor (List ℕ) × (Bor (List ℕ) × (ℕ × (ℕ × (ℕ × Unit {0}))))
+  abbrev a : MutBor (List ℕ) × (Bor (List ℕ) × (ℕ × (ℕ × (ℕ × Unit {0}))))
   a = (x, (z, (p, (i, (j, tt)))))
 
   abbrev vals : List Val × (List Val × (List Val × (List Val × (List Val × Unit {0}))))
@@ -199,19 +201,24 @@ module _ {M : Type 1} {𝓤 : Ura M} (𝓛 : Logic 𝓤) (mem : Memory → SProp
       qed 𝓛 (‵ (flft κ q) ∷ ‵ ((T.the_row α).own_val (wr l m) (w ∷ [])) ∷ []) ∵ nothing ! $ move ! (1 ∷ 0 ∷ []) $ join ! $ nothing ! $
       move ! (2 ∷ 0 ∷ []) $ fjoin ! $ move ! (1 ∷ 0 ∷ []) $ join ! $ frame ! $ done !
 
+  -- what is had of the buffer at exit: what says its last list, and the rest of its borrow, which the last writer gave up
+  abbrev given-up : List ℕ → Fml
+  given-up zs = fsep (finally u32 γ zs) (fbor κ (Body (Arr (Holey (mem-of u32)) (length ys)) b o γ))
+
   exits : (r : ℕ) (w : Val) (zs : List ℕ) → Next z.now p i j ys r zs → length zs ≡ length ys
       → ent 𝓤 (sep 𝓤 (sep 𝓤 (A.lft κ q) (sem 𝓛 ftrue))
       (sep 𝓤 (sep 𝓤 (A.lft κ' q') (sem 𝓛 ftrue))
-      (sep 𝓤 (sem 𝓛 (finally u32 γ zs)) (sep 𝓤 (sem 𝓛 (usize.own_val r (w ∷ []))) (sem 𝓛 Oz))))) (Post w)
+      (sep 𝓤 (sem 𝓛 (given-up zs)) (sep 𝓤 (sem 𝓛 (usize.own_val r (w ∷ []))) (sem 𝓛 Oz))))) (Post w)
   exits r w zs e l =
-      qed 𝓛 ((‵ (flft κ q) ⊛ ‵ ftrue) ∷ (‵ (flft κ' q') ⊛ ‵ ftrue) ∷ ‵ (finally u32 γ zs) ∷ ‵ (usize.own_val r (w ∷ [])) ∷ ‵ Oz ∷ []) ∵
+      qed 𝓛 ((‵ (flft κ q) ⊛ ‵ ftrue) ∷ (‵ (flft κ' q') ⊛ ‵ ftrue) ∷ ‵ (given-up zs) ∷ ‵ (usize.own_val r (w ∷ [])) ∷ ‵ Oz ∷ []) ∵
       suffices ! _ (ends_at 𝓛 write-next.ended stayed (write-next.clauses 𝓛 mem run) ((κs, (q, (q', tt)), tt, a, vals), tt) w r
       (zs, (tt, (tt, (tt, (tt, tt))))) (l, (tt, (tt, (tt, (tt, tt)))))) $ says ! e $
-      split ! $ move ! (1 ∷ []) $ drop ! $ join ! $ frame ! $
+      split ! $ move ! (1 ∷ []) $ drop ! $ join ! $
+      -- [the tokens; the last list; the result; src]
       nothing ! $ owned ! usize (Is usize) (uint_Makes 𝓛 w64) j _ (refl, j-fits) $ fjoin ! $
       owned ! usize (Is usize) (uint_Makes 𝓛 w64) i _ (refl, i-fits) $ fjoin ! $
-      owned ! usize (Is usize) (uint_Makes 𝓛 w64) p _ (refl, p-fits) $ fjoin ! $ move ! (3 ∷ 0 ∷ []) $ fjoin ! $ move ! (1 ∷ 0 ∷ []) $ fjoin ! $
-      done !
+      owned ! usize (Is usize) (uint_Makes 𝓛 w64) p _ (refl, p-fits) $ fjoin ! $ move ! (4 ∷ 0 ∷ []) $ fjoin ! $ move ! (2 ∷ 0 ∷ []) $ fjoin ! $
+      move ! (1 ∷ 0 ∷ []) $ done !
 
   module _ (C : Calls 𝓤 H) (Λ : Loops 𝓤 H) (fm : FmC 𝓤 H 𝓛.laws C) (known-new : Triple 𝓤 (C #writer·new) (New 𝓛 mem run))
       (known-put : Triple 𝓤 (C #writer·put) (PutC 𝓛 mem run)) (Known-over : Triple 𝓤 (C #writer·over) (Over 𝓛 mem run))
@@ -249,7 +256,7 @@ module _ {M : Type 1} {𝓤 : Ura M} (𝓛 : Logic 𝓤) (mem : Memory → SProp
         move ! (1 ∷ []) $ split ! $ move ! (1 ∷ []) $ drop ! $
         -- [buf's token; what the writer owns; src's token; src; _15 at 4; …], as before and after each `put`
         -- `put`, of the words before
-        move ! (3 ∷ []) $ use1 𝓛 (‵ Oz ⊛ ‵ Oz) ((shr_slice_copy 𝓛 (named 1) κ' u32).twice z (zv ∷ [])) $ split ! $ move ! (3 ∷ 0 ∷ []) $ join ! $
+        move ! (3 ∷ []) $ use1 𝓛 (‵ Oz ⊛ ‵ Oz) twice $ split ! $ move ! (3 ∷ 0 ∷ []) $ join ! $
         move ! (2 ∷ 3 ∷ 0 ∷ []) $
         use3 𝓛 (raw ((PutC 𝓛 mem run).pre (to-put (wr ys 0) w₀ 0 p))) (goes-put (wr ys 0) w₀ 0 p (lit< tt) p-fits (within₀ gap)) $
         calls_at ! fm (PutC 𝓛 mem run) known-put (to-put (wr ys 0) w₀ 0 p)
@@ -285,7 +292,7 @@ module _ {M : Type 1} {𝓤 : Ura M} (𝓛 : Logic 𝓤) (mem : Memory → SProp
         assigns ! (of_opd ! (load ! (from ! (fld ! refl (stop !))) (look_in ! 30 (sub ! 1 refl (whole !))))) (from ! (stop !))
         (init ! 6 refl (tt, record { fits = z-room.0 })) $
         -- `put`, of the words after
-        move ! (3 ∷ []) $ use1 𝓛 (‵ Oz ⊛ ‵ Oz) ((shr_slice_copy 𝓛 (named 1) κ' u32).twice z (zv ∷ [])) $ split ! $ move ! (3 ∷ 0 ∷ []) $ join ! $
+        move ! (3 ∷ []) $ use1 𝓛 (‵ Oz ⊛ ‵ Oz) twice $ split ! $ move ! (3 ∷ 0 ∷ []) $ join ! $
         move ! (2 ∷ 3 ∷ 0 ∷ []) $
         use3 𝓛 (raw ((PutC 𝓛 mem run).pre (to-put (wr r₁.buf.now i) w₂ j (length z.now))))
         (goes-put (wr r₁.buf.now i) w₂ j (length z.now) j-fits z-room.0 (within₁ gap)) $
@@ -318,7 +325,8 @@ module _ {M : Type 1} {𝓤 : Ura M} (𝓛 : Logic 𝓤) (mem : Memory → SProp
         use1 𝓛 (some (λ (zs : (List ℕ × Unit {0}) × Unit {0}). ‵ (lasts filled.ended (κ, tt) (wr r₃.buf.now r₃.at, tt) zs) ⊛ raw
         (fact 𝓤 ((r ≡ r₃.at) × (zs.0.0 ≡ r₃.buf.now))))) (id⊢ 𝓤 _) $ pick ! (λ zs.
         split ! $ move ! (1 ∷ []) $
-        heard ! ((r ≡ r₃.at) × (zs.0.0 ≡ r₃.buf.now)) (λ e. fsplit ! $ fsplit ! $ fsplit ! $ move ! (1 ∷ []) $ feq_l ! (λ l.
+        heard ! ((r ≡ r₃.at) × (zs.0.0 ≡ r₃.buf.now)) (λ e. fsplit ! $ fsplit ! $ fsplit ! $ fsplit ! $ move ! (1 ∷ []) $ feq_l ! (λ l.
+        rewrite ! 1 (λ (m : ℕ). ‵ (fbor κ (Body (Arr (Holey (mem-of u32)) m) b o γ))) (e₃.kept ∙ e₁.kept) refl $ fjoin ! $
         -- [the last list; …; the token and the result; src's token; src; _15 at 6; …]
         move ! (3 ∷ []) $ split ! $ move ! (1 ∷ []) $ peeks ! usize (Is usize) (shows 𝓛 usize) r (w ∷ []) (λ is.
         land ! (from ! (stop !)) (init ! 37 refl ((uint_Lawful 𝓛 w64).typed r _ is).0) $
@@ -349,7 +357,7 @@ module _ {M : Type 1} {𝓤 : Ura M} (𝓛 : Logic 𝓤) (mem : Memory → SProp
       → Walks 𝓛 write-next.ended stayed (WpFn 𝓤 H C Λ code.function) (write-next.clauses 𝓛 mem run)
   write-next-walks C Λ fm known-new known-put Known-over known-filled =
       walked 𝓛 write-next.ended stayed (write-next.clauses 𝓛 mem run) (WpFn 𝓤 H C Λ code.function)
-      (λ κs. (shr_slice_vals, (shr_slice_vals, (uint_vals w64, (uint_vals w64, (uint_vals w64, tt))))))
+      (λ κs. (mut_slice_vals, (shr_slice_vals, (uint_vals w64, (uint_vals w64, (uint_vals w64, tt))))))
       (λ κs. (
         mut_slice_Tells (named 0) κs.0 u32,
         (shr_slice_Tells (named 1) κs.1.0 u32, (uint_Tells w64, (uint_Tells w64, (uint_Tells w64, tt)))),
@@ -384,13 +392,16 @@ write-next-meets {𝓤 = 𝓤} 𝓛 mem run 𝓣 known-new known-put Known-over 
     (write-next-walks 𝓛 mem run 𝓣.C 𝓣.Λ (fm_of 𝓤 𝓛.H 𝓛.laws 𝓣) known-new known-put Known-over known-filled)
 
 pub write_next_spec : {M : Type 1} → stated.statement M
-unfolding code.routine tables_of
-write_next_spec 𝓤 𝓛 𝓜 𝓡 =
-    entered 𝓤 𝓛.H (triple_of 𝓛 write-next.signature (write-next.spec 𝓛 𝓜.mem 𝓡.run))
-    (tables 𝓤 𝓛.H 𝓜 𝓡 code.env).C (tables 𝓤 𝓛.H 𝓜 𝓡 code.env).Λ #writer·write-next code.function (code.unfolded 𝓤 𝓛.H 𝓜 𝓡)
-    (write-next-meets 𝓛 𝓜.mem 𝓡.run (tables_of 𝓤 𝓛.H 𝓜 (tables 𝓤 𝓛.H 𝓜 𝓡 code.env))
-    (cited 𝓤 𝓛.H (New 𝓛 𝓜.mem 𝓡.run) 𝓜 𝓡 code.env #writer·new new-def.routine code.calls-writer::new (new-thm.met 𝓤 𝓛 𝓜 𝓡))
-    (cited 𝓤 𝓛.H (PutC 𝓛 𝓜.mem 𝓡.run) 𝓜 𝓡 code.env #writer·put put-def.routine code.calls-writer::put (put-thm.met 𝓤 𝓛 𝓜 𝓡))
-    (cited 𝓤 𝓛.H (Over 𝓛 𝓜.mem 𝓡.run) 𝓜 𝓡 code.env #writer·over over-def.routine code.calls-writer::over (over-thm.met 𝓤 𝓛 𝓜 𝓡))
-    (cited 𝓤 𝓛.H (Filled 𝓛 𝓜.mem 𝓡.run) 𝓜 𝓡 code.env #writer·filled filled-def.routine code.calls-writer::filled
-    (filled-thm.met 𝓤 𝓛 𝓜 𝓡)))
+unfolding tables_of
+write_next_spec 𝓤 𝓛 𝓜 𝓡 wired =
+    let m = 𝓜.mem in
+    let run = 𝓡.returns in
+    entered 𝓤 𝓛.H (triple_of 𝓛 write-next.signature (write-next.spec 𝓛 m run))
+    (tables 𝓤 𝓛.H 𝓜 𝓡 𝓡.env).C (tables 𝓤 𝓛.H 𝓜 𝓡 𝓡.env).Λ #writer·write-next code.function (code.unfolded 𝓤 𝓛.H 𝓜 𝓡 wired)
+    (write-next-meets 𝓛 m run (tables_of 𝓤 𝓛.H 𝓜 (tables 𝓤 𝓛.H 𝓜 𝓡 𝓡.env))
+    (cited 𝓤 𝓛.H (New 𝓛 m run) 𝓜 𝓡 𝓡.env #writer·new (𝓡.env #writer·new) refl (new-thm.met 𝓤 𝓛 𝓜 𝓡 (code.calls-writer::new 𝓡.env wired)))
+    (cited 𝓤 𝓛.H (PutC 𝓛 m run) 𝓜 𝓡 𝓡.env #writer·put (𝓡.env #writer·put) refl (put-thm.met 𝓤 𝓛 𝓜 𝓡 (code.calls-writer::put 𝓡.env wired)))
+    (cited 𝓤 𝓛.H (Over 𝓛 m run) 𝓜 𝓡 𝓡.env #writer·over (𝓡.env #writer·over) refl
+    (over-thm.met 𝓤 𝓛 𝓜 𝓡 (code.calls-writer::over 𝓡.env wired)))
+    (cited 𝓤 𝓛.H (Filled 𝓛 m run) 𝓜 𝓡 𝓡.env #writer·filled (𝓡.env #writer·filled) refl
+    (filled-thm.met 𝓤 𝓛 𝓜 𝓡 (code.calls-writer::filled 𝓡.env wired))))
