@@ -15,7 +15,6 @@ use Rattle.calculus.specs.Reduction as calculus
 use Rattle.calculus.proofs.Sizes.{put_append, tree_length, drop_tree}
 use Rattle.calculus.proofs.Splices.{put_fill, words_fill}
 use Rattle.calculus.specs.Splices.{words_before, words_after}
-use Rattle.calculus.proofs.Turns as turns
 use Rattle.writing.specs.Wrote.{Wrote}
 use Rattle.writing.proofs.Measures.{span_tree}
 use Rattle.writing.proofs.Stores.{then, before, wrote_as}

@@ -199,7 +199,7 @@ module _ (ws : List ℕ) (shape : ℕ) (Shape_is : shape ≡ (row_of (get_or ws 
       look_boundary w h =
           record {
             ends = sym (span_next ws 1 start 1 1 start_is (span ws 1)
-            (span_parts ws 2 some (shape_parts (get_or ws 0 0) 9 (sym Shape_is ∙ h) 2 refl)));
+                (span_parts ws 2 some (shape_parts (get_or ws 0 0) 9 (sym Shape_is ∙ h) 2 refl)));
             some = omega (arith, start_is);
             within = w;
             few = omega arith;

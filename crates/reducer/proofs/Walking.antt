@@ -20,7 +20,6 @@ use Rattle.writing.proofs.Measures.{span_end}
 use Rattle.writing.proofs.Lengths.{span_next, span_join}
 use Rattle.pieces.proofs.ByForm.{size_some}
 use Rattle.reducer.specs.declared.turns.Found.{Found}
-use Rattle.reducer.specs.declared.turns.Found.TheVariants.{Nothing}
 use Rattle.reducer.specs.declared.turns.From.{From}
 use Rattle.reducer.specs.declared.turns.Look.{Look}
 use Rattle.reducer.specs.Standing.{inside, whole, waits_for, pending, Standing, Ripe}

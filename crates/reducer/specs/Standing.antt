@@ -1,7 +1,7 @@
 -- Where the walk to the turn stands in a term, and how many parts evaluation has still to take there.
 use Rattle.std.specs.Prelude.{ℕ, ◌+◌, Bool, true, cond, not, ◌≡◌}
 use Rattle.calculus.specs.Trees.{Lang, ml, Term}
-use Rattle.calculus.specs.Words.{words, size, size_ty}
+use Rattle.calculus.specs.Words.{size, size_ty}
 use Rattle.calculus.specs.Reduction.{is_lump, is_cons, Frame, under, first, second, tested, into_ml, into_scheme, plug}
 use Rattle.calculus.specs.Evaluation.{Taken, Ready}
 
