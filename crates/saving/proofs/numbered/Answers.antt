@@ -1,5 +1,4 @@
 -- `saving::numbered` meets its contract, case by case. Assumes nothing.
-use borrow.Author.Rules.{rules}
 use mathlib.Core.Path.{sym, ap, ◌∙◌}
 use Rattle.saving.specs.Refusals.{numbered}
 use Rattle.saving.proofs.numbered.Goals as goal

@@ -1,5 +1,4 @@
 -- `saving::put_word` meets its contract: four bytes, one after the other. Assumes nothing.
-use borrow.Author.Rules.{rules}
 use Rattle.writing.proofs.Stores.{then}
 use Rattle.saving.proofs.put_word.Goals as goal
 

@@ -1,14 +1,12 @@
 -- `saving::put_words` meets its contract: before each turn the bytes of the first i words are put. Assumes nothing.
-use borrow.Author.Rules.{rules}
 use mathlib.Core.List.{[], ◌∷◌, ◌++◌}
 use mathlib.Core.Path.{◌≡◌, sym, ap, ◌∙◌}
-use Prim.Native.Nat.{◌+◌, ◌-◌, ◌*◌, ◌≤◌}
+use Prim.Native.Nat.{◌+◌}
 use native.Mathlib.Omega.{arith}
 use native.Mathlib.Numerals.{add-one}
-use lib.ListN.{length, take, get_or}
+use lib.ListN.{take, get_or}
 use lib.Seq.{take-suc, take_all}
 use Rattle.calculus.specs.File.{bytes_of}
-use Rattle.writing.specs.Wrote.{Wrote}
 use Rattle.writing.proofs.Stores.{then, wrote_as, wrote_none, wrote_length}
 use Rattle.saving.proofs.Bytes.{bytes_append}
 use Rattle.saving.proofs.put_words.Goals as goal

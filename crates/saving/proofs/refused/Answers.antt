@@ -1,5 +1,4 @@
 -- `saving::refused` meets its contract: nothing of the buffer is kept. Assumes nothing.
-use borrow.Author.Rules.{rules}
 use mathlib.Core.Path.{refl}
 use Rattle.saving.proofs.refused.Goals as goal
 

@@ -1,5 +1,4 @@
 -- `saving::save` meets its contract, for all words and every buffer: each way out is one law of Saving. Assumes nothing.
-use borrow.Author.Rules.{rules}
 use Prim.Native.Nat.{ℕ, ◌+◌, ◌≤◌}
 use mathlib.Core.Bool.{true}
 use mathlib.Core.List.{List}
@@ -7,7 +6,7 @@ use mathlib.Core.Path.{◌≡◌, sym, ap, ◌∙◌}
 use native.Mathlib.Omega.{arith}
 use lib.Dec.{leb}
 use lib.ListN.{length, take, length-replicate}
-use borrow.Author.Tests.{not-true, not-false, leb-true}
+use borrow.Author.Tests.{leb-true}
 use Rattle.calculus.specs.File.{file_of}
 use Rattle.writing.proofs.Stores.{wrote_length}
 use Rattle.checker.specs.Checks.{TermAt, checked, accepting, judging}
@@ -19,13 +18,13 @@ use Rattle.saving.proofs.save.Goals as goal
 
 pub returns-then-not-fits : goal.returns-then-not-fits
 returns-then-not-fits c =
-    let over = sym c.fits2.ensures ∙ c.if-not-fits.true in
+    let over = sym c.fits.ensures ∙ c.if-not-fits.true in
     answered_as (too_long c.args.types.now c.args.terms.now (length c.args.out.now) over) c.refused.ensures
 
 pub fill-count-requires : goal.fill-count-requires
 fill-count-requires c =
     let fit : leb (file_bytes (length c.args.types.now) (length c.args.terms.now)) 16384 ≡ true =
-    sym c.fits2.ensures ∙ c.if-not-fits.false in
+    sym c.fits.ensures ∙ c.if-not-fits.false in
     let few : FewWords c.args.types.now c.args.terms.now =
     omega (arith, leb-true (file_bytes (length c.args.types.now) (length c.args.terms.now)) 16384 fit) in
     few
@@ -37,7 +36,7 @@ slice_bounds-all-end c =
     let count_is : c.fill-count.result ≡ length (file_of c.args.types.now c.args.terms.now) =
     omega (arith, c.fill-count.ensures.place) in
     let fit : leb (file_bytes (length c.args.types.now) (length c.args.terms.now)) 16384 ≡ true =
-    sym c.fits2.ensures ∙ c.if-not-fits.false in
+    sym c.fits.ensures ∙ c.if-not-fits.false in
     let few : FewWords c.args.types.now c.args.terms.now =
     omega (arith, leb-true (file_bytes (length c.args.types.now) (length c.args.terms.now)) 16384 fit) in
     let count_few : length (file_of c.args.types.now c.args.terms.now) ≤ 4096 =
@@ -51,13 +50,14 @@ slice_bounds-judge-end c =
     let count_is : c.fill-count.result ≡ length (file_of c.args.types.now c.args.terms.now) =
     omega (arith, c.fill-count.ensures.place) in
     let fit : leb (file_bytes (length c.args.types.now) (length c.args.terms.now)) 16384 ≡ true =
-    sym c.fits2.ensures ∙ c.if-not-fits.false in
+    sym c.fits.ensures ∙ c.if-not-fits.false in
     let few : FewWords c.args.types.now c.args.terms.now =
     omega (arith, leb-true (file_bytes (length c.args.types.now) (length c.args.terms.now)) 16384 fit) in
     let count_few : length (file_of c.args.types.now c.args.terms.now) ≤ 4096 =
     omega (arith, file_length c.args.types.now c.args.terms.now, few) in
     let front : take c.fill-count.result c.fill-count.new.all ≡ (file_of c.args.types.now c.args.terms.now) =
-    wrote_front _ c.fill-count.new.all (file_of c.args.types.now c.args.terms.now) c.fill-count.result c.fill-count.ensures (omega (arith, count_few, length-replicate {A = ℕ} 4096 0)) in
+    wrote_front _ c.fill-count.new.all (file_of c.args.types.now c.args.terms.now) c.fill-count.result c.fill-count.ensures
+    (omega (arith, count_few, length-replicate {A = ℕ} 4096 0)) in
     let counted : c.fill-count.result ≡ length (take c.fill-count.result c.fill-count.new.all) =
     rw front count_is in
     counted
@@ -65,13 +65,14 @@ slice_bounds-judge-end c =
 pub judge-requires : goal.judge-requires
 judge-requires c =
     let fit : leb (file_bytes (length c.args.types.now) (length c.args.terms.now)) 16384 ≡ true =
-    sym c.fits2.ensures ∙ c.if-not-fits.false in
+    sym c.fits.ensures ∙ c.if-not-fits.false in
     let few : FewWords c.args.types.now c.args.terms.now =
     omega (arith, leb-true (file_bytes (length c.args.types.now) (length c.args.terms.now)) 16384 fit) in
     let count_few : length (file_of c.args.types.now c.args.terms.now) ≤ 4096 =
     omega (arith, file_length c.args.types.now c.args.terms.now, few) in
     let front : take c.fill-count.result c.fill-count.new.all ≡ (file_of c.args.types.now c.args.terms.now) =
-    wrote_front _ c.fill-count.new.all (file_of c.args.types.now c.args.terms.now) c.fill-count.result c.fill-count.ensures (omega (arith, count_few, length-replicate {A = ℕ} 4096 0)) in
+    wrote_front _ c.fill-count.new.all (file_of c.args.types.now c.args.terms.now) c.fill-count.result c.fill-count.ensures
+    (omega (arith, count_few, length-replicate {A = ℕ} 4096 0)) in
     let term_at : TermAt (take c.fill-count.result c.fill-count.new.all) (4 + length c.args.types.now) =
     rw front (record { behind = omega arith; within = omega (arith, file_length c.args.types.now c.args.terms.now); few = count_few }) in
     term_at
@@ -83,7 +84,7 @@ slice_bounds-all-end-in-Accepted c =
     let count_is : c.fill-count.result ≡ length (file_of c.args.types.now c.args.terms.now) =
     omega (arith, c.fill-count.ensures.place) in
     let fit : leb (file_bytes (length c.args.types.now) (length c.args.terms.now)) 16384 ≡ true =
-    sym c.fits2.ensures ∙ c.if-not-fits.false in
+    sym c.fits.ensures ∙ c.if-not-fits.false in
     let few : FewWords c.args.types.now c.args.terms.now =
     omega (arith, leb-true (file_bytes (length c.args.types.now) (length c.args.terms.now)) 16384 fit) in
     let count_few : length (file_of c.args.types.now c.args.terms.now) ≤ 4096 =
@@ -97,13 +98,14 @@ slice_bounds-write-end c =
     let count_is : c.fill-count.result ≡ length (file_of c.args.types.now c.args.terms.now) =
     omega (arith, c.fill-count.ensures.place) in
     let fit : leb (file_bytes (length c.args.types.now) (length c.args.terms.now)) 16384 ≡ true =
-    sym c.fits2.ensures ∙ c.if-not-fits.false in
+    sym c.fits.ensures ∙ c.if-not-fits.false in
     let few : FewWords c.args.types.now c.args.terms.now =
     omega (arith, leb-true (file_bytes (length c.args.types.now) (length c.args.terms.now)) 16384 fit) in
     let count_few : length (file_of c.args.types.now c.args.terms.now) ≤ 4096 =
     omega (arith, file_length c.args.types.now c.args.terms.now, few) in
     let front : take c.fill-count.result c.fill-count.new.all ≡ (file_of c.args.types.now c.args.terms.now) =
-    wrote_front _ c.fill-count.new.all (file_of c.args.types.now c.args.terms.now) c.fill-count.result c.fill-count.ensures (omega (arith, count_few, length-replicate {A = ℕ} 4096 0)) in
+    wrote_front _ c.fill-count.new.all (file_of c.args.types.now c.args.terms.now) c.fill-count.result c.fill-count.ensures
+    (omega (arith, count_few, length-replicate {A = ℕ} 4096 0)) in
     let counted : c.fill-count.result ≡ length (take c.fill-count.result c.fill-count.new.all) =
     rw front count_is in
     counted
@@ -111,13 +113,14 @@ slice_bounds-write-end c =
 pub write-requires : goal.write-requires
 write-requires c =
     let fit : leb (file_bytes (length c.args.types.now) (length c.args.terms.now)) 16384 ≡ true =
-    sym c.fits2.ensures ∙ c.if-not-fits.false in
+    sym c.fits.ensures ∙ c.if-not-fits.false in
     let few : FewWords c.args.types.now c.args.terms.now =
     omega (arith, leb-true (file_bytes (length c.args.types.now) (length c.args.terms.now)) 16384 fit) in
     let count_few : length (file_of c.args.types.now c.args.terms.now) ≤ 4096 =
     omega (arith, file_length c.args.types.now c.args.terms.now, few) in
     let front : take c.fill-count.result c.fill-count.new.all ≡ (file_of c.args.types.now c.args.terms.now) =
-    wrote_front _ c.fill-count.new.all (file_of c.args.types.now c.args.terms.now) c.fill-count.result c.fill-count.ensures (omega (arith, count_few, length-replicate {A = ℕ} 4096 0)) in
+    wrote_front _ c.fill-count.new.all (file_of c.args.types.now c.args.terms.now) c.fill-count.result c.fill-count.ensures
+    (omega (arith, count_few, length-replicate {A = ℕ} 4096 0)) in
     let short : length (take c.fill-count.result c.fill-count.new.all) ≤ 4096 =
     rw front count_few in
     short
@@ -125,14 +128,16 @@ write-requires c =
 pub returns-in-Refused : goal.returns-in-Refused
 returns-in-Refused c =
     let fit : leb (file_bytes (length c.args.types.now) (length c.args.terms.now)) 16384 ≡ true =
-    sym c.fits2.ensures ∙ c.if-not-fits.false in
+    sym c.fits.ensures ∙ c.if-not-fits.false in
     let few : FewWords c.args.types.now c.args.terms.now =
     omega (arith, leb-true (file_bytes (length c.args.types.now) (length c.args.terms.now)) 16384 fit) in
     let count_few : length (file_of c.args.types.now c.args.terms.now) ≤ 4096 =
     omega (arith, file_length c.args.types.now c.args.terms.now, few) in
     let front : take c.fill-count.result c.fill-count.new.all ≡ (file_of c.args.types.now c.args.terms.now) =
-    wrote_front _ c.fill-count.new.all (file_of c.args.types.now c.args.terms.now) c.fill-count.result c.fill-count.ensures (omega (arith, count_few, length-replicate {A = ℕ} 4096 0)) in
-    let judged_file : accepting (judging (take c.fill-count.result c.fill-count.new.all) (length c.args.types.now)) ≡ accepting (judging (file_of c.args.types.now c.args.terms.now) (length c.args.types.now)) =
+    wrote_front _ c.fill-count.new.all (file_of c.args.types.now c.args.terms.now) c.fill-count.result c.fill-count.ensures
+    (omega (arith, count_few, length-replicate {A = ℕ} 4096 0)) in
+    let judged_file : accepting (judging (take c.fill-count.result c.fill-count.new.all) (length c.args.types.now)) ≡ accepting
+    (judging (file_of c.args.types.now c.args.terms.now) (length c.args.types.now)) =
     ap (λ (l : List ℕ). accepting (judging l (length c.args.types.now))) front in
     let told = ap checked (sym c.in-Refused.is) ∙ c.judge.ensures ∙ judged_file in
     answered_as (judged_out c.args.types.now c.args.terms.now (length c.args.out.now) fit c.in-Refused.r told) c.refused-in-Refused.ensures
@@ -140,14 +145,16 @@ returns-in-Refused c =
 pub returns-in-Accepted : goal.returns-in-Accepted
 returns-in-Accepted c =
     let fit : leb (file_bytes (length c.args.types.now) (length c.args.terms.now)) 16384 ≡ true =
-    sym c.fits2.ensures ∙ c.if-not-fits.false in
+    sym c.fits.ensures ∙ c.if-not-fits.false in
     let few : FewWords c.args.types.now c.args.terms.now =
     omega (arith, leb-true (file_bytes (length c.args.types.now) (length c.args.terms.now)) 16384 fit) in
     let count_few : length (file_of c.args.types.now c.args.terms.now) ≤ 4096 =
     omega (arith, file_length c.args.types.now c.args.terms.now, few) in
     let front : take c.fill-count.result c.fill-count.new.all ≡ (file_of c.args.types.now c.args.terms.now) =
-    wrote_front _ c.fill-count.new.all (file_of c.args.types.now c.args.terms.now) c.fill-count.result c.fill-count.ensures (omega (arith, count_few, length-replicate {A = ℕ} 4096 0)) in
-    let judged_file : accepting (judging (take c.fill-count.result c.fill-count.new.all) (length c.args.types.now)) ≡ accepting (judging (file_of c.args.types.now c.args.terms.now) (length c.args.types.now)) =
+    wrote_front _ c.fill-count.new.all (file_of c.args.types.now c.args.terms.now) c.fill-count.result c.fill-count.ensures
+    (omega (arith, count_few, length-replicate {A = ℕ} 4096 0)) in
+    let judged_file : accepting (judging (take c.fill-count.result c.fill-count.new.all) (length c.args.types.now)) ≡ accepting
+    (judging (file_of c.args.types.now c.args.terms.now) (length c.args.types.now)) =
     ap (λ (l : List ℕ). accepting (judging l (length c.args.types.now))) front in
     let out = c.args.out.now in
     let told = ap checked (sym c.in-Accepted.is) ∙ c.judge.ensures ∙ judged_file in

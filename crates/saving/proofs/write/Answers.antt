@@ -1,5 +1,4 @@
 -- `saving::write` meets its contract: 13, or the file with zeros after it. Assumes nothing.
-use borrow.Author.Rules.{rules}
 use native.Mathlib.Omega.{arith}
 use Rattle.saving.proofs.Saving.{answered_as, too_short, file_written}
 use lib.ListN.{length}
