@@ -13,7 +13,6 @@ use Rattle.calculus.specs.Words.{words, size}
 use Rattle.calculus.specs.Reduction.{Outcome, value, raised, next, stuck, step}
 use Rattle.calculus.specs.Classes.{Class, other, word_class, next_class}
 use Rattle.calculus.specs.Run as spec
-use Rattle.calculus.specs.Kinds.{term}
 use Rattle.reducer.specs.declared.steps.Change.{Change}
 use Rattle.reducer.specs.declared.steps.Move.{Move}
 use Rattle.reducer.specs.declared.steps.Move.TheVariants as m

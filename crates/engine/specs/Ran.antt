@@ -1,5 +1,5 @@
 -- A run in two buffers: what the loop leaves.
-use Rattle.std.specs.Prelude.{ℕ, ◌≤◌, Bool, not, List, [], ◌≡◌, length, take}
+use Rattle.std.specs.Prelude.{ℕ, ◌≤◌, Bool, not, List, [], ◌≡◌, take}
 use Rattle.calculus.specs.Trees.{Ty, ml, Term}
 use Rattle.calculus.specs.Words.{words}
 use Rattle.calculus.specs.Limits.{InRange}
