@@ -13,12 +13,11 @@ use Rattle.calculus.specs.Words.{put_ty, words, words_ty, size}
 use Rattle.calculus.specs.Verdicts.{Verdict, refused, passed, and_then}
 use Rattle.calculus.specs.Inference.{same_type}
 use Rattle.calculus.specs.Run.{End, valued, uncounted, Result, run, capacity}
-use Rattle.calculus.specs.File.{words_of, Recipe, check, run_in, padded, first_after, second_after}
+use Rattle.calculus.specs.File.{words_of, check, run_in, padded, first_after, second_after}
 use Rattle.calculus.proofs.Checks.{passes_in_order}
 use Rattle.calculus.proofs.Inference.{same_iff}
 use Rattle.calculus.proofs.Comparison.{equal_by_words}
 use Rattle.calculus.proofs.Verdicts.{not_both, unless_iff, passed_injective}
-use Rattle.calculus.specs.Kinds.{term}
 use Rattle.calculus.proofs.Padding.{padded_take}
 use Rattle.checker.proofs.Admitting.{Admits}
 use Rattle.nodes.specs.declared.refusals.Refusal.{Refusal}
