@@ -31,7 +31,7 @@ use Rattle.pricing.proofs.Billing.{billed_by}
 use Rattle.pricing.proofs.Laws.{own_run, billed_items}
 use Rattle.card.proofs.Laws.{carding_is}
 use Rattle.card.specs.Carding.{Card, card_of, card_at, laid_in}
-use Rattle.card.specs.Answered.{spoken, answering, bill_of, text_of, card_lent, CardReturned, card_returned, Answered, carded, Carding}
+use Rattle.card.specs.Answered.{spoken, answering, bill_of, text_of, card_lent, CardReturned, card_returned, Answered, Carding}
 use Rattle.card.specs.Parts.{card_by, Laid, fits, short, AtEnd, Ends}
 use Rattle.card.specs.declared.Outcome.{Outcome}
 use Rattle.card.specs.declared.Outcome.TheVariants.{Refused, Ended}

@@ -1,21 +1,19 @@
 -- The laws of the card. Assumes nothing.
 use Prim.Native.Nat.{ℕ, zero, suc, ◌≤◌, ◌<◌}
-use mathlib.Core.Bool.{Bool, true, false}
 use mathlib.Core.List.{List, [], ◌∷◌}
 use mathlib.Core.Path.{◌≡◌, refl, sym, ap, ◌∙◌, subst}
 use native.Mathlib.Decide.{dec_le}
 use native.Mathlib.Omega.{arith}
 use lib.Dec.{leb}
 use lib.ListN.{length, get_or}
-use borrow.Author.Tests.{le-leb, lt-leb, leb-true, leb-false}
+use borrow.Author.Tests.{le-leb, lt-leb, leb-true}
 use Rattle.calculus.specs.Words.{words}
-use Rattle.calculus.specs.Limits.{InRange, InRangeTy}
+use Rattle.calculus.specs.Limits.{InRange}
 use Rattle.calculus.specs.Verdicts.{Verdict, refused, passed, and_then}
 use Rattle.calculus.specs.Run.{End, valued, spent, error, full, Final, capacity}
 use Rattle.calculus.proofs.Verdicts.{not_both, passed_injective, refused_injective, unless_iff}
 use Rattle.ends.specs.Results.{number_of_end}
 use Rattle.charges.specs.Prices.{Prices}
-use Rattle.charges.specs.Laws.{Within}
 use Rattle.charges.proofs.Laws.{widths}
 use Rattle.pricing.specs.Items.{list_of, items_in}
 use Rattle.pricing.specs.Laws.{ValueOf}

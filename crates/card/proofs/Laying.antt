@@ -10,16 +10,14 @@ use Rattle.calculus.proofs.Padding.{padded_take, padded_length}
 use Rattle.engine.specs.Buffered.{Settled}
 use Rattle.ends.specs.Results.{end_number}
 use Rattle.ends.specs.declared.End.{End}
-use Rattle.ends.specs.declared.End.TheVariants.{Value}
 use Rattle.ends.specs.declared.Report.{Report}
 use Rattle.charges.specs.declared.Charges.{Charges}
 use Rattle.pricing.specs.Items.{list_of}
 use Rattle.pricing.specs.Answered.{no_charges}
 use Rattle.pricing.specs.Parts.{Reads}
 use Rattle.pricing.specs.declared.items.Items.{Items}
-use Rattle.layout.specs.Layout as layout
 use Rattle.card.specs.Answered.{answering}
-use Rattle.card.specs.Parts.{ListLeft, card_by, Without, Laid, fits, short, AtValue, AtEnd, Ends}
+use Rattle.card.specs.Parts.{ListLeft, card_by, fits, short, AtValue, Ends}
 use Rattle.card.specs.declared.Outcome.TheVariants.{Refused, Ended}
 use Rattle.card.specs.declared.Uncarded.TheVariants.{Short}
 use Rattle.card.specs.declared.Carded.{Carded}
