@@ -35,8 +35,7 @@ fn told(run: RecipeRun, charges: Charges, bytes: u32) -> RecipeCard
 }
 
 // The card of a can, for every table, every file, every limit and all three buffers.
-#[unsafe(no_mangle)]
-pub extern "C" fn recipe_card(
+pub fn recipe_card(
     prices: &[[u32; 3]; 9],
     file: &[u8],
     limit: u32,

@@ -1,4 +1,4 @@
-// The functions that a C program calls; include/recipe.h declares them.
+// What a C program gets. crates/exports_c hands these functions on to C, and include/recipe.h declares them.
 
 #![tactic(auto)]
 
@@ -27,8 +27,7 @@ fn packed(r: Refusal) -> u64
 }
 
 // The check of a file, for every file: 0 where it is accepted, else the refusal.
-#[unsafe(no_mangle)]
-pub extern "C" fn recipe_check(file: &[u8]) -> u64
+pub fn recipe_check(file: &[u8]) -> u64
     ensures { result ≡ check_number (accepting (check file.now)) }
 {
     match checker::check(file) {

@@ -36,8 +36,7 @@ pub fn packed(run: RecipeRun, charges: Charges) -> RecipePriced
 }
 
 // The price of a can, for every table, every file, every limit and every pair of buffers.
-#[unsafe(no_mangle)]
-pub extern "C" fn recipe_price(
+pub fn recipe_price(
     prices: &[[u32; 3]; 9],
     file: &[u8],
     limit: u32,

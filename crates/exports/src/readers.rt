@@ -6,16 +6,14 @@ ghost use Rattle.calculus.specs.Reading.{node_at};
 use nodes::walks::{node, node_walked};
 
 // How many words the whole node at a place has, for all words and every place; 0 where none starts there.
-#[unsafe(no_mangle)]
-pub extern "C" fn recipe_node(words: &[u32], at: usize) -> usize
+pub fn recipe_node(words: &[u32], at: usize) -> usize
     ensures { result ≡ length (node_at words.now at) }
 {
     node(words, at).len()
 }
 
 // The same without the short way. For the benchmark; include/recipe.h does not declare it.
-#[unsafe(no_mangle)]
-pub extern "C" fn recipe_node_walked(words: &[u32], at: usize) -> usize
+pub fn recipe_node_walked(words: &[u32], at: usize) -> usize
     ensures { result ≡ length (node_at words.now at) }
 {
     node_walked(words, at).len()

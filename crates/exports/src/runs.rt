@@ -78,13 +78,7 @@ pub fn ended(x: Report) -> RecipeRun
 }
 
 // A run of a file, for every file, every limit and every pair of buffers.
-#[unsafe(no_mangle)]
-pub extern "C" fn recipe_run(
-    file: &[u8],
-    limit: u32,
-    first: &mut [u32],
-    second: &mut [u32],
-) -> RecipeRun
+pub fn recipe_run(file: &[u8], limit: u32, first: &mut [u32], second: &mut [u32]) -> RecipeRun
     ensures answer { result ≡ numbers_of (lent file.now limit first.old second.old) }
     ensures first { first.new ≡ first_of (lent file.now limit first.old second.old) }
     ensures second { second.new ≡ second_of (lent file.now limit first.old second.old) }

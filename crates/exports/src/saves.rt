@@ -40,8 +40,7 @@ fn written(n: usize) -> RecipeSaved
 }
 
 // A save of the words of a declared type and of a term, for all words and every buffer.
-#[unsafe(no_mangle)]
-pub extern "C" fn recipe_save(types: &[u32], terms: &[u32], out: &mut [u8]) -> RecipeSaved
+pub fn recipe_save(types: &[u32], terms: &[u32], out: &mut [u8]) -> RecipeSaved
     ensures answer { result ≡ saved_numbers_of types.now terms.now (length out.old) }
     ensures out { out.new ≡ saved_bytes_of types.now terms.now (length out.old) }
 {

@@ -77,7 +77,7 @@ stack        the deepest runs in 64, 1,024, 4,096 and 16,384 words, priced with 
 Status 0: no difference; 1: a difference, shrunk and shown; 2: not understood, or built without the engine.
 ";
 
-/// The listing program as `rt check listing` builds it.
+/// The listing program, as `./listing` builds it at its first call, and the gate.
 const LISTING: &str = concat!(env!("CARGO_MANIFEST_DIR"), "/../../target/bin/listing");
 
 fn main() -> ExitCode {
@@ -173,7 +173,7 @@ fn list(args: Args) -> Result<(), Fault> {
     let (plan, all_reached) = plan(args, 3_000)?;
     let program = Path::new(LISTING);
     if !program.exists() {
-        return Err(Fault::Usage("target/bin/listing is not built; rt check listing builds it".into()));
+        return Err(Fault::Usage("target/bin/listing is not built; ./listing FILE builds it".into()));
     }
     let counts = on_large_stack(|| compare_list(program, plan)).map_err(difference)?;
     say(format!("{} files, no difference", counts.files));
