@@ -1,7 +1,6 @@
 -- The numbers of a card fit 32 bits, as those of its pricing do. Assumes nothing.
 use Prim.Native.Nat.{ℕ, ◌≤◌}
 use mathlib.Core.Bool.{Bool, true, false}
-use mathlib.Core.List.{List}
 use mathlib.Core.Path.{◌≡◌, refl, sym, ap, ◌∙◌, subst}
 use native.Mathlib.Omega.{arith}
 use lib.Dec.{leb}
@@ -21,7 +20,7 @@ use Rattle.card.proofs.Laws.{carding_is, billed_card, at_most}
 use Rattle.card.proofs.Answering.{ended_by}
 use Rattle.exports.specs.declared.runs.RecipeRun.{RecipeRun}
 use Rattle.exports.specs.declared.cards.RecipeCard.{RecipeCard}
-use Rattle.exports.specs.Numbers.{ended_numbers, run_numbers, packed_numbers, carried_numbers, card_numbers, card_numbers_of}
+use Rattle.exports.specs.Numbers.{ended_numbers, run_numbers, carried_numbers, card_numbers_of}
 use Rattle.exports.proofs.Billing.{price_within, lines_within, bill_words}
 
 laid_within : (room : ℕ) (v : Verdict Bill) → PlaceWithin 4096 v → PlaceWithin 4096 (bill_of (and_then v (laid_in room)))
