@@ -1,17 +1,14 @@
 -- What `card` promises meets demands 1 and 2, and demand 3's growth of two cards. Assumes nothing.
-use Prim.Native.Nat.{ℕ, ◌+◌, ◌≤◌, ◌<◌}
+use Prim.Native.Nat.{ℕ, ◌≤◌}
 use mathlib.Core.List.{List, []}
 use mathlib.Core.Logic.{◌⊎◌, inl, inr}
 use mathlib.Core.Path.{◌≡◌, refl, sym, ap, ◌∙◌, subst}
 use native.Mathlib.Omega.{arith}
 use lib.ListN.{length, take}
-use Rattle.calculus.specs.Trees.{N, list, ml, Term}
-use Rattle.calculus.specs.Words.{words, size}
+use Rattle.calculus.specs.Trees.{N, list}
 use Rattle.calculus.specs.Verdicts.{Verdict, refused, passed, and_then}
 use Rattle.calculus.specs.Run as spec
-use Rattle.calculus.specs.Endings.{Ending}
 use Rattle.calculus.specs.File.{padded, first_after}
-use Rattle.calculus.specs.Accepted.{Accepted}
 use Rattle.calculus.proofs.Bounds.{operate_bounded}
 use Rattle.calculus.proofs.Endings.{ending}
 use Rattle.calculus.proofs.Padding.{padded_none, padded_take}
@@ -22,7 +19,6 @@ use Rattle.engine.specs.Lent.{room}
 use Rattle.charges.specs.Prices.{Prices}
 use Rattle.charges.specs.Laws.{Within}
 use Rattle.charges.specs.declared.Charges.{Charges}
-use Rattle.pricing.specs.Items.{list_of}
 use Rattle.pricing.specs.Pricing.{Bill, pricing}
 use Rattle.pricing.specs.Laws as costs
 use Rattle.pricing.specs.Laws.{ValueOf, run_of}
@@ -39,7 +35,7 @@ use Rattle.layout.specs.Laws.{Fits, ByColumns}
 use Rattle.layout.proofs.Laws.{laws}
 use Rattle.card.specs.Carding.{Card, carding}
 use Rattle.card.specs.Laws.{card_bytes, Lays, no_card, card_of_lem, refused_14}
-use Rattle.card.specs.Refusals.{number_of, refusal}
+use Rattle.card.specs.Refusals.{number_of}
 use Rattle.card.specs.Answered.{spoken, bill_of, text_of, CardLent, CardReturned, carded, Carding}
 use Rattle.card.specs.declared.Uncarded.{Uncarded}
 use Rattle.card.specs.declared.Uncarded.TheVariants.{Price, Short}
@@ -47,7 +43,6 @@ use Rattle.card.specs.declared.Outcome as card
 use Rattle.card.specs.declared.Outcome.TheVariants.{Refused, Ended}
 use Rattle.card.proofs.Answering.{tells, refused_by_lem, ended_by}
 use Rattle.card.proofs.Laws.{exactly, billed_card, card_grows}
-use Rattle.demands_of_cans.specs.Priced.{PricedOnce}
 use Rattle.demands_of_cans.specs.Carded as demanded
 use Rattle.demands_of_cans.specs.Carded.{outcome, Finishes, as_card, priced_part, TooShort, Written, CardedOnce, SameCard, CardedTwice}
 use Rattle.demands.proofs.Running as running
