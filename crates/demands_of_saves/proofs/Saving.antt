@@ -7,7 +7,6 @@ use native.Mathlib.Omega.{arith}
 use lib.ListN.{length, take, drop}
 use Rattle.calculus.specs.Trees.{Ty}
 use Rattle.calculus.specs.Words.{words_ty}
-use Rattle.calculus.specs.Kinds.{type}
 use Rattle.calculus.specs.Verdicts.{Verdict, refused, passed, and_then}
 use Rattle.calculus.specs.Run as spec
 use Rattle.calculus.specs.Counting.{later}
