@@ -46,6 +46,8 @@ returns c =
     let e = c.lead-d.ensures in
     let f = c.copy.ensures in record {
       wrote = then a (then b.wrote (then d (then e.wrote f)));
-      bound =
-          (omega (arith, a.place, b.bound, d.place, e.bound, f.place), omega (arith, l, m, a.place, b.bound, d.place, e.bound, f.place, c.requires.0));
+      bound = (
+        omega (arith, a.place, b.bound, d.place, e.bound, f.place),
+        omega (arith, l, m, a.place, b.bound, d.place, e.bound, f.place, c.requires.0),
+      );
     }
