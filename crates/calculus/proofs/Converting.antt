@@ -11,7 +11,7 @@ use Rattle.calculus.specs.Rules.{tl_cons, tl_nil, tl_no_list, null_nil, null_con
 use Rattle.calculus.specs.Rules.{null?_nil, null?_other, num?_number, num?_other, ms_number, ms_no_number, ms_nil, ms_cons, ms_no_list}
 use Rattle.calculus.specs.Rules.{ms_lambda, ms_no_lambda, sm_number, sm_lump, sm_nil, sm_cons, sm_lambda, Around, hole, in_unary, in_first}
 use Rattle.calculus.specs.Rules.{in_second, in_test, in_ms, in_sm, around, ◌⟶◌, by_rule, Steps, stay, then}
-use Rattle.calculus.specs.Classes.{Class, call, conversion, other, node_class, step_class, indicator, among}
+use Rattle.calculus.specs.Classes.{call, conversion, other, node_class, step_class, among}
 use Rattle.calculus.specs.Counting.{counts}
 use Rattle.calculus.specs.Conversions.{all_conversions}
 use Rattle.calculus.proofs.Counting.{same_counts}

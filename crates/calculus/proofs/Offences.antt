@@ -1,24 +1,23 @@
 -- Refusals 3 to 5 are given where words and trees offend, and nowhere else. Assumes nothing.
-use Prim.Native.Nat.{ℕ, zero, suc, ◌+◌, ◌-◌, ◌/◌, ◌%◌, ◌≤◌, ◌<◌}
+use Prim.Native.Nat.{ℕ, zero, suc, ◌+◌, ◌-◌, ◌/◌, ◌≤◌, ◌<◌}
 use mathlib.Core.Bool.{Bool, true, false, cond, true≢false}
-use mathlib.Core.List.{List, [], ◌∷◌, ◌++◌, append-nil, append_assoc}
+use mathlib.Core.List.{List, [], ◌∷◌, ◌++◌, append-nil}
 use mathlib.Core.Logic.{◌↔◌, ◌⊎◌, inl, inr}
 use mathlib.Core.Option.{Option, none, some}
 use mathlib.Core.Path.{◌≡◌, refl, sym, ap, ◌∙◌, subst}
 use lib.Dec.{eqb, leb}
 use lib.ListN.{length, get_or, take, drop, take-append-drop, length-drop, length-append}
 use lib.Seq.{drop-cons, length-take-le}
-use borrow.Author.Tests.{eqb-true, eqb-false, eq-eqb, ne_eqb, leb-true, leb-false}
+use borrow.Author.Tests.{eq-eqb, ne_eqb, leb-true, leb-false}
 use native.Mathlib.Omega.{arith}
-use Rattle.calculus.specs.Trees.{Ty, N, ml, Lang, Term, num}
-use Rattle.calculus.specs.Words.{word, put_ty, put, size}
-use Rattle.calculus.specs.Limits.{InRangeTy, InRange, nesting_ty, nesting}
+use Rattle.calculus.specs.Trees.{ml}
+use Rattle.calculus.specs.Words.{put_ty, put, size}
+use Rattle.calculus.specs.Limits.{nesting_ty, nesting}
 use Rattle.calculus.specs.Kinds.{Sort, type, term, Tree, Trees, put_tree, put_trees, Row, row_for, size_tree}
-use Rattle.calculus.specs.Verdicts.{Verdict, refused, passed, unless}
+use Rattle.calculus.specs.Verdicts.{Verdict, refused, passed}
 use Rattle.calculus.specs.Reading.{Act, opens, refuses, later, acted, walk, levels, levelled, nested_due, none_left, in_order, front, back}
-use Rattle.calculus.specs.Nodes.{TreeInRange}
 use Rattle.calculus.specs.Scope.{Scoped, scope_due}
-use Rattle.calculus.specs.File.{words_of, is_size, is_header, type_count, type_words, term_words, Recipe, judged, check_words, check}
+use Rattle.calculus.specs.File.{Recipe, judged}
 use Rattle.calculus.specs.Offences.{Spells, Nested, Begins, Due, NotDue, TooDeep, In, in_type, in_term}
 use Rattle.calculus.specs.Offences.{InScope, Unbound, UnboundOf}
 use Rattle.calculus.specs.Accepted.{Spelt}
@@ -28,7 +27,7 @@ use Rattle.calculus.proofs.Sizes.{tree_length, tree_append, take_tree}
 use Rattle.calculus.proofs.Rows.{TreesInRange, nesting_tree, due_word, due_made}
 use Rattle.calculus.proofs.Reading.{one_tree}
 use Rattle.calculus.proofs.Nodes.{sorts}
-use Rattle.calculus.proofs.Nesting.{nested_by, TreesFor, put_for, Fit, Stands, word_stands, walk_stands, Ordered, ordered_passes, deeper_refused}
+use Rattle.calculus.proofs.Nesting.{nested_by, Stands, word_stands, walk_stands, Ordered, ordered_passes, deeper_refused}
 use Rattle.calculus.proofs.Nesting.{tree_taken, passes_ordered, word_rest}
 use Rattle.calculus.proofs.Scopes.{leaf, leaf_ranged, scoped_passes, ScopeRefused, scope_refused}
 use Rattle.calculus.proofs.Checks.{spelt_by, judged_typed, Answer, untyped, as_declared, mistyped, answer}

@@ -1,6 +1,6 @@
 -- Document 02, "Where the steps went": the class of a step, by the node that it reduces and not by what that becomes.
 use Rattle.std.specs.Prelude.{ℕ, ◌+◌, ◌%◌, cond, ◌||◌, eqb}
-use Rattle.calculus.specs.Trees.{Lang, ml, sc, Op1, HD, TL, FIX, NULL?, TEST, Op2, APP, ADD, SUB, CONS, Term, var, num, lam, op1, op2, if0, nil}
+use Rattle.calculus.specs.Trees.{Lang, Op1, HD, TL, FIX, NULL?, TEST, Op2, APP, ADD, SUB, CONS, Term, var, num, lam, op1, op2, if0, nil}
 use Rattle.calculus.specs.Trees.{wrong, ms, sm}
 use Rattle.calculus.specs.Reduction.{Turn, done, at, turn}
 use Rattle.calculus.specs.Rules.{◌⟶◌, by_rule, Steps, stay, then}

@@ -1,11 +1,9 @@
 -- `writing::clear` meets its contract: the words from n up to i are zero. Assumes nothing.
-use Prim.Native.Nat.{◌+◌, ◌-◌, ◌≤◌}
+use Prim.Native.Nat.{◌-◌}
 use mathlib.Core.Path.{◌≡◌, refl}
 use native.Mathlib.Omega.{arith}
-use lib.ListN.{length, length-set}
-use lib.Seq.{sets}
-use borrow.Author.Rules.{rules}
-use Rattle.writing.proofs.Clearing.{zeros, cleared_more, cleared_all}
+use lib.ListN.{length-set}
+use Rattle.writing.proofs.Clearing.{cleared_more, cleared_all}
 use Rattle.writing.proofs.clear.Goals as goal
 
 pub loop-i-init : goal.loop-i-init

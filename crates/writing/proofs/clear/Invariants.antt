@@ -1,11 +1,9 @@
 -- `writing::clear` meets its contract: the words from n up to i are zero. Assumes nothing.
 use Prim.Native.Nat.{◌+◌, ◌-◌, ◌≤◌}
-use mathlib.Core.Path.{◌≡◌, refl}
-use native.Mathlib.Omega.{arith}
-use lib.ListN.{length, length-set}
+use mathlib.Core.Path.{◌≡◌}
+use lib.ListN.{length}
 use lib.Seq.{sets}
-use borrow.Author.Rules.{rules}
-use Rattle.writing.proofs.Clearing.{zeros, cleared_more, cleared_all}
+use Rattle.writing.proofs.Clearing.{zeros}
 use Rattle.writing.proofs.clear.Given as goal
 
 abbrev pub invariant-loop-i : goal.invariant-loop-i

@@ -1,10 +1,9 @@
 -- `writing::copy` meets its contract: before each turn the first i words are stored. Assumes nothing.
-use borrow.Author.Rules.{rules}
 use mathlib.Core.Path.{◌≡◌, refl, ap, ◌∙◌}
-use Prim.Native.Nat.{◌≤◌, ◌-◌, min}
+use Prim.Native.Nat.{◌-◌, min}
 use native.Mathlib.Omega.{arith}
 use lib.ListN.{length, take}
-use lib.Seq.{sets, length-sets}
+use lib.Seq.{length-sets}
 use Rattle.writing.proofs.Stores.{sets_snoc, sets_cut}
 use Rattle.writing.proofs.copy.Goals as goal
 

@@ -1,11 +1,8 @@
 -- `writing::copy` meets its contract: before each turn the first i words are stored. Assumes nothing.
-use borrow.Author.Rules.{rules}
-use mathlib.Core.Path.{◌≡◌, refl, ap, ◌∙◌}
+use mathlib.Core.Path.{◌≡◌}
 use Prim.Native.Nat.{◌≤◌, ◌-◌, min}
-use native.Mathlib.Omega.{arith}
 use lib.ListN.{length, take}
-use lib.Seq.{sets, length-sets}
-use Rattle.writing.proofs.Stores.{sets_snoc, sets_cut}
+use lib.Seq.{sets}
 use Rattle.writing.proofs.copy.Given as goal
 
 abbrev pub invariant-loop-i : goal.invariant-loop-i

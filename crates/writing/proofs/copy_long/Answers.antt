@@ -1,7 +1,6 @@
 -- `writing::copy_long` meets its contract: one part of the words after the other. Assumes nothing.
-use borrow.Author.Rules.{rules}
-use mathlib.Core.Path.{◌≡◌, sym}
-use lib.ListN.{length, take, take-append-drop}
+use mathlib.Core.Path.{sym}
+use lib.ListN.{take-append-drop}
 use lib.Seq.{length-take-le}
 use borrow.Author.Rules.{part_to_end}
 use native.Mathlib.Omega.{arith}

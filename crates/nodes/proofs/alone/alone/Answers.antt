@@ -3,7 +3,6 @@ use mathlib.Core.Path.{ap, ◌∙◌}
 use lib.Dec.{eqb}
 use lib.ListN.{length}
 use native.Mathlib.Omega.{arith}
-use borrow.Author.Rules.{rules}
 use Rattle.calculus.proofs.Nodes.{alone_at}
 use Rattle.nodes.proofs.Readers.{past_end}
 use Rattle.nodes.proofs.alone.alone.Goals as goal

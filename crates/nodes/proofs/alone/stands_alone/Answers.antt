@@ -1,8 +1,6 @@
 -- `nodes::alone::stands_alone` meets its contract. Assumes nothing.
 use Prim.Native.Nat.{ℕ, ◌/◌}
-use mathlib.Core.Path.{◌≡◌, sym, ap, ◌∙◌}
-use borrow.Author.Rules.{rules}
-use Rattle.calculus.specs.Nodes.{alone}
+use mathlib.Core.Path.{sym, ap, ◌∙◌}
 use Rattle.nodes.proofs.Lone.{in_range, alone_range, below, not_below}
 use Rattle.nodes.proofs.alone.stands_alone.Goals as goal
 

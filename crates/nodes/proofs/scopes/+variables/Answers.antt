@@ -1,6 +1,6 @@
 -- `nodes::scopes::variables` meets its contract: each way out is one law of Scoping, and the lambdas around a word are kept by its parts. The
 -- measure is the number of words left. Assumes nothing.
-use Rattle.std.proofs.Common.{◌%◌, ◌-◌, length, get_or, sym, ◌∙◌, arith}
+use Rattle.std.proofs.Common.{◌%◌, ◌-◌, get_or, sym, ◌∙◌, arith}
 use native.Mathlib.Nat.{pos_of_ne-zero}
 use Rattle.nodes.specs.Languages.{lambdas_in}
 use Rattle.nodes.proofs.Dues.{parts_digits, other_digits}

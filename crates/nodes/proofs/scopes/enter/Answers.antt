@@ -1,5 +1,4 @@
 -- `nodes::scopes::enter` meets its contract. Assumes nothing.
-use borrow.Author.Rules.{rules}
 use Rattle.nodes.proofs.Lambdas.{no_lambda, ml_lambda, scheme_lambda}
 use Rattle.nodes.proofs.scopes.enter.Goals as goal
 

@@ -1,5 +1,4 @@
 -- `nodes::scopes::is_free` meets its contract. Assumes nothing.
-use borrow.Author.Rules.{rules}
 use Rattle.nodes.proofs.Lambdas.{no_variable, too_far, ml_variable, scheme_variable_lem}
 use Rattle.nodes.proofs.scopes.is_free.Goals as goal
 

@@ -1,7 +1,6 @@
 -- `nodes::scopes::scoped` meets its contract. Assumes nothing.
 use mathlib.Core.Path.{refl}
 use native.Mathlib.Omega.{arith}
-use borrow.Author.Rules.{rules}
 use Rattle.nodes.specs.Table.{row_of, kinds}
 use Rattle.nodes.specs.Walks.{sorts_of}
 use Rattle.nodes.proofs.Dues.{one_digit}

@@ -5,7 +5,7 @@ use native.Mathlib.Nat.{pos_of_ne-zero, add-sub_cancel_left}
 use Rattle.calculus.specs.Reading.{later, levelled, nested_due}
 use Rattle.calculus.specs.Reading as reading
 use Rattle.nodes.specs.declared.walks.Walked.TheVariants.{Took}
-use Rattle.nodes.specs.Walks.{walked, sorts_of}
+use Rattle.nodes.specs.Walks.{sorts_of}
 use Rattle.nodes.proofs.Dues.{parts_digits, other_digits}
 use Rattle.nodes.proofs.Ways.{part_length}
 use Rattle.nodes.proofs.Nested.{nothing_due, run_out, undue, too_deep, inner}

@@ -1,5 +1,4 @@
 -- `nodes::walks::in_order` meets its contract. Assumes nothing.
-use borrow.Author.Rules.{rules}
 use Rattle.nodes.proofs.Readers.{not_before, order_refused, order_took, order_more}
 use Rattle.nodes.proofs.walks.in_order.Goals as goal
 

@@ -1,6 +1,5 @@
 -- `nodes::walks::is_due` meets its contract. Assumes nothing.
 use Prim.Native.Nat.{◌/◌}
-use borrow.Author.Rules.{rules}
 use borrow.Author.Tests.{ne_eqb, eq-eqb, lt-leb, le-leb}
 use Rattle.nodes.proofs.walks.is_due.Goals as goal
 

@@ -1,11 +1,6 @@
 -- `nodes::walks::node`, the reader of nodes, meets its contract, for every slice and every place. Assumes nothing.
-use Prim.Native.Nat.{◌<◌}
-use mathlib.Core.Bool.{true}
-use mathlib.Core.Path.{◌≡◌, sym, ◌∙◌}
-use lib.ListN.{length}
+use mathlib.Core.Path.{sym, ◌∙◌}
 use native.Mathlib.Omega.{arith}
-use borrow.Author.Rules.{rules}
-use Rattle.calculus.specs.Nodes.{is_one_word}
 use Rattle.nodes.proofs.Readers.{inside, one_part}
 use Rattle.nodes.proofs.walks.node.Goals as goal
 

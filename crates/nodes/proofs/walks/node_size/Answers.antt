@@ -1,10 +1,9 @@
 -- `nodes::walks::node_size` meets its contract: with as many levels as words no level is missed. Assumes nothing.
 use Prim.Native.Nat.{◌%◌, ◌<◌}
-use mathlib.Core.Path.{◌≡◌, refl, sym, ap, ◌∙◌}
+use mathlib.Core.Path.{refl, sym, ap, ◌∙◌}
 use lib.ListN.{get_or}
 use native.Mathlib.Omega.{arith}
-use borrow.Author.Rules.{rules}
-use Rattle.calculus.specs.Reading.{taken, node_size}
+use Rattle.calculus.specs.Reading.{taken}
 use Rattle.nodes.specs.Table.{row_of, kinds}
 use Rattle.nodes.specs.Walks.{walked}
 use Rattle.nodes.proofs.Dues.{one_digit}

@@ -1,8 +1,5 @@
 -- `nodes::walks::node_walked` meets its contract, for every slice and every place. Assumes nothing.
-use Prim.Native.Nat.{◌-◌, ◌≤◌}
-use lib.ListN.{length}
 use native.Mathlib.Omega.{arith}
-use borrow.Author.Rules.{rules}
 use Rattle.nodes.proofs.Readers.{node_fits, past_end, node_part}
 use Rattle.nodes.proofs.walks.node_walked.Goals as goal
 

@@ -1,7 +1,6 @@
 -- `nodes::walks::ordered` meets its contract: the type's words, and the term's behind them. Assumes nothing.
 use mathlib.Core.Path.{refl}
 use native.Mathlib.Omega.{arith}
-use borrow.Author.Rules.{rules}
 use Rattle.nodes.specs.Table.{row_of, kinds}
 use Rattle.nodes.proofs.Dues.{one_digit}
 use Rattle.nodes.proofs.Readers.{types_refused, types_end, terms_follow}

@@ -1,11 +1,8 @@
 -- `writing::spans::skip` meets its contract: before each turn i words are gone by and `left` nodes are due. Assumes nothing.
-use borrow.Author.Rules.{rules}
 use mathlib.Core.Path.{◌≡◌}
 use Prim.Native.Nat.{◌+◌, ◌*◌, ◌≤◌, ◌-◌}
-use native.Mathlib.Omega.{arith}
 use lib.ListN.{length, drop}
 use Rattle.writing.specs.Spans.{span}
-use Rattle.writing.proofs.Measures.{span_turn, span_end, span_over}
 use Rattle.writing.proofs.spans.skip.Given as goal
 
 abbrev pub invariant-loop-i : goal.invariant-loop-i

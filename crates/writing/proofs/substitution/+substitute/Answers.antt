@@ -1,15 +1,13 @@
 -- `writing::substitution::substitute` meets its contract: each turn of the loop, and each way out, is one law of Rounds. The measure is the number of
 -- words left. Assumes nothing.
 use borrow.Author.Rules.{rules}
-use lib.ListN.{length, get_or}
-use mathlib.Core.Path.{◌≡◌, refl, ap, ◌∙◌}
-use Prim.Native.Nat.{ℕ, ◌+◌, ◌-◌, ◌*◌, ◌%◌, ◌≤◌, ◌<◌}
+use lib.ListN.{length}
+use mathlib.Core.Path.{refl, ap, ◌∙◌}
+use Prim.Native.Nat.{ℕ, ◌+◌, ◌-◌, ◌≤◌, ◌<◌}
 use native.Mathlib.Omega.{arith}
-use Rattle.calculus.specs.Scope.{part_count}
-use Rattle.nodes.specs.Table.{row_of}
 use Rattle.nodes.proofs.Ways.{part_length}
 use Rattle.writing.proofs.Stores.{wrote_length}
-use Rattle.writing.proofs.Rounds.{Begun, begins, ends, breaks, replaces, passes, enters, descends}
+use Rattle.writing.proofs.Rounds.{begins, ends, breaks, replaces, passes, enters, descends}
 use Rattle.writing.proofs.substitution.+substitute.Goals as goal
 
 -- After the words that a call reads, fewer are left.
