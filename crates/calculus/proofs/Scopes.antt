@@ -19,7 +19,7 @@ use Rattle.calculus.proofs.Sizes.{tree_append, tree_length}
 use Rattle.calculus.proofs.Rows.{TreesInRange, law_at}
 use Rattle.calculus.proofs.Walks.{later_zero, later_later, later_passed}
 use Rattle.calculus.proofs.Views.{TreeScoped, TreesScoped, free_at, inside_at, View, view, kind_of, operand_of, sort_of_lem, sized, Holds, OfParts}
-use Rattle.calculus.proofs.Views.{induction}
+use Rattle.calculus.proofs.Views.{remade, induction}
 
 -- What the scope walk does at a tree's first word.
 module _ (s : Sort) (t : Tree s) (Γ : List Lang) where
@@ -253,7 +253,7 @@ node_decided s t hs h Γ k ds =
           record {
             trees = (r.make w.operand m.trees, tt);
             ranged = (made.ranged m.ranged, tt);
-            scoped = ((w.remade m.trees Γ).1 (e, m.scoped), tt);
+            scoped = ((remade s t m.trees Γ).1 (e, m.scoped), tt);
             more = m.more;
             spelt =
                 made.spelt [] ∙ ap (λ (l : List ℕ). word r.kind w.operand ∷ l) m.spelt

@@ -48,15 +48,12 @@ pub record View (s : Sort) (t : Tree s) : Type 0 where
   -- in scope exactly if the word has its lambda and the parts are in scope
   pub scope : (Γ : List Lang)
       → TreeScoped Γ s t ↔ ((free_at Γ row.kind operand ≡ false) × TreesScoped (inside_at Γ row.kind) row.parts parts)
-  -- and so with other parts
-  pub remade : (us : Trees row.parts) (Γ : List Lang)
-      → TreeScoped Γ s (row.make operand us) ↔ ((free_at Γ row.kind operand ≡ false) × TreesScoped (inside_at Γ row.kind) row.parts us)
 
 -- A tree by its kind: the operand, the parts.
 unfoldable pub seen : {s : Sort} (k : ℕ) {r : Row s} (o : ℕ) (ts : Trees r.parts) → row_in (table s) k ≡ some r → T (ltb k 256) → sort_of_kind k ≡ s
     → ((ks : List ℕ) → put_tree s (r.make o ts) ks ≡ word k o ∷ put_trees r.parts ts ks)
     → (TreeInRange s (r.make o ts) → (r.low ≤ o) × (o ≤ r.high) × TreesInRange r.parts ts)
-    → ((us : Trees r.parts) (Γ : List Lang) → TreeScoped Γ s (r.make o us) ↔ ((free_at Γ k o ≡ false) × TreesScoped (inside_at Γ k) r.parts us))
+    → ((Γ : List Lang) → TreeScoped Γ s (r.make o ts) ↔ ((free_at Γ k o ≡ false) × TreesScoped (inside_at Γ k) r.parts ts))
     → View s (r.make o ts)
 seen {s} k {r} o ts q h home spelt fits scope =
     let e : r.kind ≡ k = (law_at s k r q).1 in
@@ -71,8 +68,7 @@ seen {s} k {r} o ts q h home spelt fits scope =
       makes = refl;
       spelt = λ ks. spelt ks ∙ ap (λ (j : ℕ). word j o ∷ put_trees r.parts ts ks) (sym e);
       fits = fits;
-      scope = λ Γ. rw e (scope ts Γ);
-      remade = λ us Γ. rw e (scope us Γ);
+      scope = λ Γ. rw e (scope Γ);
     }
 
 -- What is told of a node is told of its parts: of none, of one, of one behind a type, of two, of three.
@@ -105,53 +101,109 @@ fixed a = (omega arith, omega arith, a)
 
 unfoldable pub view_type : (t : Ty) → View type t
 unfolding put_ty InRangeTy
-view_type N = seen 1 0 tt refl tt refl (λ ks. refl) (λ h. fixed tt) (λ us Γ. bound no_part)
-view_type (L o) = seen 2 o tt refl tt refl (λ ks. refl) (λ h. (omega arith, h, tt)) (λ us Γ. bound no_part)
-view_type (list t) = seen 3 0 (t, tt) refl tt refl (λ ks. refl) (λ h. fixed (h, tt)) (λ us Γ. bound one_part)
-view_type (t to u) = seen 4 0 (t, (u, tt)) refl tt refl (λ ks. refl) (λ h. fixed (two_parts.0 h)) (λ us Γ. bound typed_part)
+view_type N = seen 1 0 tt refl tt refl (λ ks. refl) (λ h. fixed tt) (λ Γ. bound no_part)
+view_type (L o) = seen 2 o tt refl tt refl (λ ks. refl) (λ h. (omega arith, h, tt)) (λ Γ. bound no_part)
+view_type (list t) = seen 3 0 (t, tt) refl tt refl (λ ks. refl) (λ h. fixed (h, tt)) (λ Γ. bound one_part)
+view_type (t to u) = seen 4 0 (t, (u, tt)) refl tt refl (λ ks. refl) (λ h. fixed (two_parts.0 h)) (λ Γ. bound typed_part)
 
 unfoldable pub view_ml : (e : Term ml) → View (term ml) e
 unfolding put InRange
-view_ml (var i) = seen 16 i tt refl tt refl (λ ks. refl) (λ h. (omega arith, h, tt)) (λ us Γ. free_iff (lambda_at Γ i ml))
-view_ml (num n) = seen 17 n tt refl tt refl (λ ks. refl) (λ h. (omega arith, h, tt)) (λ us Γ. bound no_part)
-view_ml (lam t b) = seen 18 0 (t, (b, tt)) refl tt refl (λ ks. refl) (λ h. fixed (two_parts.0 h)) (λ us Γ. bound typed_part)
-view_ml (op2 APP a b) = seen 19 0 (a, (b, tt)) refl tt refl (λ ks. refl) (λ h. fixed (two_parts.0 h)) (λ us Γ. bound two_parts)
-view_ml (op1 FIX a) = seen 20 0 (a, tt) refl tt refl (λ ks. refl) (λ h. fixed (h, tt)) (λ us Γ. bound one_part)
-view_ml (op2 ADD a b) = seen 21 0 (a, (b, tt)) refl tt refl (λ ks. refl) (λ h. fixed (two_parts.0 h)) (λ us Γ. bound two_parts)
-view_ml (op2 SUB a b) = seen 22 0 (a, (b, tt)) refl tt refl (λ ks. refl) (λ h. fixed (two_parts.0 h)) (λ us Γ. bound two_parts)
-view_ml (if0 a b c) = seen 23 0 (a, (b, (c, tt))) refl tt refl (λ ks. refl) (λ h. fixed (three_parts.0 h)) (λ us Γ. bound three_parts)
-view_ml (nil t) = seen 24 0 (t, tt) refl tt refl (λ ks. refl) (λ h. fixed (h, tt)) (λ us Γ. bound one_part)
-view_ml (op2 CONS a b) = seen 25 0 (a, (b, tt)) refl tt refl (λ ks. refl) (λ h. fixed (two_parts.0 h)) (λ us Γ. bound two_parts)
-view_ml (op1 HD a) = seen 26 0 (a, tt) refl tt refl (λ ks. refl) (λ h. fixed (h, tt)) (λ us Γ. bound one_part)
-view_ml (op1 TL a) = seen 27 0 (a, tt) refl tt refl (λ ks. refl) (λ h. fixed (h, tt)) (λ us Γ. bound one_part)
-view_ml (op1 NULL? a) = seen 28 0 (a, tt) refl tt refl (λ ks. refl) (λ h. fixed (h, tt)) (λ us Γ. bound one_part)
-view_ml (wrong c t) = seen 29 c (t, tt) refl tt refl (λ ks. refl) (λ h. (h.0, h.1, (h.2, tt))) (λ us Γ. bound one_part)
-view_ml (ms t a) = seen 30 0 (t, (a, tt)) refl tt refl (λ ks. refl) (λ h. fixed (two_parts.0 h)) (λ us Γ. bound typed_part)
+view_ml (var i) = seen 16 i tt refl tt refl (λ ks. refl) (λ h. (omega arith, h, tt)) (λ Γ. free_iff (lambda_at Γ i ml))
+view_ml (num n) = seen 17 n tt refl tt refl (λ ks. refl) (λ h. (omega arith, h, tt)) (λ Γ. bound no_part)
+view_ml (lam t b) = seen 18 0 (t, (b, tt)) refl tt refl (λ ks. refl) (λ h. fixed (two_parts.0 h)) (λ Γ. bound typed_part)
+view_ml (op2 APP a b) = seen 19 0 (a, (b, tt)) refl tt refl (λ ks. refl) (λ h. fixed (two_parts.0 h)) (λ Γ. bound two_parts)
+view_ml (op1 FIX a) = seen 20 0 (a, tt) refl tt refl (λ ks. refl) (λ h. fixed (h, tt)) (λ Γ. bound one_part)
+view_ml (op2 ADD a b) = seen 21 0 (a, (b, tt)) refl tt refl (λ ks. refl) (λ h. fixed (two_parts.0 h)) (λ Γ. bound two_parts)
+view_ml (op2 SUB a b) = seen 22 0 (a, (b, tt)) refl tt refl (λ ks. refl) (λ h. fixed (two_parts.0 h)) (λ Γ. bound two_parts)
+view_ml (if0 a b c) = seen 23 0 (a, (b, (c, tt))) refl tt refl (λ ks. refl) (λ h. fixed (three_parts.0 h)) (λ Γ. bound three_parts)
+view_ml (nil t) = seen 24 0 (t, tt) refl tt refl (λ ks. refl) (λ h. fixed (h, tt)) (λ Γ. bound one_part)
+view_ml (op2 CONS a b) = seen 25 0 (a, (b, tt)) refl tt refl (λ ks. refl) (λ h. fixed (two_parts.0 h)) (λ Γ. bound two_parts)
+view_ml (op1 HD a) = seen 26 0 (a, tt) refl tt refl (λ ks. refl) (λ h. fixed (h, tt)) (λ Γ. bound one_part)
+view_ml (op1 TL a) = seen 27 0 (a, tt) refl tt refl (λ ks. refl) (λ h. fixed (h, tt)) (λ Γ. bound one_part)
+view_ml (op1 NULL? a) = seen 28 0 (a, tt) refl tt refl (λ ks. refl) (λ h. fixed (h, tt)) (λ Γ. bound one_part)
+view_ml (wrong c t) = seen 29 c (t, tt) refl tt refl (λ ks. refl) (λ h. (h.0, h.1, (h.2, tt))) (λ Γ. bound one_part)
+view_ml (ms t a) = seen 30 0 (t, (a, tt)) refl tt refl (λ ks. refl) (λ h. fixed (two_parts.0 h)) (λ Γ. bound typed_part)
 
 unfoldable pub view_sc : (e : Term sc) → View (term sc) e
 unfolding put InRange
-view_sc (var i) = seen 32 i tt refl tt refl (λ ks. refl) (λ h. (omega arith, h, tt)) (λ us Γ. free_iff (lambda_at Γ i sc))
-view_sc (num n) = seen 33 n tt refl tt refl (λ ks. refl) (λ h. (omega arith, h, tt)) (λ us Γ. bound no_part)
-view_sc (lam t b) = seen 34 0 (b, tt) refl tt refl (λ ks. refl) (λ h. fixed (h.1, tt)) (λ us Γ. bound one_part)
-view_sc (op2 APP a b) = seen 35 0 (a, (b, tt)) refl tt refl (λ ks. refl) (λ h. fixed (two_parts.0 h)) (λ us Γ. bound two_parts)
-view_sc (op2 ADD a b) = seen 36 0 (a, (b, tt)) refl tt refl (λ ks. refl) (λ h. fixed (two_parts.0 h)) (λ us Γ. bound two_parts)
-view_sc (op2 SUB a b) = seen 37 0 (a, (b, tt)) refl tt refl (λ ks. refl) (λ h. fixed (two_parts.0 h)) (λ us Γ. bound two_parts)
-view_sc (if0 a b c) = seen 38 0 (a, (b, (c, tt))) refl tt refl (λ ks. refl) (λ h. fixed (three_parts.0 h)) (λ us Γ. bound three_parts)
-view_sc (nil t) = seen 39 0 tt refl tt refl (λ ks. refl) (λ h. fixed tt) (λ us Γ. bound no_part)
-view_sc (op2 CONS a b) = seen 40 0 (a, (b, tt)) refl tt refl (λ ks. refl) (λ h. fixed (two_parts.0 h)) (λ us Γ. bound two_parts)
-view_sc (op1 HD a) = seen 41 0 (a, tt) refl tt refl (λ ks. refl) (λ h. fixed (h, tt)) (λ us Γ. bound one_part)
-view_sc (op1 TL a) = seen 42 0 (a, tt) refl tt refl (λ ks. refl) (λ h. fixed (h, tt)) (λ us Γ. bound one_part)
-view_sc (op1 (TEST is_fun) a) = seen 43 0 (a, tt) refl tt refl (λ ks. refl) (λ h. (omega arith, omega arith, (h, tt))) (λ us Γ. bound one_part)
-view_sc (op1 (TEST is_list) a) = seen 43 1 (a, tt) refl tt refl (λ ks. refl) (λ h. (omega arith, omega arith, (h, tt))) (λ us Γ. bound one_part)
-view_sc (op1 (TEST is_null) a) = seen 43 2 (a, tt) refl tt refl (λ ks. refl) (λ h. (omega arith, omega arith, (h, tt))) (λ us Γ. bound one_part)
-view_sc (op1 (TEST is_num) a) = seen 43 3 (a, tt) refl tt refl (λ ks. refl) (λ h. (omega arith, omega arith, (h, tt))) (λ us Γ. bound one_part)
-view_sc (wrong c t) = seen 44 c tt refl tt refl (λ ks. refl) (λ h. (h.0, h.1, tt)) (λ us Γ. bound no_part)
-view_sc (sm t a) = seen 45 0 (t, (a, tt)) refl tt refl (λ ks. refl) (λ h. fixed (two_parts.0 h)) (λ us Γ. bound typed_part)
+view_sc (var i) = seen 32 i tt refl tt refl (λ ks. refl) (λ h. (omega arith, h, tt)) (λ Γ. free_iff (lambda_at Γ i sc))
+view_sc (num n) = seen 33 n tt refl tt refl (λ ks. refl) (λ h. (omega arith, h, tt)) (λ Γ. bound no_part)
+view_sc (lam t b) = seen 34 0 (b, tt) refl tt refl (λ ks. refl) (λ h. fixed (h.1, tt)) (λ Γ. bound one_part)
+view_sc (op2 APP a b) = seen 35 0 (a, (b, tt)) refl tt refl (λ ks. refl) (λ h. fixed (two_parts.0 h)) (λ Γ. bound two_parts)
+view_sc (op2 ADD a b) = seen 36 0 (a, (b, tt)) refl tt refl (λ ks. refl) (λ h. fixed (two_parts.0 h)) (λ Γ. bound two_parts)
+view_sc (op2 SUB a b) = seen 37 0 (a, (b, tt)) refl tt refl (λ ks. refl) (λ h. fixed (two_parts.0 h)) (λ Γ. bound two_parts)
+view_sc (if0 a b c) = seen 38 0 (a, (b, (c, tt))) refl tt refl (λ ks. refl) (λ h. fixed (three_parts.0 h)) (λ Γ. bound three_parts)
+view_sc (nil t) = seen 39 0 tt refl tt refl (λ ks. refl) (λ h. fixed tt) (λ Γ. bound no_part)
+view_sc (op2 CONS a b) = seen 40 0 (a, (b, tt)) refl tt refl (λ ks. refl) (λ h. fixed (two_parts.0 h)) (λ Γ. bound two_parts)
+view_sc (op1 HD a) = seen 41 0 (a, tt) refl tt refl (λ ks. refl) (λ h. fixed (h, tt)) (λ Γ. bound one_part)
+view_sc (op1 TL a) = seen 42 0 (a, tt) refl tt refl (λ ks. refl) (λ h. fixed (h, tt)) (λ Γ. bound one_part)
+view_sc (op1 (TEST is_fun) a) = seen 43 0 (a, tt) refl tt refl (λ ks. refl) (λ h. (omega arith, omega arith, (h, tt))) (λ Γ. bound one_part)
+view_sc (op1 (TEST is_list) a) = seen 43 1 (a, tt) refl tt refl (λ ks. refl) (λ h. (omega arith, omega arith, (h, tt))) (λ Γ. bound one_part)
+view_sc (op1 (TEST is_null) a) = seen 43 2 (a, tt) refl tt refl (λ ks. refl) (λ h. (omega arith, omega arith, (h, tt))) (λ Γ. bound one_part)
+view_sc (op1 (TEST is_num) a) = seen 43 3 (a, tt) refl tt refl (λ ks. refl) (λ h. (omega arith, omega arith, (h, tt))) (λ Γ. bound one_part)
+view_sc (wrong c t) = seen 44 c tt refl tt refl (λ ks. refl) (λ h. (h.0, h.1, tt)) (λ Γ. bound no_part)
+view_sc (sm t a) = seen 45 0 (t, (a, tt)) refl tt refl (λ ks. refl) (λ h. fixed (two_parts.0 h)) (λ Γ. bound typed_part)
 
 unfoldable pub view : (s : Sort) (t : Tree s) → View s t
 view type t = view_type t
 view (term ml) e = view_ml e
 view (term sc) e = view_sc e
+
+-- With other parts a tree's word makes a tree that is in scope exactly if the word has its lambda and these parts are in scope.
+abbrev pub Remakes : (s : Sort) (t : Tree s) → Type 0
+Remakes s t =
+    (us : Trees (view s t).row.parts) (Γ : List Lang) → TreeScoped Γ s ((view s t).row.make (view s t).operand us)
+    ↔ ((free_at Γ (view s t).row.kind (view s t).operand ≡ false) × TreesScoped (inside_at Γ (view s t).row.kind) (view s t).row.parts us)
+
+remade_type : (t : Ty) → Remakes type t
+unfolding view view_type seen
+remade_type N us Γ = bound no_part
+remade_type (L o) us Γ = bound no_part
+remade_type (list t) us Γ = bound one_part
+remade_type (t to u) us Γ = bound typed_part
+
+remade_ml : (e : Term ml) → Remakes (term ml) e
+unfolding view view_ml seen
+remade_ml (var i) us Γ = free_iff (lambda_at Γ i ml)
+remade_ml (num n) us Γ = bound no_part
+remade_ml (lam t b) us Γ = bound typed_part
+remade_ml (op2 APP a b) us Γ = bound two_parts
+remade_ml (op1 FIX a) us Γ = bound one_part
+remade_ml (op2 ADD a b) us Γ = bound two_parts
+remade_ml (op2 SUB a b) us Γ = bound two_parts
+remade_ml (if0 a b c) us Γ = bound three_parts
+remade_ml (nil t) us Γ = bound one_part
+remade_ml (op2 CONS a b) us Γ = bound two_parts
+remade_ml (op1 HD a) us Γ = bound one_part
+remade_ml (op1 TL a) us Γ = bound one_part
+remade_ml (op1 NULL? a) us Γ = bound one_part
+remade_ml (wrong c t) us Γ = bound one_part
+remade_ml (ms t a) us Γ = bound typed_part
+
+remade_sc : (e : Term sc) → Remakes (term sc) e
+unfolding view view_sc seen
+remade_sc (var i) us Γ = free_iff (lambda_at Γ i sc)
+remade_sc (num n) us Γ = bound no_part
+remade_sc (lam t b) us Γ = bound one_part
+remade_sc (op2 APP a b) us Γ = bound two_parts
+remade_sc (op2 ADD a b) us Γ = bound two_parts
+remade_sc (op2 SUB a b) us Γ = bound two_parts
+remade_sc (if0 a b c) us Γ = bound three_parts
+remade_sc (nil t) us Γ = bound no_part
+remade_sc (op2 CONS a b) us Γ = bound two_parts
+remade_sc (op1 HD a) us Γ = bound one_part
+remade_sc (op1 TL a) us Γ = bound one_part
+remade_sc (op1 (TEST is_fun) a) us Γ = bound one_part
+remade_sc (op1 (TEST is_list) a) us Γ = bound one_part
+remade_sc (op1 (TEST is_null) a) us Γ = bound one_part
+remade_sc (op1 (TEST is_num) a) us Γ = bound one_part
+remade_sc (wrong c t) us Γ = bound no_part
+remade_sc (sm t a) us Γ = bound typed_part
+
+pub remade : (s : Sort) (t : Tree s) → Remakes s t
+remade type t = remade_type t
+remade (term ml) e = remade_ml e
+remade (term sc) e = remade_sc e
 
 -- The kind and the operand of a tree's first word.
 pub kind_of : {s : Sort} {t : Tree s} (v : View s t) → word v.row.kind v.operand % 256 ≡ v.row.kind
