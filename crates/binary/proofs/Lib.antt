@@ -1,2 +1,1 @@
-pub mod TwoPart
-pub mod Choice
+pub mod Told

@@ -1,29 +1,51 @@
--- What each function is to answer: for the operator of two parts or the if0 that the words start with, what it becomes.
-use Rattle.std.specs.Prelude.{ℕ, ◌+◌, ◌≤◌, Bool, List, ◌≡◌, length, drop}
-use Rattle.calculus.specs.Trees.{Lang, Op2, APP, Term, op2, if0}
-use Rattle.calculus.specs.Words.{put}
-use Rattle.calculus.specs.Reduction.{contract, contract2}
-use Rattle.writing.specs.Given.{Given}
-use Rattle.writing.specs.Spans.{span}
+-- What each function is to answer: for an operator of two parts or an if0, by the words of its parts, what it becomes.
+use Rattle.std.specs.Prelude.{ℕ, ◌+◌, ◌≤◌, cond, leb, List, ◌≡◌, Option, None, Some}
+use Rattle.calculus.specs.Trees.{Op2, APP, ADD, SUB, CONS, Term, num, wrong, numbers, if0}
+use Rattle.calculus.specs.Words.{largest, words}
+use Rattle.calculus.specs.Reduction as calculus
+use Rattle.calculus.specs.Reduction.{becomes, amiss, on_numbers, contract, contract2}
+use Rattle.nodes.specs.declared.kinds.Language.{Language}
+use Rattle.nodes.specs.declared.kinds.Operator2.{Operator2}
+use Rattle.nodes.specs.declared.kinds.Operator2.TheVariants.{Apply, Add, Subtract, Cons}
+use Rattle.nodes.specs.Table.{as_lang}
 use Rattle.pieces.specs.declared.became.Became.{Became}
-use Rattle.pieces.specs.Forms.{form_at, is_scheme}
 use Rattle.pieces.specs.Pieces.{Tells}
 
--- What is known of a node's first two parts: the first one's form, and where the words of each end.
-pub record TwoParts (table ws : List ℕ) (form middle end : ℕ) : Type 0 where
-  pub given : Given table ws
-  pub form_is : form ≡ form_at (drop 1 ws)
-  pub middle_is : middle ≡ 1 + span (drop 1 ws) 1
-  pub end_is : end ≡ middle + span (drop middle ws) 1
-  pub least : 2 ≤ middle
-  pub order : middle ≤ end
-  pub most : end ≤ length ws
+-- The operators of the calculus.
+abbrev pub operation : Operator2 → Op2
+operation Apply = APP
+operation Add = ADD
+operation Subtract = SUB
+operation Cons = CONS
 
-pub record OfApply (ws : List ℕ) (scheme : Bool) (r : Became) : Type 0 where
-  pub of : (l : Lang) (f v : Term l) (k : List ℕ) → drop 1 ws ≡ put f (put v k) → scheme ≡ is_scheme l → Tells ws r (contract2 l APP f v)
+-- The sum of two numbers, or the wrong of a sum over the greatest number.
+pub record Sum (i : Language) (n m : ℕ) (r : Became) : Type 0 where
+  pub is : Tells r (becomes (cond (leb (n + m) largest) (num {l = as_lang i} (n + m)) (wrong 5 (numbers (as_lang i)))))
 
-pub record OfTwo (ws : List ℕ) (r : Became) : Type 0 where
-  pub of : (l : Lang) (o : Op2) (a b : Term l) (k : List ℕ) → ws ≡ put (op2 o a b) k → Tells ws r (contract2 l o a b)
+-- Both parts are numbers, and these; or else one of them is none.
+abbrev pub both {ℓ} : {A : Type ℓ} → Option (ℕ × ℕ) → A → (ℕ → ℕ → A) → A
+both None o f = o
+both (Some p) o f = f p.0 p.1
 
-pub record OfIf (ws : List ℕ) (r : Became) : Type 0 where
-  pub of : (l : Lang) (a b c : Term l) (k : List ℕ) → ws ≡ put (if0 a b c) k → Tells ws r (contract (if0 a b c))
+-- Neither is over the greatest number.
+abbrev pub SmallBoth : Option (ℕ × ℕ) → Type 0
+SmallBoth None = Unit {0}
+SmallBoth (Some p) = (p.0 ≤ largest) × (p.1 ≤ largest)
+
+-- What both parts come to, whatever is made of two numbers.
+pub record BothNumbers (i : Language) (x y : List ℕ) (r : Option (ℕ × ℕ)) : Type 0 where
+  pub small : SmallBoth r
+  pub of : (a b : Term (as_lang i)) → x ≡ words a → y ≡ words b → (f : ℕ → ℕ → calculus.Became (as_lang i))
+      → on_numbers (as_lang i) a b f ≡ both r (amiss (as_lang i) 1) f
+
+-- Application.
+pub record OfApply (i : Language) (x y : List ℕ) (r : Became) : Type 0 where
+  pub of : (f v : Term (as_lang i)) → x ≡ words f → y ≡ words v → Tells r (contract2 (as_lang i) APP f v)
+
+-- Whichever operator it is.
+pub record OfTwo (i : Language) (o : Operator2) (x y : List ℕ) (r : Became) : Type 0 where
+  pub of : (a b : Term (as_lang i)) → x ≡ words a → y ≡ words b → Tells r (contract2 (as_lang i) (operation o) a b)
+
+-- if0, by the words of its three parts.
+pub record OfIf (i : Language) (x y z : List ℕ) (r : Became) : Type 0 where
+  pub of : (a b c : Term (as_lang i)) → x ≡ words a → y ≡ words b → z ≡ words c → Tells r (contract (if0 a b c))

@@ -1,10 +1,14 @@
 -- The card of what pricing answers: refused as it was, without a card, with one, or by 14. Assumes nothing.
-use Prim.Native.Nat.{ℕ, ◌≤◌, ◌<◌}
+use Prim.Native.Nat.{ℕ, ◌≤◌}
+use mathlib.Core.Bool.{false≢true}
 use mathlib.Core.List.{List, []}
 use mathlib.Core.Path.{◌≡◌, refl, sym, ap, ◌∙◌, subst}
 use native.Mathlib.Omega.{arith}
 use lib.ListN.{length, take}
+use lib.Seq.{length-take-le}
 use borrow.Author.Tests.{le-leb, lt-leb}
+use Rattle.std.specs.Prelude.{Result, Ok, Err}
+use Rattle.std.specs.Result.{is_err}
 use Rattle.calculus.specs.Verdicts.{Verdict, refused, passed, and_then}
 use Rattle.calculus.specs.Run as run
 use Rattle.calculus.specs.Run.{valued}
@@ -12,103 +16,76 @@ use Rattle.calculus.specs.File.{padded, first_after}
 use Rattle.calculus.proofs.Bounds.{operate_bounded}
 use Rattle.calculus.proofs.Padding.{padded_take, padded_length}
 use Rattle.calculus.proofs.Verdicts.{not_both}
-use Rattle.engine.specs.Buffered.{Settled}
 use Rattle.engine.specs.Lent.{Lent}
 use Rattle.ends.specs.Results.{Line, line_of, end_of, told, end_number}
 use Rattle.ends.specs.declared.End.{End}
 use Rattle.ends.specs.declared.End.TheVariants.{Value, Spent, Error, Full}
-use Rattle.ends.specs.declared.Report.{Report}
 use Rattle.charges.specs.Prices.{Prices}
 use Rattle.charges.specs.declared.Charges.{Charges}
 use Rattle.pricing.specs.Items.{items_in}
 use Rattle.pricing.specs.Pricing.{Bill}
 use Rattle.pricing.specs.Answered as pricing
-use Rattle.pricing.specs.Answered.{no_charges, charges_of, ran, Pricing, priced}
+use Rattle.pricing.specs.Answered.{charges_of, ran, Pricing, priced}
 use Rattle.pricing.specs.declared.Unpriced.{Unpriced}
-use Rattle.pricing.specs.declared.Outcome.TheVariants as outcome
 use Rattle.pricing.specs.declared.Priced.{Priced}
 use Rattle.pricing.proofs.Billing.{billed_by}
 use Rattle.pricing.proofs.Laws.{own_run, billed_items}
 use Rattle.card.proofs.Laws.{carding_is}
 use Rattle.card.specs.Carding.{Card, card_of, card_at, laid_in}
-use Rattle.card.specs.Answered.{spoken, answering, bill_of, text_of, card_lent, CardReturned, card_returned, Answered, Carding}
-use Rattle.card.specs.Parts.{card_by, Laid, fits, short, AtEnd, Ends}
-use Rattle.card.specs.declared.Outcome.{Outcome}
-use Rattle.card.specs.declared.Outcome.TheVariants.{Refused, Ended}
-use Rattle.card.specs.declared.Uncarded.TheVariants.{Price, Short}
+use Rattle.card.specs.Answered.{outcome, spoken, charges_in, bytes_in, card_lent, CardReturned, card_returned}
+use Rattle.card.specs.Parts.{AtEnd, card_by, Laid, fits, short, Lays, Answers, CardingButBuffers}
+use Rattle.card.specs.declared.Uncarded.{Uncarded}
+use Rattle.card.specs.declared.Uncarded.TheVariants.{Price}
 use Rattle.card.specs.declared.Carded.{Carded}
+
+no_card_is : {why : Uncarded} (c : Carded) → ◌≡◌ {A = Result Carded Uncarded} (Err why) (Ok c) → ⊥
+no_card_is c q = false≢true (sym (ap is_err q))
 
 -- By what pricing says.
 module _ (prices : Prices) (l : Lent) (card : List ℕ) where
-  abbrev bill_of_lem : Verdict Bill
-  bill_of_lem = priced prices l
-
-  carded_by : (v : Verdict Bill) (w : Verdict Card) (g : CardReturned) → bill_of_lem ≡ v → and_then v (laid_in (length card)) ≡ w
-      → Answered w (card_lent l card) g → Carding prices (card_lent l card) g
+  carded_by : (v : Verdict Bill) (w : Verdict Card) (g : CardReturned) → priced prices l ≡ v → and_then v (laid_in (length card)) ≡ w
+      → Answers w (card_lent l card) g → CardingButBuffers prices (card_lent l card) g
   carded_by v w g q e h =
       let is = carding_is prices l.bytes l.limit (length l.first) (length l.second) (length card) v q in
-      subst (λ (y : Verdict Card). Answered y (card_lent l card) g) (sym (is ∙ e)) h
-
-  -- Refusal 14.
-  pub refused_14 : {r : Carded} {first' second' card' : List ℕ} (b : Bill) → bill_of_lem ≡ passed b → length card < length (card_of b)
-      → r ≡ answering (Refused Short) no_charges 0 → Settled [] l.first l.second first' second' → card' ≡ padded (length card) []
-      → Carding prices (card_lent l card) (card_returned r first' second' card')
-  refused_14 b q k a s c =
-      carded_by (passed b) (refused 14 0) _ q (rw (lt-leb (length (card_of b)) (length card) k))
-      record {
-        answer_is = ap (λ (y : Carded). spoken y.outcome) a;
-        charges_are = ap (λ (y : Carded). y.charges) a;
-        bytes_are = ap (λ (y : Carded). y.bytes) a;
-        first_is = s.first_is;
-        second_is = s.second_is;
-        card_is = c;
-      }
+      subst (λ (y : Verdict Card). Answers y (card_lent l card) g) (sym (is ∙ e)) h
 
   -- What pricing answered, and what it left in both buffers.
-  module _ (p : Priced) (first₁ second₁ : List ℕ) (h : Pricing prices l (pricing.returned p first₁ second₁)) where
-    -- Every other verdict is pricing's, with a card or without.
-    module _ (v : Verdict Bill) (w : Verdict Card) (q : bill_of_lem ≡ v) (e : and_then v (laid_in (length card)) ≡ w) (same : bill_of w ≡ v) where
-      abbrev own : bill_of_lem ≡ bill_of w
-      own = q ∙ sym same
-
-      as_priced : {r : Carded} {card' : List ℕ} (o : Outcome) → spoken o ≡ pricing.spoken p.outcome
-          → r ≡ answering o p.charges (length (text_of w)) → card' ≡ padded (length card) (text_of w)
-          → Carding prices (card_lent l card) (card_returned r first₁ second₁ card')
-      as_priced o s a c =
-          carded_by v w _ q e
-          record {
-            answer_is = ap (λ (y : Carded). spoken y.outcome) a ∙ s ∙ h.answer_is
-                ∙ ap (λ (y : Verdict Bill). and_then (ran y) (λ x. passed (line_of x))) own;
-            charges_are = ap (λ (y : Carded). y.charges) a ∙ h.charges_are ∙ ap charges_of own;
-            bytes_are = ap (λ (y : Carded). y.bytes) a;
-            first_is = h.first_is ∙ ap (λ (y : Verdict Bill). first_after (length l.first) (ran y)) own;
-            second_is = h.second_is;
-            card_is = c;
-          }
+  module _ {p : Result Priced Unpriced} {first₁ second₁ : List ℕ} (h : Pricing prices l (pricing.returned p first₁ second₁)) where
+    tells : {q : Result Priced Unpriced} → p ≡ q → pricing.spoken (pricing.outcome q) ≡ and_then (ran (priced prices l)) (λ x. passed (line_of x))
+    tells o = sym (ap (λ (y : Result Priced Unpriced). pricing.spoken (pricing.outcome y)) o) ∙ h.answer_is
 
     -- Refused as pricing refuses it.
-    pub refused_as : {r : Carded} {card' : List ℕ} (u : Unpriced) → p.outcome ≡ outcome.Refused u → r ≡ answering (Refused (Price u)) p.charges 0
-        → card' ≡ padded (length card) [] → Carding prices (card_lent l card) (card_returned r first₁ second₁ card')
-    refused_as {r} {card'} u o a c = by bill_of_lem refl (sym (ap pricing.spoken o) ∙ h.answer_is)
+    pub refused_as : {card' : List ℕ} (u : Unpriced) → p ≡ Err u
+        → CardingButBuffers prices (card_lent l card) (card_returned (Err (Price u)) first₁ second₁ card')
+    refused_as {card'} u o = by (priced prices l) refl (tells o)
       where
-        by : (v : Verdict Bill) → bill_of_lem ≡ v → pricing.spoken (outcome.Refused u) ≡ and_then (ran bill_of_lem) (λ x. passed (line_of x))
-            → Carding prices (card_lent l card) (card_returned r first₁ second₁ card')
+        by : (v : Verdict Bill) → priced prices l ≡ v → pricing.spoken (Err u) ≡ and_then (ran (priced prices l)) (λ x. passed (line_of x))
+            → CardingButBuffers prices (card_lent l card) (card_returned (Err (Price u)) first₁ second₁ card')
         by (passed b) q t =
             absurd (not_both _ _ (line_of b.run) (t ∙ ap (λ (v : Verdict Bill). and_then (ran v) (λ x. passed (line_of x))) q))
-        by (refused n k) q t = as_priced (refused n k) (refused n k) q refl refl (Refused (Price u)) (sym (ap pricing.spoken o)) a c
+        by (refused n k) q t =
+            carded_by (refused n k) (refused n k) _ q refl
+            record {
+              answer_is = t ∙ ap (λ (v : Verdict Bill). and_then (ran v) (λ x. passed (line_of x))) q;
+              charges_are = refl;
+              bytes_are = refl;
+              first_is = λ c e. absurd (no_card_is c e);
+              second_is = λ c e. absurd (no_card_is c e);
+              card_is = λ c e. absurd (no_card_is c e);
+            }
 
     -- A run that ended.
-    module _ (x : Report) (o : p.outcome ≡ outcome.Ended x) where
-      billed : (b : Bill) × (bill_of_lem ≡ passed b) × (told x ≡ line_of b.run)
-      billed = billed_by bill_of_lem x (sym (ap pricing.spoken o) ∙ h.answer_is)
+    module _ (x : Priced) (o : p ≡ Ok x) where
+      billed : (b : Bill) × (priced prices l ≡ passed b) × (told x.report ≡ line_of b.run)
+      billed = billed_by (priced prices l) x.report (tells o)
 
       abbrev b : Bill
       b = billed.0
 
-      ends_as : end_of x.end ≡ b.run.end
+      ends_as : end_of x.report.end ≡ b.run.end
       ends_as = ap (λ (z : Line). z.end) billed.2
 
-      left_as : x.left ≡ length b.run.left
+      left_as : x.report.left ≡ length b.run.left
       left_as = ap (λ (z : Line). z.left) billed.2
 
       bounded : length b.run.left ≤ run.capacity (length l.first) (length l.second)
@@ -119,77 +96,73 @@ module _ (prices : Prices) (l : Lent) (card : List ℕ) where
       first_is : first₁ ≡ padded (length l.first) b.run.left
       first_is = h.first_is ∙ ap (λ (v : Verdict Bill). first_after (length l.first) (ran v)) billed.1
 
-      words_left : take x.left first₁ ≡ b.run.left
-      words_left = ap (take x.left) first_is ∙ padded_take (length l.first) x.left b.run.left (omega (arith, bounded)) left_as
+      pub within : x.report.left ≤ length first₁
+      within = omega (arith, left_as, bounded, ap length first_is, padded_length (length l.first) b.run.left)
 
-      valued_by : x.end ≡ Value → b.run.end ≡ valued
+      words_left : take x.report.left first₁ ≡ b.run.left
+      words_left =
+          ap (take x.report.left) first_is ∙ padded_take (length l.first) x.report.left b.run.left (omega (arith, bounded)) left_as
+
+      valued_by : x.report.end ≡ Value → b.run.end ≡ valued
       valued_by q = sym ends_as ∙ ap end_of q
 
-      pub at_end : AtEnd x first₁
+      pub at_end : AtEnd x.report (take x.report.left first₁)
       at_end =
           record {
+            few = omega (arith, left_as, bounded, length-take-le x.report.left first₁ within);
             value_left = λ q.
                 let i = billed_items prices l.bytes l.limit (length l.first) (length l.second) b billed.1 (valued_by q) in
-                record {
-                  few = omega (arith, left_as, bounded);
-                  within = omega (arith, left_as, bounded, ap length first_is, padded_length (length l.first) b.run.left);
-                  items = i.0;
-                  nine = i.4;
-                  is = words_left ∙ i.1;
-                };
+                record { items = i.0; nine = i.4; is = words_left ∙ i.1 };
           }
 
-      -- With a card that fits its buffer, one of no byte where there is none.
-      abbrev full : Card
-      full = record { bill = b; text = card_of b }
-
-      fitting : length (card_of b) ≤ length card → and_then (passed b) (laid_in (length card)) ≡ passed full
-      fitting k = rw (le-leb (length (card_of b)) (length card) k)
-
-      with_card : {r : Carded} {first' second' card' : List ℕ} → length (card_of b) ≤ length card
-          → r ≡ answering (Ended x) p.charges (length (card_of b)) → first' ≡ first₁ → second' ≡ second₁ → card' ≡ padded (length card) (card_of b)
-          → Carding prices (card_lent l card) (card_returned r first' second' card')
-      with_card {r} {first'} {second'} {card'} k a f s c =
-          let done : Carding prices (card_lent l card) (card_returned r first₁ second₁ card') =
-          as_priced (passed b) (passed full) billed.1 (fitting k) refl (Ended x) (sym (ap pricing.spoken o)) a c in
-          subst (λ (y : List ℕ). Carding prices (card_lent l card) (card_returned r y second' card')) (sym f)
-          (subst (λ (y : List ℕ). Carding prices (card_lent l card) (card_returned r first₁ y card')) (sym s) done)
-
-      module _ {r : Carded} {first' second' card' : List ℕ} (e : Ends x p.charges first₁ second₁ card r first' second' card') where
+      module _ {r : Result Carded Uncarded} {card' : List ℕ} (e : Lays x (take x.report.left first₁) card r card') where
         abbrev Done : Type 0
-        Done = Carding prices (card_lent l card) (card_returned r first' second' card')
+        Done = CardingButBuffers prices (card_lent l card) (card_returned r first₁ second₁ card')
+
+        charged_by : x.charges ≡ charges_of (passed b)
+        charged_by = sym (ap pricing.charges_in o) ∙ h.charges_are ∙ ap charges_of billed.1
 
         -- At a value the card is that of the items.
-        text_of_lem : (q : b.run.end ≡ valued) (ns : List ℕ) → items_in b.run.left ≡ ns → card_by p.charges ns ≡ card_of b
-        text_of_lem q ns i = ap (λ (y : Charges). card_by y ns) (h.charges_are ∙ ap charges_of billed.1) ∙ rw (q, i)
+        text_of_lem : (q : b.run.end ≡ valued) (ns : List ℕ) → items_in b.run.left ≡ ns → card_by x.charges ns ≡ card_of b
+        text_of_lem q ns i = ap (λ (y : Charges). card_by y ns) charged_by ∙ rw (q, i)
 
-        laid : (text : List ℕ) → text ≡ card_of b → Laid x p.charges text first₁ second₁ card r first' second' card' → Done
-        laid text t (fits k a f s c) =
-            with_card (omega (arith, k, ap length t)) (a ∙ ap (λ (y : List ℕ). answering (Ended x) p.charges (length y)) t) f s
-            (c ∙ ap (padded (length card)) t)
-        laid text t (short k a s c) =
-            let lengths : length first₁ ≡ length l.first = ap length first_is ∙ padded_length (length l.first) b.run.left in
-            let lengths₂ : length second₁ ≡ length l.second = ap length h.second_is ∙ padded_length (length l.second) [] in
-            refused_14 b billed.1 (omega (arith, k, ap length t)) a
-            record { first_is = s.first_is ∙ rw lengths; second_is = s.second_is ∙ rw lengths₂ } c
+        -- With a card that fits its buffer, one of no byte where there is none; or refusal 14.
+        laid : (text : List ℕ) → text ≡ card_of b → Laid x text card r card' → Done
+        laid text t (fits k a f) =
+            let room : length (card_of b) ≤ length card = omega (arith, k, ap length t) in
+            carded_by (passed b) (passed (record { bill = b; text = card_of b })) _ billed.1 (rw (le-leb (length (card_of b)) (length card) room))
+            record {
+              answer_is = ap (λ (y : Result Carded Uncarded). spoken (outcome y)) a ∙ ap passed billed.2;
+              charges_are = ap charges_in a ∙ charged_by;
+              bytes_are = ap bytes_in a ∙ ap length t;
+              first_is = λ c q. first_is;
+              second_is = λ c q. h.second_is;
+              card_is = λ c q. ap (λ (n : ℕ). take n card') (ap bytes_in (sym q ∙ a)) ∙ f ∙ t;
+            }
+        laid text t (short k a) =
+            carded_by (passed b) (refused 14 0) _ billed.1 (rw (lt-leb (length (card_of b)) (length card) (omega (arith, k, ap length t))))
+            record {
+              answer_is = ap (λ (y : Result Carded Uncarded). spoken (outcome y)) a;
+              charges_are = ap charges_in a;
+              bytes_are = ap bytes_in a;
+              first_is = λ c q. absurd (no_card_is c (sym a ∙ q));
+              second_is = λ c q. absurd (no_card_is c (sym a ∙ q));
+              card_is = λ c q. absurd (no_card_is c (sym a ∙ q));
+            }
 
-        at_value : x.end ≡ Value → Done
+        at_value : x.report.end ≡ Value → Done
         at_value q =
             let i = billed_items prices l.bytes l.limit (length l.first) (length l.second) b billed.1 (valued_by q) in
-            laid (card_by p.charges i.0) (text_of_lem (valued_by q) i.0 i.3) ((e.valued q).of i.0 (words_left ∙ i.1))
+            laid (card_by x.charges i.0) (text_of_lem (valued_by q) i.0 i.3) (e.valued q i.0 (words_left ∙ i.1))
 
         -- At another end there is none.
-        no_card : (y : End) → x.end ≡ y → card_at b (end_of y) ≡ [] → ¬ (x.end ≡ Value) → Done
-        no_card y q t n =
-            let w = e.others n in
-            let none : card_of b ≡ [] = ap (card_at b) (sym ends_as ∙ ap end_of q) ∙ t in
-            with_card (omega (arith, ap length none)) (w.answer_is ∙ ap (λ (z : List ℕ). answering (Ended x) p.charges (length z)) (sym none))
-            w.first_is w.second_is (w.card_is ∙ ap (padded (length card)) (sym none))
+        no_card : (y : End) → x.report.end ≡ y → card_at b (end_of y) ≡ [] → ¬ (x.report.end ≡ Value) → Done
+        no_card y q t n = laid [] (sym (ap (card_at b) (sym ends_as ∙ ap end_of q) ∙ t)) (e.others n)
 
         pub ended_as : Done
-        ended_as = by x.end refl
+        ended_as = by x.report.end refl
           where
-            by : (y : End) → x.end ≡ y → Done
+            by : (y : End) → x.report.end ≡ y → Done
             by Value q = at_value q
             by Spent q = no_card Spent q refl (λ z. omega (arith, ap end_number (sym q ∙ z)))
             by Error q = no_card Error q refl (λ z. omega (arith, ap end_number (sym q ∙ z)))

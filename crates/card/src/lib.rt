@@ -2,23 +2,18 @@
 
 #![tactic(auto)]
 
-ghost use Rattle.std.specs.Prelude.{◌≡◌, [], length};
-ghost use Rattle.calculus.specs.File.{padded};
-ghost use Rattle.engine.specs.Buffered.{Settled};
 ghost use Rattle.engine.specs.Lent.{lent};
-ghost use Rattle.pricing.specs.Answered.{no_charges};
-ghost use Rattle.card.specs.Refusals.{numbered};
-ghost use Rattle.card.specs.Answered.{answering, card_lent, card_returned, Carding};
-ghost use Rattle.card.specs.Parts.{ListLeft, AtValue, AtEnd, Ends};
+ghost use Rattle.card.specs.Answered.{card_lent, card_returned, Carding};
+ghost use Rattle.card.specs.Parts.{AtEnd, Lays, CardingButBuffers};
 
-use charges::{Charges, Prices};
-use ends::{End, Report};
+use charges::Prices;
+use ends::End;
 use engine::buffers::keep;
 use layout::lay_out;
 use nodes::refusals::{Numbers, plain};
 use pricing::items::read;
-use pricing::{Unpriced, none, price};
-use text::clear;
+use pricing::{Priced, Unpriced, price};
+use writing::Writer;
 
 // Why there is no card: the can has no price, or the buffer is shorter than its card.
 #[derive(Clone, Copy)]
@@ -27,98 +22,77 @@ pub enum Uncarded {
     Short,
 }
 
-#[derive(Clone, Copy)]
-pub enum Outcome {
-    Refused(Uncarded),
-    Ended(Report),
-}
+// A can without a price has no card.
+impl From<Unpriced> for Uncarded {
+    ghost use Rattle.std.specs.Prelude.{◌≡◌};
+    ghost use Rattle.card.specs.declared.Uncarded.TheVariants.{Price};
 
-// What the operation answers. The charges are 0 where there are none, and so is the length of the card.
-#[derive(Clone, Copy)]
-pub struct Carded {
-    pub outcome: Outcome,
-    pub charges: Charges,
-    pub bytes: usize,
+    ghost from_gives = { λ why u. u ≡ Price why };
+
+    fn from(why: Unpriced) -> Uncarded {
+        Uncarded::Price(why)
+    }
 }
 
 // A refusal's number, and its place in the file.
-pub fn numbered(u: Uncarded) -> Numbers
-    ensures { result ≡ numbered u }
-{
-    match u {
-        Uncarded::Price(why) => pricing::numbered(why),
-        Uncarded::Short => plain(14),
+impl From<Uncarded> for Numbers {
+    ghost use Rattle.std.specs.Prelude.{◌≡◌};
+    ghost use Rattle.card.specs.Refusals.{numbered};
+
+    ghost from_gives = { λ u n. n ≡ numbered u };
+
+    fn from(u: Uncarded) -> Numbers {
+        match u {
+            Uncarded::Price(why) => why.into(),
+            Uncarded::Short => plain(14),
+        }
     }
 }
 
-// What pricing answers, without a card.
-fn without_card(o: Outcome, charges: Charges, card: &mut [u8]) -> Carded
-    ensures answer { result ≡ answering o charges 0 }
-    ensures card { card.new ≡ padded (length card.old) [] }
+// A priced run, and how many bytes its card has: 0 where it ends otherwise than as a value, and no Option, since C gets that number.
+#[derive(Clone, Copy)]
+pub struct Carded {
+    pub priced: Priced,
+    pub bytes: usize,
+}
+
+// The card of a priced run that left these words, or refusal 14: only at a value there is one.
+fn lay(priced: Priced, left: &[u32], card: &mut [u8]) -> Result<Carded, Uncarded>
+    requires { AtEnd priced.report left.now }
+    ensures { Lays priced left.now card.old result card.new }
 {
-    clear(card, 0);
-    Carded {
-        outcome: o,
-        charges: charges,
-        bytes: 0,
+    match priced.report.end {
+        End::Value => {
+            let found = read(left);
+            let bytes = lay_out(&found.pulses[..found.count], priced.charges, card);
+            if card.len() < bytes {
+                return Err(Uncarded::Short);
+            }
+            Ok(Carded { priced, bytes })
+        }
+        End::Spent | End::Error | End::Full => Ok(Carded { priced, bytes: 0 }),
     }
 }
 
-// Refusal 14: all three buffers zero.
-fn too_short(first: &mut [u32], second: &mut [u32], card: &mut [u8]) -> Carded
-    ensures answer { result ≡ answering (Outcome.Refused Uncarded.Short) no_charges 0 }
-    ensures words { Settled [] first.old second.old first.new second.new }
-    ensures card { card.new ≡ padded (length card.old) [] }
-{
-    keep(first, second, 0);
-    without_card(Outcome::Refused(Uncarded::Short), none(), card)
-}
-
-// At a value: the card, or refusal 14.
-fn at_value(
-    x: Report,
-    charges: Charges,
+// The card of a can, but for what is zero in the buffers.
+fn find_card(
+    prices: Prices,
+    file: &[u8],
+    limit: u32,
     first: &mut [u32],
     second: &mut [u32],
     card: &mut [u8],
-) -> Carded
-    requires { ListLeft x.left first.old }
-    ensures { AtValue x charges first.old second.old card.old result first.new second.new card.new }
+) -> Result<Carded, Uncarded>
+    ensures { CardingButBuffers prices
+        (card_lent (lent file.now limit first.old second.old) card.old)
+        (card_returned result first.new second.new card.new) }
 {
-    let found = read(&first[..x.left]);
-    let pulses = found.pulses;
-    let count = lay_out(&pulses[..found.count], charges, card);
-    if card.len() < count {
-        return too_short(first, second, card);
-    }
-    Carded {
-        outcome: Outcome::Ended(x),
-        charges: charges,
-        bytes: count,
-    }
-}
-
-// A run that ended: only at a value there is a card.
-fn ended(
-    x: Report,
-    charges: Charges,
-    first: &mut [u32],
-    second: &mut [u32],
-    card: &mut [u8],
-) -> Carded
-    requires { AtEnd x first.old }
-    ensures { Ends x charges first.old second.old card.old result first.new second.new card.new }
-{
-    let e = x.end;
-    match e {
-        End::Value => at_value(x, charges, first, second, card),
-        End::Spent => without_card(Outcome::Ended(x), charges, card),
-        End::Error => without_card(Outcome::Ended(x), charges, card),
-        End::Full => without_card(Outcome::Ended(x), charges, card),
-    }
+    let priced = price(prices, file, limit, first, second)?;
+    lay(priced, &first[..priced.report.left], card)
 }
 
 // The card of a can: for every table, every file, every limit and all three buffers, whatever they held.
+#[tactic(auto, using(writing::proofs::Stores::padded_is, calculus::proofs::Padding::padded_none))]
 pub fn card(
     prices: Prices,
     file: &[u8],
@@ -126,20 +100,18 @@ pub fn card(
     first: &mut [u32],
     second: &mut [u32],
     card: &mut [u8],
-) -> Carded
+) -> Result<Carded, Uncarded>
     ensures { Carding prices
         (card_lent (lent file.now limit first.old second.old) card.old)
         (card_returned result first.new second.new card.new) }
 {
-    let priced = price(prices, file, limit, first, second);
-    let outcome = priced.outcome;
-    let charges = priced.charges;
-    match outcome {
-        pricing::Outcome::Refused(u) => without_card(
-            Outcome::Refused(Uncarded::Price(u)),
-            charges,
-            card,
-        ),
-        pricing::Outcome::Ended(x) => ended(x, charges, first, second, card),
+    let answer = find_card(prices, file, limit, first, second, card);
+    match answer {
+        Ok(carded) => Writer::from(card, carded.bytes).fill_rest(0),
+        Err(_) => {
+            keep(first, second, 0);
+            card.fill(0);
+        }
     }
+    answer
 }

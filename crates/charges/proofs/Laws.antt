@@ -7,6 +7,7 @@ use native.Mathlib.Nat.{mul-le-mul_right, mul-le-mul_left, le_trans}
 use native.Mathlib.Omega.{arith}
 use lib.Dec.{leb}
 use lib.ListN.{length, get_or}
+use Rattle.std.proofs.lemmas.List.Sums.{sum_by-cons}
 use borrow.Author.Tests.{le-leb, leb-true, leb-false}
 use Rattle.charges.specs.Prices.{Prices, band, charge, charges, total, most_cents, within, all_within}
 use Rattle.charges.specs.Laws.{RoundedUp, ForEach, Within, Overpriced, Tested, Widths}
@@ -100,17 +101,19 @@ charges_fit (row ∷ rows) (n ∷ ns) (suc pump) w h = charges_fit rows ns pump 
 total_fits : (cs : List ℕ) → ((i : ℕ) → get_or cs i 0 ≤ 4294967295000) → total cs ≤ length cs * 4294967295000
 unfolding total
 total_fits [] h = omega arith
-total_fits (c ∷ cs) h = omega (arith, h 0, total_fits cs (λ i. h (suc i)))
+total_fits (c ∷ cs) h = omega (arith, h 0, sum_by-cons (λ x. x) c cs, total_fits cs (λ i. h (suc i)))
 
 -- Of as many items, and no charge behind them.
 items_fit : (prices : Prices) (ns : List ℕ) → Within prices → ((i : ℕ) → get_or ns i 0 ≤ 4294967295)
     → total (charges prices ns) ≤ length ns * 4294967295000
 unfolding charges total
 items_fit [] ns w h = omega arith
-items_fit (row ∷ rows) [] w h = omega (arith, items_fit rows [] (λ p. w (suc p)) h)
+items_fit (row ∷ rows) [] w h =
+    omega (arith, sum_by-cons (λ x. x) 0 (charges rows []), items_fit rows [] (λ p. w (suc p)) h)
 items_fit (row ∷ rows) (n ∷ ns) w h =
     omega (
       arith,
+      sum_by-cons (λ x. x) (charge n (get_or row (band n) 0)) (charges rows ns),
       charge_fits n (get_or row (band n) 0) (h 0) (w 0 (band n)),
       items_fit rows ns (λ p. w (suc p)) (λ i. h (suc i)),
     )

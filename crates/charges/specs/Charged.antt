@@ -1,5 +1,5 @@
 -- What the code makes of prices and pulses, and the bound that keeps a total within 64 bits.
-use Rattle.std.specs.Prelude.{ℕ, ◌≤◌, List, get_or}
+use Rattle.std.specs.Prelude.{ℕ, ◌≤◌, List, All}
 use Rattle.charges.specs.Prices.{Prices, charges, total}
 use Rattle.charges.specs.declared.Charges.{Charges}
 
@@ -11,5 +11,5 @@ charged prices pulses = record { charge = charges prices pulses; total = total (
 abbrev pub most_charge : ℕ
 most_charge = 18446744065119618
 
-pub record Small (charge : List ℕ) : Type 0 where
-  pub each : (pump : ℕ) → get_or charge pump 0 ≤ most_charge
+abbrev pub Small : List ℕ → Type 0
+Small charge = All (λ c. c ≤ most_charge) charge

@@ -1,5 +1,6 @@
 -- Document 02, U2, "Price of a can": the shop's prices, each charge, and the total.
-use Rattle.std.specs.Prelude.{ℕ, ◌+◌, ◌*◌, ◌/◌, Bool, true, cond, ◌&&◌, List, [], ◌∷◌, ltb, leb, get_or}
+use Rattle.std.specs.Prelude.{ℕ, ◌+◌, ◌*◌, ◌/◌, Bool, cond, List, [], ◌∷◌, ltb, leb, get_or, sum}
+use Rattle.std.specs.List.{list_all}
 
 -- "The shop's price table has nine rows of three bands, in cents per 1,000 pulses": a row for each pump.
 abbrev pub Prices : Type 0
@@ -25,17 +26,14 @@ charges (row ∷ rows) (n ∷ ns) = charge n (get_or row (band n) 0) ∷ charges
 
 -- "The total is the sum of the charges."
 unfoldable pub total : List ℕ → ℕ
-total [] = 0
-total (c ∷ cs) = c + total cs
+total charge = sum charge
 
 -- "11, a price over 1,000,000": no price of a row is, and none of any row, whether its pump has an item or not.
 abbrev pub most_cents : ℕ
 most_cents = 1000000
 
 unfoldable pub within : List ℕ → Bool
-within [] = true
-within (cents ∷ more) = leb cents most_cents && within more
+within row = list_all (λ cents. leb cents most_cents) row
 
 unfoldable pub all_within : Prices → Bool
-all_within [] = true
-all_within (row ∷ rows) = within row && all_within rows
+all_within prices = list_all within prices

@@ -22,6 +22,10 @@ module _ {A : Type 0} (a : A) where
   passes (refused m q) b e = absurd (not_both m q b (sym e))
   passes (passed x) b e = (x, refl, passed_injective b a e)
 
+-- How many words a file's declared type has, and how many it has itself, where a verdict passes.
+abbrev admitted : List ℕ → Verdict Recipe → Verdict (ℕ × ℕ)
+admitted bs v = and_then v (λ x. passed (type_count (words_of bs), length (words_of bs)))
+
 -- The words of a file that is opened are judged as the check does.
 judged_as : {bs all : List ℕ} {types n : ℕ} → Opens bs all types n → judging (words_of bs) types ≡ check bs
 unfolding check_words
@@ -38,20 +42,19 @@ term_at o =
 
 -- The ways out of admitting a file.
 pub unopened : (bs : List ℕ) {n p : ℕ} → refused n p ≡ opening bs → refused n p ≡ admitting bs
-unopened bs {n} {p} e =
-    sym (ap (λ (v : Verdict Recipe). and_then v (λ x. passed (type_count (words_of bs), length (words_of bs)))) (check_refused bs e))
+unopened bs e = sym (ap (admitted bs) (check_refused bs e))
 
 module _ {bs all : List ℕ} {types n : ℕ} (o : Opens bs all types n) where
   pub judged_out : {m p : ℕ} → refused m p ≡ accepting (judging (words_of bs) types) → refused m p ≡ admitting bs
   judged_out {m} {p} e =
       let c : check bs ≡ refused m p = refuses tt (check bs) (e ∙ ap accepting (judged_as o)) in
-      sym (ap (λ (v : Verdict Recipe). and_then v (λ x. passed (type_count (words_of bs), length (words_of bs)))) c)
+      sym (ap (admitted bs) c)
 
   pub judged_in : passed tt ≡ accepting (judging (words_of bs) types) → passed (types, n) ≡ admitting bs
   judged_in e =
       let c = passes tt (check bs) tt (e ∙ ap accepting (judged_as o)) in
       ap passed (ap (λ (i : ℕ). (i, n)) o.types_are ∙ ap (λ (i : ℕ). (type_count (words_of bs), i)) o.count_is)
-      ∙ sym (ap (λ (v : Verdict Recipe). and_then v (λ x. passed (type_count (words_of bs), length (words_of bs)))) c.1)
+      ∙ sym (ap (admitted bs) c.1)
 
 -- What is known of a file by its answer: refused by the check, or a recipe whose words were left in the array `all`.
 pub not_admitted : (bs : List ℕ) {n p : ℕ} → refused n p ≡ admitting bs → check bs ≡ refused n p

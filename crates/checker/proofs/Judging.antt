@@ -1,4 +1,5 @@
 -- Refusals 3 to 7 in their order. Assumes nothing.
+use Rattle.std.specs.Prelude.{Result, Err}
 use Prim.Native.Nat.{ℕ, ◌+◌, ◌-◌, ◌≤◌}
 use mathlib.Core.List.{List, [], ◌∷◌, ◌++◌}
 use mathlib.Core.Path.{◌≡◌, refl, sym, ap, ◌∙◌}
@@ -23,8 +24,6 @@ use Rattle.nodes.specs.Refusals.{refusal}
 use Rattle.nodes.specs.Walks.{both_ordered}
 use Rattle.types.specs.References.{Written}
 use Rattle.checker.specs.Checks.{checked, accepting, judging, Decides}
-use Rattle.checker.specs.declared.Checked.{Checked}
-use Rattle.checker.specs.declared.Checked.TheVariants.{Refused}
 
 in_one : {A B : Type 0} (v w : Verdict A) (k : A → Verdict B) → and_then v (λ n. and_then w k) ≡ and_then (and_then v (λ n. w)) k
 in_one (refused n p) w k = refl
@@ -54,13 +53,13 @@ module _ (ws : List ℕ) (n : ℕ) (b : 4 + n ≤ length ws) where
       (ap (λ (v : Verdict Recipe). accepting v)
       (in_one (later 4 (in_order type types)) (later (4 + n) (in_order (term ml) terms)) (λ i. and_then closing (λ m. trees))))
 
-  pub not_ordered : (r : Refusal) → refusal r ≡ both_ordered types terms → checked (Refused r) ≡ accepting (judging ws n)
+  pub not_ordered : (r : Refusal) → refusal r ≡ both_ordered types terms → checked (Err r) ≡ accepting (judging ws n)
   not_ordered r q = sym (in_turn ∙ ap (λ (v : Verdict ℕ). accepting (and_then v (λ i. and_then closing (λ m. trees)))) (sym q))
 
   past_order : (i : ℕ) → passed i ≡ both_ordered types terms → accepting (judging ws n) ≡ accepting (and_then closing (λ m. trees))
   past_order i q = in_turn ∙ ap (λ (v : Verdict ℕ). accepting (and_then v (λ i. and_then closing (λ m. trees)))) (sym q)
 
-  pub not_closed : (i : ℕ) (r : Refusal) → passed i ≡ both_ordered types terms → refusal r ≡ closing → checked (Refused r) ≡ accepting (judging ws n)
+  pub not_closed : (i : ℕ) (r : Refusal) → passed i ≡ both_ordered types terms → refusal r ≡ closing → checked (Err r) ≡ accepting (judging ws n)
   not_closed i r q c = sym (past_order i q ∙ ap (λ (v : Verdict ℕ). accepting (and_then v (λ m. trees))) (sym c))
 
   -- The trees are there.
@@ -79,7 +78,7 @@ module _ (ws : List ℕ) (n : ℕ) (b : 4 + n ≤ length ws) where
         sym (take-append-drop n r) ∙ ap (λ (l : List ℕ). l ++ drop n r) t.spelt ∙ sym (tree_append type t.tree [] (drop n r)),
       )
 
-  pub decided : (i m : ℕ) (r : Checked) → passed i ≡ both_ordered types terms → passed m ≡ closing → Decides ws (4 + n) r
+  pub decided : (i m : ℕ) (r : Result (Unit {0}) Refusal) → passed i ≡ both_ordered types terms → passed m ≡ closing → Decides ws (4 + n) r
       → checked r ≡ accepting (judging ws n)
   decided i m r q c d =
       let o = both i q in

@@ -1,3 +1,2 @@
+pub mod ByType
 pub mod Crossing
-pub mod CrossingLists
-pub mod CrossingFunctions

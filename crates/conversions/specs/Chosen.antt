@@ -1,53 +1,48 @@
--- What each function is to answer: for the ms or sm that the words start with, what it becomes.
-use Rattle.std.specs.Prelude.{ℕ, ◌+◌, ◌≤◌, Bool, true, false, List, ◌≡◌, length, drop}
-use Rattle.calculus.specs.Trees.{Ty, L, list, ◌to◌, Lang, ml, sc, Term, ms, sm}
-use Rattle.calculus.specs.Words.{put, put_ty, word}
-use Rattle.calculus.specs.Reduction.{to_ml, to_scheme}
-use Rattle.writing.specs.Spans.{span}
-use Rattle.pieces.specs.declared.became.Became.{Became}
-use Rattle.pieces.specs.Forms.{form_at, is_scheme}
-use Rattle.pieces.specs.Pieces.{Tells}
+-- What each function is to answer: for ms or sm at a type, by the words of the type and of the value, what it becomes.
+use Rattle.std.specs.Prelude.{ℕ, List, ◌≡◌}
+use Rattle.calculus.specs.Trees.{Ty, L, list, ◌to◌, Term, wrong}
+use Rattle.calculus.specs.Words.{word, words, words_ty, put_ty}
 use Rattle.calculus.specs.Reduction as calculus
-use Rattle.pieces.specs.declared.became.Became.TheVariants.{Nothing, Becomes}
-use Rattle.pieces.specs.declared.became.Piece.TheVariants.{Led}
+use Rattle.calculus.specs.Reduction.{becomes, nothing, to_ml, to_scheme}
+use Rattle.nodes.specs.declared.kinds.Language.{Language}
+use Rattle.nodes.specs.declared.kinds.Language.TheVariants.{Ml, Scheme}
+use Rattle.nodes.specs.Table.{as_lang}
+use Rattle.pieces.specs.declared.became.Became.{Became}
+use Rattle.pieces.specs.declared.codes.Wrong.{Wrong}
+use Rattle.pieces.specs.Codes.{code}
+use Rattle.pieces.specs.Languages.{other}
+use Rattle.pieces.specs.Pieces.{Tells}
 
--- A value that has not the type whose words stand from 1 up to v: a wrong in ML.
-abbrev pub misfit_in : Bool → ℕ → ℕ → Became
-misfit_in true c v = Nothing
-misfit_in false c v = Becomes (Led (word 29 c) 1 v)
+-- ms into ML, sm into Scheme: what a value of the other language becomes at a type.
+abbrev pub brought : (i : Language) → Ty → Term (as_lang (other i)) → calculus.Became (as_lang i)
+brought Ml t v = to_ml t v
+brought Scheme t v = to_scheme t v
 
--- ms into ML, sm into Scheme: the language that a value comes from, and what it becomes at a type.
-abbrev pub from : Lang → Lang
-from ml = sc
-from sc = ml
+-- What a value becomes that has not the type: a wrong in ML.
+abbrev pub unfit : (i : Language) → ℕ → Ty → calculus.Became (as_lang i)
+unfit Ml c t = becomes (wrong c t)
+unfit Scheme c t = nothing
 
-abbrev pub converted : (l : Lang) → Ty → Term (from l) → calculus.Became l
-converted ml t v = to_ml t v
-converted sc t v = to_scheme t v
+-- The answer to such a value, by the words of the type.
+pub record Misfit (i : Language) (w : Wrong) (ts : List ℕ) (r : Became) : Type 0 where
+  pub of : (t : Ty) → ts ≡ words_ty t → Tells r (unfit i (code w) t)
 
--- ms and sm: the value's form, where its words start and where they end.
-pub record ValueAt (ws : List ℕ) (form value end : ℕ) : Type 0 where
-  pub form_is : form ≡ form_at (drop value ws)
-  pub value_is : value ≡ 1 + span (drop 1 ws) 1
-  pub end_is : end ≡ value + span (drop value ws) 1
-  pub least : 2 ≤ value
-  pub some : value + 1 ≤ end
-  pub most : end ≤ length ws
+-- At the type t.
+pub record AtType (i : Language) (ts vs : List ℕ) (r : Became) (t : Ty) : Type 0 where
+  pub of : (v : Term (as_lang (other i))) → ts ≡ words_ty t → vs ≡ words v → Tells r (brought i t v)
 
--- At the type t, whose words stand from 1 up to the value.
-pub record AtType (ws : List ℕ) (scheme : Bool) (r : Became) (t : Ty) : Type 0 where
-  pub of : (l : Lang) (v : Term (from l)) (k : List ℕ) → drop 1 ws ≡ put_ty t (put v k) → scheme ≡ is_scheme l → Tells ws r (converted l t v)
+-- At an owner's L, whichever it is, by the owner's word.
+pub record AtLump (i : Language) (w : ℕ) (vs : List ℕ) (r : Became) : Type 0 where
+  pub of : (o : ℕ) → w ≡ word 2 o → (v : Term (as_lang (other i))) → vs ≡ words v → Tells r (brought i (L o) v)
 
--- At an owner's L, at {t}, at t to u, whichever they are.
-pub record AtLump (ws : List ℕ) (scheme : Bool) (r : Became) : Type 0 where
-  pub of : (o : ℕ) → AtType ws scheme r (L o)
+-- At {t}, whichever it is, by the words of the element's type.
+pub record AtList (i : Language) (ts ps vs : List ℕ) (r : Became) : Type 0 where
+  pub of : (t : Ty) → ps ≡ words_ty t → AtType i ts vs r (list t)
 
-pub record AtList (ws : List ℕ) (scheme : Bool) (r : Became) : Type 0 where
-  pub of : (t : Ty) → AtType ws scheme r (list t)
+-- At t to u, whichever they are, by the words of both types.
+pub record AtFunction (i : Language) (ts ps vs : List ℕ) (r : Became) : Type 0 where
+  pub of : (t u : Ty) → ps ≡ put_ty t (words_ty u) → AtType i ts vs r (t to u)
 
-pub record AtFunction (ws : List ℕ) (scheme : Bool) (r : Became) : Type 0 where
-  pub of : (t u : Ty) → AtType ws scheme r (t to u)
-
-pub record OfBoundary (ws : List ℕ) (r : Became) : Type 0 where
-  pub ms_told : (t : Ty) (v : Term sc) (k : List ℕ) → ws ≡ put (ms t v) k → Tells ws r (to_ml t v)
-  pub sm_told : (t : Ty) (v : Term ml) (k : List ℕ) → ws ≡ put (sm t v) k → Tells ws r (to_scheme t v)
+-- At whichever type it is.
+pub record OfBoundary (i : Language) (ts vs : List ℕ) (r : Became) : Type 0 where
+  pub of : (t : Ty) → AtType i ts vs r t

@@ -7,6 +7,8 @@ ghost use Rattle.calculus.specs.Classes.{word_class};
 ghost use Rattle.calculus.specs.Counting.{AddsUp};
 ghost use Rattle.counts.specs.Counting.{class_of, counts_of, counted};
 
+use nodes::kinds::{Operator1, Operator2, Shape, shape_of};
+
 // What a step is counted as.
 #[derive(Clone, Copy)]
 pub enum Class {
@@ -16,7 +18,7 @@ pub enum Class {
 }
 
 // The steps made, and the three into which they fall.
-#[derive(Clone, Copy)]
+#[derive(Clone, Copy, Default)]
 pub struct Counts {
     pub steps: u32,
     pub calls: u32,
@@ -26,26 +28,15 @@ pub struct Counts {
 
 // "A step on an application or a fix is a call. A step on an ms or sm word is a conversion. All other steps .. are others": by the word of the
 // node that a step reduces.
+#[tactic(auto, using(crate::proofs::Shapes::class_found))]
 pub fn word_class(word: u32) -> Class
     ensures { class_of result ≡ word_class word }
 {
-    let kind = word % 256;
-    if kind == nodes::words::ML_APPLICATION {
-        return Class::Call;
+    match shape_of(word) {
+        Some(Shape::Operator2(Operator2::Apply) | Shape::Operator1(Operator1::Fix)) => Class::Call,
+        Some(Shape::Boundary) => Class::Conversion,
+        _ => Class::Other,
     }
-    if kind == nodes::words::ML_FIX {
-        return Class::Call;
-    }
-    if kind == nodes::words::SCHEME_APPLICATION {
-        return Class::Call;
-    }
-    if kind == nodes::words::MS {
-        return Class::Conversion;
-    }
-    if kind == nodes::words::SM {
-        return Class::Conversion;
-    }
-    Class::Other
 }
 
 // One step more, of a class, where the limit is not reached. No sum wraps, because the three add up to the steps.
@@ -53,25 +44,22 @@ pub fn counted(class: Class, made: Counts, limit: u32) -> Counts
     requires { (made.steps < limit) × AddsUp (counts_of made) }
     ensures { result ≡ counted (class_of class) made }
 {
-    let steps = made.steps + 1;
+    let made = Counts {
+        steps: made.steps + 1,
+        ..made
+    };
     match class {
         Class::Call => Counts {
-            steps: steps,
             calls: made.calls + 1,
-            conversions: made.conversions,
-            others: made.others,
+            ..made
         },
         Class::Conversion => Counts {
-            steps: steps,
-            calls: made.calls,
             conversions: made.conversions + 1,
-            others: made.others,
+            ..made
         },
         Class::Other => Counts {
-            steps: steps,
-            calls: made.calls,
-            conversions: made.conversions,
             others: made.others + 1,
+            ..made
         },
     }
 }

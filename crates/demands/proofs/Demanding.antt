@@ -17,8 +17,7 @@ use Rattle.calculus.proofs.Demands.{typed_safe, from_every_term}
 use Rattle.nodes.specs.declared.refusals.Refusal.{Refusal}
 use Rattle.nodes.specs.declared.refusals.Refusal.TheVariants as r
 use Rattle.nodes.specs.Refusals.{number_of, place_of, refusal}
-use Rattle.checker.specs.declared.Checked.{Checked}
-use Rattle.checker.specs.declared.Checked.TheVariants.{Refused, Accepted}
+use Rattle.std.specs.Prelude.{Result, Ok, Err}
 use Rattle.checker.specs.Checks.{checked, accepting}
 use Rattle.demands.specs.Demanded.{RecipeOf, Checks, Twice}
 use Rattle.engine.specs.Lent.{Lent, Returned}
@@ -54,9 +53,9 @@ module _ (bytes : List ℕ) where
   accepted_recipe (refused n p) q h = absurd (not_both n p tt (sym h))
   accepted_recipe (passed x) q h = (x.0, x.1, (check_iff bytes x.0 x.1).0 q)
 
-  is_accepted : (c : Checked) → checked c ≡ passed tt → c ≡ Accepted
-  is_accepted (Refused x) h = absurd (not_both (number_of x) (place_of x) tt h)
-  is_accepted Accepted h = refl
+  is_accepted : (c : Result (Unit {0}) Refusal) → checked c ≡ passed tt → c ≡ Ok tt
+  is_accepted (Err x) h = absurd (not_both (number_of x) (place_of x) tt h)
+  is_accepted (Ok u) h = refl
 
   refused_check : (x : Refusal) (v : Verdict calculus.Recipe) → refusal x ≡ accepting v → v ≡ refusal x
   refused_check x (refused n p) h =
@@ -66,23 +65,23 @@ module _ (bytes : List ℕ) where
       rw (m, l)
   refused_check x (passed y) h = absurd (not_both (number_of x) (place_of x) tt h)
 
-  is_refused : (c : Checked) (x : Refusal) → checked c ≡ refusal x → c ≡ Refused x
-  is_refused (Refused y) x h = ap Refused (refusal_injective y x h)
-  is_refused Accepted x h = absurd (not_both (number_of x) (place_of x) tt (sym h))
+  is_refused : (c : Result (Unit {0}) Refusal) (x : Refusal) → checked c ≡ refusal x → c ≡ Err x
+  is_refused (Err y) x h = ap Err (refusal_injective y x h)
+  is_refused (Ok u) x h = absurd (not_both (number_of x) (place_of x) tt (sym h))
 
   one_recipe : (x y : RecipeOf bytes) → (x.0 ≡ y.0) × (x.1 ≡ y.1)
   one_recipe x y =
       let same = accepted_once bytes (x.0, x.1) (y.0, y.1) x.2 y.2 in
       (ap (λ (z : calculus.Recipe). z.0) same, ap (λ (z : calculus.Recipe). z.1) same)
 
-  module _ (c : Checked) (h : checked c ≡ accepting (check bytes)) where
-    accepts_iff : (c ≡ Accepted) ↔ RecipeOf bytes
+  module _ (c : Result (Unit {0}) Refusal) (h : checked c ≡ accepting (check bytes)) where
+    accepts_iff : (c ≡ Ok tt) ↔ RecipeOf bytes
     accepts_iff = (
       λ q. accepted_recipe (check bytes) refl (ap checked (sym q) ∙ h),
       λ x. is_accepted c (h ∙ ap accepting ((check_iff bytes x.0 x.1).1 x.2)),
     )
 
-    refuses_iff : (x : Refusal) → (c ≡ Refused x) ↔ (check bytes ≡ refusal x)
+    refuses_iff : (x : Refusal) → (c ≡ Err x) ↔ (check bytes ≡ refusal x)
     refuses_iff x = (
       λ q. refused_check x (check bytes) (ap checked (sym q) ∙ h),
       λ q. is_refused c x (h ∙ ap accepting q),
@@ -99,7 +98,8 @@ module _ (bytes : List ℕ) where
           seven = λ p. Iff.trans (refuses_iff (r.Mistyped p)) (points.seven bytes p);
         }
 
-pub twice : (c : Checked) (l m : Lent) (g h : Returned) → l.bytes ≡ m.bytes → checked c ≡ accepting (check l.bytes) → Promised l g → Promised m h
+pub twice : (c : Result (Unit {0}) Refusal) (l m : Lent) (g h : Returned) → l.bytes ≡ m.bytes → checked c ≡ accepting (check l.bytes)
+    → Promised l g → Promised m h
     → Twice c l g m h
 twice c l m g h b k p q =
     record {

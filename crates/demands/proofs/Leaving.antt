@@ -13,7 +13,7 @@ use Rattle.calculus.proofs.Checks.{accepted_once, operate_iff}
 use Rattle.calculus.proofs.Endings.{ends_iff}
 use Rattle.calculus.proofs.Demands.{typed_safe}
 use Rattle.ends.specs.declared.Report.{Report}
-use Rattle.engine.specs.declared.runs.Answer.TheVariants.{Ended}
+use Rattle.std.specs.Prelude.{Ok}
 use Rattle.ends.specs.Results.{Line, end_of}
 use Rattle.engine.specs.Answered.{spoken}
 use Rattle.engine.specs.Lent.{Lent, Returned, room}
@@ -33,7 +33,7 @@ stopped (by_limit {t} p c v) n = record { term = t; reached = p; left = refl }
 stopped (by_error p c i x) n = absurd (n refl)
 stopped (by_full {t = t} p c i a o) n = record { term = t; reached = p; left = refl }
 
-pub leaves : (l : Lent) (g : Returned) → Promised l g → (τ : Ty) (e : Term ml) → Accepted l.bytes τ e → (x : Report) → g.answer ≡ Ended x
+pub leaves : (l : Lent) (g : Returned) → Promised l g → (τ : Ty) (e : Term ml) → Accepted l.bytes τ e → (x : Report) → g.answer ≡ Ok x
     → ¬ (end_of x.end ≡ error) → Leaves τ e x g
 leaves l g h τ e a x q n =
     let v = operate l.bytes l.limit (length l.first) (length l.second) in

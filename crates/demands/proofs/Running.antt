@@ -26,8 +26,7 @@ use Rattle.nodes.specs.declared.refusals.Refusal.TheVariants as r
 use Rattle.nodes.specs.Refusals.{number_of, place_of, refusal}
 use Rattle.calculus.proofs.Padding.{padded_none, padded_take}
 use Rattle.ends.specs.declared.Report.{Report}
-use Rattle.engine.specs.declared.runs.Answer.{Answer}
-use Rattle.engine.specs.declared.runs.Answer.TheVariants.{Refused, Ended}
+use Rattle.std.specs.Prelude.{Result, Ok, Err}
 use Rattle.ends.specs.Results.{Line, line_of, end_of, told}
 use Rattle.engine.specs.Answered.{spoken, Answered}
 use Rattle.engine.proofs.Answering.{passed_by}
@@ -54,18 +53,18 @@ refused_left : (v : Verdict spec.Result) (x : Refusal) → refusal x ≡ and_the
 refused_left (refused n p) x q = refl
 refused_left (passed y) x q = absurd (not_both (number_of x) (place_of x) (line_of y) q)
 
-finish : (l : Lent) (g : Returned) (a : Answer) → g.answer ≡ a → Promised l g → Finishes l g
-finish l g (Refused x) q h =
+finish : (l : Lent) (g : Returned) (a : Result Report Refusal) → g.answer ≡ a → Promised l g → Finishes l g
+finish l g (Err x) q h =
     let v = operate l.bytes l.limit (length l.first) (length l.second) in
     let z = refused_left v x (ap spoken (sym q) ∙ h.answer_is) in
     refuses x q (numbered x).0 (numbered x).1
     (h.first_is ∙ ap (padded (length l.first)) z ∙ sym (padded_none (length l.first))) (h.second_is ∙ sym (padded_none (length l.second)))
-finish l g (Ended x) q h = ends x q
+finish l g (Ok x) q h = ends x q
 
 -- An answer that stands for an end is that end's report.
-pub ended_by : (a : Answer) (y : Line) → spoken a ≡ passed y → (x : Report) × (a ≡ Ended x) × (told x ≡ y)
-ended_by (Refused x) y q = absurd (not_both (number_of x) (place_of x) y q)
-ended_by (Ended x) y q = (x, refl, passed_injective (told x) y q)
+pub ended_by : (a : Result Report Refusal) (y : Line) → spoken a ≡ passed y → (x : Report) × (a ≡ Ok x) × (told x ≡ y)
+ended_by (Err x) y q = absurd (not_both (number_of x) (place_of x) y q)
+ended_by (Ok x) y q = (x, refl, passed_injective (told x) y q)
 
 reduce : (l : Lent) (g : Returned) (e : Term ml) (x : Ending l.limit (room l) e) → Counted e x.result.end x.result.made
     → operate l.bytes l.limit (length l.first) (length l.second) ≡ passed x.result → Promised l g → Reduces l g e
@@ -90,7 +89,7 @@ front l g r o h =
     ∙ padded_take (length l.first) (length r.left) r.left (omega arith) refl
 
 pub grow : (l m : Lent) (g h : Returned) (x : Report) → l.bytes ≡ m.bytes → l.limit ≤ m.limit → room l ≤ room m → Promised l g → Promised m h
-    → g.answer ≡ Ended x
+    → g.answer ≡ Ok x
     → spec.Final (end_of x.end) → Same x g h
 grow l m g h x b i c p q a f =
     let v = operate l.bytes l.limit (length l.first) (length l.second) in
@@ -132,13 +131,13 @@ is_capacity (r.Mistyped p) q = absurd (omega (arith, q))
 is_capacity r.Capacity q = refl
 
 -- Where the specification refuses, the answer is that refusal.
-refused_by_lem : (a : Answer) (v : Verdict spec.Result) (n p : ℕ) → spoken a ≡ and_then v (λ y. passed (line_of y)) → v ≡ refused n p
-    → (r : Refusal) × (a ≡ Refused r) × (number_of r ≡ n) × (place_of r ≡ p)
+refused_by_lem : (a : Result Report Refusal) (v : Verdict spec.Result) (n p : ℕ) → spoken a ≡ and_then v (λ y. passed (line_of y)) → v ≡ refused n p
+    → (r : Refusal) × (a ≡ Err r) × (number_of r ≡ n) × (place_of r ≡ p)
 refused_by_lem a v n p h q = by a (h ∙ ap (λ (w : Verdict spec.Result). and_then w (λ y. passed (line_of y))) q)
   where
-    by : (a : Answer) → spoken a ≡ refused n p → (r : Refusal) × (a ≡ Refused r) × (number_of r ≡ n) × (place_of r ≡ p)
-    by (Refused r) e = let i = refused_injective e in (r, refl, i.0, i.1)
-    by (Ended x) e = absurd (not_both n p (told x) (sym e))
+    by : (a : Result Report Refusal) → spoken a ≡ refused n p → (r : Refusal) × (a ≡ Err r) × (number_of r ≡ n) × (place_of r ≡ p)
+    by (Err r) e = let i = refused_injective e in (r, refl, i.0, i.1)
+    by (Ok x) e = absurd (not_both n p (told x) (sym e))
 
 -- What the check gives, with the term's size, decides the way.
 pub data Way (l : Lent) : Type 0 where
@@ -176,7 +175,7 @@ exact_of l g h =
       reduces = reduces_of l g h;
       over = (
         λ q. over_by q (way l),
-        λ o. let r = refused_by_lem g.answer (answer_of l) 8 0 h.answer_is (over_as l o) in r.1 ∙ ap Refused (is_capacity r.0 r.2),
+        λ o. let r = refused_by_lem g.answer (answer_of l) 8 0 h.answer_is (over_as l o) in r.1 ∙ ap Err (is_capacity r.0 r.2),
       );
       refuses = λ n p. (
         λ b. fails_by n p b (way l),
@@ -186,19 +185,19 @@ exact_of l g h =
       );
     }
   where
-    refusal_is : (r : Refusal) → g.answer ≡ Refused r → refusal r ≡ and_then (answer_of l) (λ y. passed (line_of y))
+    refusal_is : (r : Refusal) → g.answer ≡ Err r → refusal r ≡ and_then (answer_of l) (λ y. passed (line_of y))
     refusal_is r q = ap spoken (sym q) ∙ h.answer_is
 
-    not_made : (r : Refusal) → g.answer ≡ Refused r → Fitting l → ⊥
+    not_made : (r : Refusal) → g.answer ≡ Err r → Fitting l → ⊥
     not_made r q f =
         let x = reduces_of l g h f.0 f.1 f.2 f.3 in
         not_both (number_of r) (place_of r) (told x.report) (ap spoken (sym q ∙ x.ended))
 
-    numbers_are : (r : Refusal) (n p : ℕ) → g.answer ≡ Refused r → answer_of l ≡ refused n p → (number_of r ≡ n) × (place_of r ≡ p)
+    numbers_are : (r : Refusal) (n p : ℕ) → g.answer ≡ Err r → answer_of l ≡ refused n p → (number_of r ≡ n) × (place_of r ≡ p)
     numbers_are r n p q o =
         refused_injective (refusal_is r q ∙ ap (λ (v : Verdict spec.Result). and_then v (λ y. passed (line_of y))) o)
 
-    over_by : g.answer ≡ Refused r.Capacity → Way l → Over l
+    over_by : g.answer ≡ Err r.Capacity → Way l → Over l
     over_by q (fits f) = absurd (not_made r.Capacity q f)
     over_by q (exceeds o) = o
     over_by q (fails n p c) =

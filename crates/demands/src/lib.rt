@@ -9,28 +9,35 @@ ghost use Rattle.engine.specs.Lent.{lent, returned};
 ghost use Rattle.demands.specs.Demanded.{Checks, Once, Twice};
 ghost use Rattle.demands.specs.Owned.{WithoutOwners};
 
-use checker::{Checked, check};
-use engine::runs::{Answer, run};
+use checker::check;
+use ends::Report;
+use engine::runs::run;
 use nodes::alone::alone;
+use nodes::refusals::Refusal;
 use nodes::walks::node;
 
 // Three answers: a check's, and those of two runs.
 #[derive(Clone, Copy)]
 pub struct Answers {
-    pub checked: Checked,
-    pub earlier: Answer,
-    pub later: Answer,
+    pub checked: Result<(), Refusal>,
+    pub earlier: Result<Report, Refusal>,
+    pub later: Result<Report, Refusal>,
 }
 
 // Demand 2 of the check.
-pub fn check_once(file: &[u8]) -> Checked
+pub fn check_once(file: &[u8]) -> Result<(), Refusal>
     ensures { Checks file.now result }
 {
     check(file)
 }
 
 // Demand 1, and demand 2 of a run, with where its steps went: of this file, this limit and these buffers.
-pub fn run_once(file: &[u8], limit: u32, first: &mut [u32], second: &mut [u32]) -> Answer
+pub fn run_once(
+    file: &[u8],
+    limit: u32,
+    first: &mut [u32],
+    second: &mut [u32],
+) -> Result<Report, Refusal>
     ensures { Once
         (lent file.now limit first.old second.old)
         (returned result first.new second.new) }
@@ -58,9 +65,9 @@ pub fn run_twice(
     let earlier = run(file, limit, first, second);
     let later = run(file, limit_2, first_2, second_2);
     Answers {
-        checked: checked,
-        earlier: earlier,
-        later: later,
+        checked,
+        earlier,
+        later,
     }
 }
 
@@ -85,7 +92,7 @@ pub fn run_ownerless(
     let owned = run(file, limit, first, second);
     let ownerless = run(bare, limit, first_2, second_2);
     Answers {
-        checked: checked,
+        checked,
         earlier: owned,
         later: ownerless,
     }

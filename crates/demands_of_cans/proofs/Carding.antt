@@ -6,6 +6,7 @@ use mathlib.Core.Path.{◌≡◌, refl, sym, ap, ◌∙◌, subst}
 use native.Mathlib.Omega.{arith}
 use lib.ListN.{length, take}
 use Rattle.calculus.specs.Trees.{N, list}
+use Rattle.std.specs.Prelude.{Result, Ok, Err}
 use Rattle.calculus.specs.Verdicts.{Verdict, refused, passed, and_then}
 use Rattle.calculus.specs.Run as spec
 use Rattle.calculus.specs.File.{padded, first_after}
@@ -25,8 +26,8 @@ use Rattle.pricing.specs.Laws.{ValueOf, run_of}
 use Rattle.pricing.specs.Answered as priced
 use Rattle.pricing.specs.Answered.{charges_of, ran, Pricing}
 use Rattle.pricing.specs.declared.Unpriced.TheVariants as u
-use Rattle.pricing.specs.declared.Outcome.{Outcome}
-use Rattle.pricing.specs.declared.Outcome.TheVariants as o
+use Rattle.pricing.specs.declared.Unpriced.{Unpriced}
+use Rattle.pricing.specs.declared.Priced.{Priced}
 use Rattle.pricing.proofs.Laws as costing-laws
 use Rattle.pricing.proofs.Laws.{own_run, billed_run, pricing_number}
 use Rattle.pricing.proofs.Listing.{lists_once}
@@ -36,15 +37,15 @@ use Rattle.layout.proofs.Laws.{laws}
 use Rattle.card.specs.Carding.{Card, carding}
 use Rattle.card.specs.Laws.{card_bytes, Lays, no_card, card_of_lem, refused_14}
 use Rattle.card.specs.Refusals.{number_of}
-use Rattle.card.specs.Answered.{spoken, bill_of, text_of, CardLent, CardReturned, carded, Carding}
+use Rattle.card.specs.Answered as card
+use Rattle.card.specs.Answered.{spoken, charges_in, bytes_in, bill_of, text_of, CardLent, CardReturned, carded, Carding}
 use Rattle.card.specs.declared.Uncarded.{Uncarded}
 use Rattle.card.specs.declared.Uncarded.TheVariants.{Price, Short}
-use Rattle.card.specs.declared.Outcome as card
-use Rattle.card.specs.declared.Outcome.TheVariants.{Refused, Ended}
+use Rattle.card.specs.declared.Carded.{Carded}
 use Rattle.card.proofs.Answering.{tells, refused_by_lem, ended_by}
 use Rattle.card.proofs.Laws.{exactly, billed_card, card_grows}
 use Rattle.demands_of_cans.specs.Carded as demanded
-use Rattle.demands_of_cans.specs.Carded.{outcome, Finishes, as_card, priced_part, TooShort, Written, CardedOnce, SameCard, CardedTwice}
+use Rattle.demands_of_cans.specs.Carded.{outcome, Finishes, as_card, TooShort, Written, CardedOnce, SameCard, CardedTwice}
 use Rattle.demands.proofs.Running as running
 use Rattle.demands_of_cans.proofs.Costing as costing
 use Rattle.demands_of_cans.proofs.Costing.{priced_once, result_is}
@@ -55,19 +56,23 @@ numbered (Price u) = let n = costing.numbered u in (n.0, inl n.1)
 numbered Short = (omega arith, inr refl)
 
 -- The answer that stands for 14.
-short_is : (x : card.Outcome) → spoken x ≡ refused 14 0 → x ≡ Refused Short
-short_is (Refused (Price u)) q = absurd (omega (arith, costing.numbered u, (refused_injective q).0))
-short_is (Refused Short) q = refl
-short_is (Ended x) q = absurd (not_both 14 0 (told x) (sym q))
+short_is : (x : Result Report Uncarded) → spoken x ≡ refused 14 0 → x ≡ Err Short
+short_is (Err (Price u)) q = absurd (omega (arith, costing.numbered u, (refused_injective q).0))
+short_is (Err Short) q = refl
+short_is (Ok x) q = absurd (not_both 14 0 (told x) (sym q))
 
 -- A pricing's answer is told as the card's.
-told_as : (x : Outcome) → spoken (as_card x) ≡ priced.spoken x
-told_as (o.Refused u) = refl
-told_as (o.Ended x) = refl
+told_as : (p : Result Priced Unpriced) (n : ℕ) → spoken (card.outcome (as_card p n)) ≡ priced.spoken (priced.outcome p)
+told_as (Err u) n = refl
+told_as (Ok p) n = refl
 
-not_14 : (x : Outcome) → priced.spoken x ≡ refused 14 0 → ⊥
-not_14 (o.Refused u) q = omega (arith, costing.numbered u, (refused_injective q).0)
-not_14 (o.Ended x) q = not_both 14 0 (told x) (sym q)
+charged_as : (p : Result Priced Unpriced) (n : ℕ) → charges_in (as_card p n) ≡ priced.charges_in p
+charged_as (Err u) n = refl
+charged_as (Ok p) n = refl
+
+not_14 : (p : Result Priced Unpriced) → priced.spoken (priced.outcome p) ≡ refused 14 0 → ⊥
+not_14 (Err u) q = omega (arith, costing.numbered u, (refused_injective q).0)
+not_14 (Ok p) q = not_both 14 0 (told p.report) (sym q)
 
 module _ (prices : Prices) (l : CardLent) where
   abbrev bill_of_lem : Verdict Bill
@@ -101,23 +106,26 @@ module _ (prices : Prices) (l : CardLent) where
 
   module _ (g : CardReturned) (h : Carding prices l g) where
     -- "a priced run with one buffer more".
-    as_pricing : (x : Outcome) → outcome g ≡ as_card x → Pricing prices l.run (priced_part g x)
-    as_pricing x q = by owns
+    as_pricing : (p : Result Priced Unpriced) (n : ℕ) → g.answer ≡ as_card p n → Pricing prices l.run (priced.returned p g.first g.second)
+    as_pricing p n q = by owns
       where
-        by : Owns → Pricing prices l.run (priced_part g x)
+        said : priced.spoken (priced.outcome p) ≡ and_then (ran (bill_of verdict)) (λ r. passed (line_of r))
+        said = sym (told_as p n) ∙ sym (ap (λ (a : Result Carded Uncarded). spoken (card.outcome a)) q) ∙ h.answer_is
+
+        by : Owns → Pricing prices l.run (priced.returned p g.first g.second)
         by (same e) =
             record {
-              answer_is = sym (told_as x) ∙ sym (ap spoken q) ∙ h.answer_is ∙ ap (λ (y : Verdict Bill). and_then (ran y) (λ r. passed (line_of r))) e;
-              charges_are = h.charges_are ∙ ap charges_of e;
+              answer_is = said ∙ ap (λ (y : Verdict Bill). and_then (ran y) (λ r. passed (line_of r))) e;
+              charges_are = sym (charged_as p n) ∙ sym (ap charges_in q) ∙ h.charges_are ∙ ap charges_of e;
               first_is = h.first_is ∙ ap (λ (y : Verdict Bill). first_after (length l.run.first) (ran y)) e;
               second_is = h.second_is;
             }
-        by (short e) = absurd (not_14 x (sym (told_as x) ∙ sym (ap spoken q) ∙ tells prices l g h (refused 14 0) e))
+        by (short e) = absurd (not_14 p (said ∙ ap (λ (v : Verdict Card). and_then (ran (bill_of v)) (λ r. passed (line_of r))) e))
 
     -- Demand 1.
-    finish : (x : card.Outcome) → outcome g ≡ x → Finishes l g
-    finish (Ended x) q = demanded.ends x q
-    finish (Refused u) q =
+    finish : (x : Result Report Uncarded) → outcome g ≡ x → Finishes l g
+    finish (Ok x) q = demanded.ends x q
+    finish (Err u) q =
         let e = refused_by_lem prices l g h u q in
         let n = numbered u in
         demanded.refuses u q n.0 n.1
@@ -128,7 +136,7 @@ module _ (prices : Prices) (l : CardLent) where
         (h.card_is ∙ ap (λ (v : Verdict Card). padded (length l.card) (text_of v)) e ∙ sym (padded_none (length l.card)))
 
     -- Refusal 14: from its answer, and to it.
-    short_of : outcome g ≡ Refused Short → Within prices × TooShort l
+    short_of : outcome g ≡ Err Short → Within prices × TooShort l
     short_of q = by bill_of_lem refl
       where
         e : verdict ≡ refused 14 0
@@ -153,7 +161,7 @@ module _ (prices : Prices) (l : CardLent) where
     one_list : {x y : spec.Result} (ns ms : List ℕ) → x ≡ y → ValueOf x ns → ValueOf y ms → ns ≡ ms
     one_list ns ms q v w = lists_once ns ms (sym v.is ∙ ap (λ (z : spec.Result). z.left) q ∙ w.is)
 
-    to_short : Within prices → TooShort l → outcome g ≡ Refused Short
+    to_short : Within prices → TooShort l → outcome g ≡ Err Short
     to_short w (e, a, s, x, ns, v, few, k) =
         by bill_of_lem refl
         ((costing-laws.exactly).gives prices l.run.bytes l.run.limit (length l.run.first) (length l.run.second) (run_of w e a s))
@@ -167,18 +175,18 @@ module _ (prices : Prices) (l : CardLent) where
         valued : r.end ≡ spec.valued
         valued = ap (λ (z : spec.Result). z.end) one ∙ v.ends
 
-        of_lays : (b : Bill) → b.run ≡ r → (y : Verdict Card) → verdict ≡ y → Lays b (length l.card) y → outcome g ≡ Refused Short
+        of_lays : (b : Bill) → b.run ≡ r → (y : Verdict Card) → verdict ≡ y → Lays b (length l.card) y → outcome g ≡ Err Short
         of_lays b q y z (no_card n) = absurd (n (ap (λ (t : spec.Result). t.end) q ∙ valued))
         of_lays b q y z (card_of_lem ms i f j) = absurd (omega (arith, k, j, ap length (one_list ms ns (q ∙ one) i v)))
         of_lays b q y z (refused_14 ms i f j) = short_is (outcome g) (tells prices l g h (refused 14 0) z)
 
-        by : (y : Verdict Bill) → bill_of_lem ≡ y → costs.Costs prices r y → outcome g ≡ Refused Short
+        by : (y : Verdict Bill) → bill_of_lem ≡ y → costs.Costs prices r y → outcome g ≡ Err Short
         by y z (costs.nothing n) = absurd (n valued)
         by y z (costs.refused_10 ms i n) = absurd (omega (arith, few, n, ap length (one_list ms ns one i v)))
         by y z (costs.charges_of_lem ms i n) = of_lays _ refl verdict refl (lays _ z)
 
     -- The card's buffer.
-    module _ (x : Report) (q : outcome g ≡ Ended x) where
+    module _ (x : Report) (q : outcome g ≡ Ok x) where
       abbrev made : Card
       made = (ended_by prices l g h x q).0
 
@@ -192,7 +200,7 @@ module _ (prices : Prices) (l : CardLent) where
       bill_is =
           (billed_card prices l.run.bytes l.run.limit (length l.run.first) (length l.run.second) (length l.card) made made_is).0
 
-      charges_are : g.answer.charges ≡ record { charge = made.bill.charges; total = made.bill.total }
+      charges_are : charges_in g.answer ≡ record { charge = made.bill.charges; total = made.bill.total }
       charges_are = h.charges_are ∙ ap (λ (v : Verdict Card). charges_of (bill_of v)) made_is
 
       words_left : take x.left g.first ≡ made.bill.run.left
@@ -205,20 +213,20 @@ module _ (prices : Prices) (l : CardLent) where
           (ap (λ (z : Line). z.left) (ended_by prices l g h x q).2)
 
       module _ (text : List ℕ) (t : made.text ≡ text) where
-        bytes_are : g.answer.bytes ≡ length text
+        bytes_are : bytes_in g.answer ≡ length text
         bytes_are = h.bytes_are ∙ ap (λ (v : Verdict Card). length (text_of v)) made_is ∙ ap length t
 
         card_is : g.card ≡ padded (length l.card) text
         card_is = h.card_is ∙ ap (λ (v : Verdict Card). padded (length l.card) (text_of v)) made_is ∙ ap (padded (length l.card)) t
 
       by_columns : (ns charges : List ℕ) (total : ℕ) → Fits ns charges total → made.text ≡ layout.card ns charges total
-          → card_bytes ns ≤ length l.card → ByColumns ns charges total (take g.answer.bytes g.card)
+          → card_bytes ns ≤ length l.card → ByColumns ns charges total (take (bytes_in g.answer) g.card)
       by_columns ns charges total f t k =
           let text = layout.card ns charges total in
           let reads = laws.reads ns charges total f in
-          let is : take g.answer.bytes g.card ≡ text =
-          ap (take g.answer.bytes) (card_is text t)
-          ∙ padded_take (length l.card) g.answer.bytes text (omega (arith, reads.long, k)) (bytes_are text t) in
+          let is : take (bytes_in g.answer) g.card ≡ text =
+          ap (take (bytes_in g.answer)) (card_is text t)
+          ∙ padded_take (length l.card) (bytes_in g.answer) text (omega (arith, reads.long, k)) (bytes_are text t) in
           subst (ByColumns ns charges total) (sym is) reads
 
       written_by_lem : (v : Verdict Card) → v ≡ passed made → Lays made.bill (length l.card) v → Written l g x
@@ -233,7 +241,7 @@ module _ (prices : Prices) (l : CardLent) where
           demanded.card_of_lem ns (ends_as ∙ y.ends) (words_left ∙ y.is)
           (bytes_are _ t ∙ (laws.reads ns made.bill.charges made.bill.total f).long)
           (card_is _ (t ∙ text-by))
-          (subst (λ (c : Charges). ByColumns ns c.charge c.total (take g.answer.bytes g.card)) (sym charges_are)
+          (subst (λ (c : Charges). ByColumns ns c.charge c.total (take (bytes_in g.answer) g.card)) (sym charges_are)
           (by_columns ns made.bill.charges made.bill.total f t k))
       written_by_lem v e (refused_14 ns y f k) = absurd (not_both 14 0 made e)
 
@@ -245,18 +253,18 @@ module _ (prices : Prices) (l : CardLent) where
         record {
           finishes = finish (outcome g) refl;
           fourteen = (short_of, λ y. to_short y.0 y.1);
-          prices_as = λ x q. priced_once prices l.run (priced_part g x) (as_pricing x q);
+          prices_as = λ p n q. priced_once prices l.run (priced.returned p g.first g.second) (as_pricing p n q);
           written = written;
         }
 
 -- The answer that stands for 10.
-items_is : (x : card.Outcome) → spoken x ≡ refused 10 0 → x ≡ Refused (Price u.Items)
-items_is (Refused (Price u.Prices)) q = absurd (omega (arith, (refused_injective q).0))
-items_is (Refused (Price (u.Recipe r))) q = absurd (omega (arith, (running.numbered r).1, (refused_injective q).0))
-items_is (Refused (Price u.Declared)) q = absurd (omega (arith, (refused_injective q).0))
-items_is (Refused (Price u.Items)) q = refl
-items_is (Refused Short) q = absurd (omega (arith, (refused_injective q).0))
-items_is (Ended x) q = absurd (not_both 10 0 (told x) (sym q))
+items_is : (x : Result Report Uncarded) → spoken x ≡ refused 10 0 → x ≡ Err (Price u.Items)
+items_is (Err (Price u.Prices)) q = absurd (omega (arith, (refused_injective q).0))
+items_is (Err (Price (u.Recipe r))) q = absurd (omega (arith, (running.numbered r).1, (refused_injective q).0))
+items_is (Err (Price u.Declared)) q = absurd (omega (arith, (refused_injective q).0))
+items_is (Err (Price u.Items)) q = refl
+items_is (Err Short) q = absurd (omega (arith, (refused_injective q).0))
+items_is (Ok x) q = absurd (not_both 10 0 (told x) (sym q))
 
 -- More than nine items are refused by pricing.
 items_of : (prices : Prices) (l : CardLent) → verdict prices l ≡ refused 10 0 → bill_of_lem prices l ≡ refused 10 0
@@ -272,19 +280,19 @@ items_of prices l e = by (bill_of_lem prices l) refl
     by (passed b) w = absurd (of_lays b (verdict prices l) e (lays prices l b w))
 
 -- The bytes of a card that was made, as they stand in its buffer.
-text_in : (prices : Prices) (l : CardLent) (g : CardReturned) (h : Carding prices l g) (x : Report) (q : outcome g ≡ Ended x)
-    → take g.answer.bytes g.card ≡ (made prices l g h x q).text
+text_in : (prices : Prices) (l : CardLent) (g : CardReturned) (h : Carding prices l g) (x : Report) (q : outcome g ≡ Ok x)
+    → take (bytes_in g.answer) g.card ≡ (made prices l g h x q).text
 text_in prices l g h x q =
     let c = made prices l g h x q in
     let y = billed_card prices l.run.bytes l.run.limit (length l.run.first) (length l.run.second) (length l.card) c
     (made_is prices l g h x q) in
-    ap (take g.answer.bytes) (card_is prices l g h x q c.text refl)
-    ∙ padded_take (length l.card) g.answer.bytes c.text (omega (arith, y.1, ap length y.2)) (bytes_are prices l g h x q c.text refl)
+    ap (take (bytes_in g.answer)) (card_is prices l g h x q c.text refl)
+    ∙ padded_take (length l.card) (bytes_in g.answer) c.text (omega (arith, y.1, ap length y.2)) (bytes_are prices l g h x q c.text refl)
 
 -- Two cards of one file, at the same prices.
 module _ (prices : Prices) (l m : CardLent) (g h : CardReturned) (b : l.run.bytes ≡ m.run.bytes) (p : Carding prices l g) (q : Carding prices m h)
     (i : l.run.limit ≤ m.run.limit) (j : room l.run ≤ room m.run) where
-  later_is : (x : Report) (o : outcome g ≡ Ended x) → length l.card ≤ length m.card → spec.Final (end_of x.end)
+  later_is : (x : Report) (o : outcome g ≡ Ok x) → length l.card ≤ length m.card → spec.Final (end_of x.end)
       → verdict prices m ≡ passed (made prices l g p x o)
   later_is x o r f =
       let c = made prices l g p x o in
@@ -295,14 +303,14 @@ module _ (prices : Prices) (l m : CardLent) (g h : CardReturned) (b : l.run.byte
       (λ (bs : List ℕ). carding prices bs m.run.limit (length m.run.first) (length m.run.second) (length m.card) ≡ passed c)
       b more
 
-  later_ends : (c : Card) → verdict prices m ≡ passed c → (z : Report) × (outcome h ≡ Ended z)
+  later_ends : (c : Card) → verdict prices m ≡ passed c → (z : Report) × (outcome h ≡ Ok z)
   later_ends c e = by (outcome h) refl
     where
-      by : (y : card.Outcome) → outcome h ≡ y → (z : Report) × (outcome h ≡ Ended z)
-      by (Refused u) w = absurd (not_both _ _ c (sym (refused_by_lem prices m h q u w) ∙ e))
-      by (Ended z) w = (z, w)
+      by : (y : Result Report Uncarded) → outcome h ≡ y → (z : Report) × (outcome h ≡ Ok z)
+      by (Err u) w = absurd (not_both _ _ c (sym (refused_by_lem prices m h q u w) ∙ e))
+      by (Ok z) w = (z, w)
 
-  grow : (x : Report) → length l.card ≤ length m.card → outcome g ≡ Ended x → spec.Final (end_of x.end) → SameCard x g h
+  grow : (x : Report) → length l.card ≤ length m.card → outcome g ≡ Ok x → spec.Final (end_of x.end) → SameCard x g h
   grow x r o f =
       let e = later_is x o r f in
       let z = later_ends (made prices l g p x o) e in
@@ -310,7 +318,7 @@ module _ (prices : Prices) (l m : CardLent) (g h : CardReturned) (b : l.run.byte
       passed_injective _ _ (sym (made_is prices m h q z.0 z.1) ∙ e) in
       let numbers : told z.0 ≡ told x =
       (ended_by prices m h q z.0 z.1).2 ∙ ap (λ (c : Card). line_of c.bill.run) same ∙ sym (ended_by prices l g p x o).2 in
-      let bytes : h.answer.bytes ≡ g.answer.bytes =
+      let bytes : bytes_in h.answer ≡ bytes_in g.answer =
       bytes_are prices m h q z.0 z.1 _ refl ∙ ap (λ (c : Card). length c.text) same ∙ sym (bytes_are prices l g p x o _ refl) in
       record {
         report = z.0;
@@ -325,7 +333,7 @@ module _ (prices : Prices) (l m : CardLent) (g h : CardReturned) (b : l.run.byte
             ∙ sym (text_in prices l g p x o);
       }
 
-  stay : outcome g ≡ Refused (Price u.Items) → outcome h ≡ Refused (Price u.Items)
+  stay : outcome g ≡ Err (Price u.Items) → outcome h ≡ Err (Price u.Items)
   stay o =
       let first = items_of prices l (refused_by_lem prices l g p (Price u.Items) o) in
       let more = (costing-laws.grows).items prices l.run.bytes l.run.limit (length l.run.first) (length l.run.second)
@@ -335,7 +343,7 @@ module _ (prices : Prices) (l m : CardLent) (g h : CardReturned) (b : l.run.byte
       b more in
       items_is (outcome h) (tells prices m h q (refused 10 0) (refuses prices m 10 0 later))
 
-  still : length m.card ≤ length l.card → outcome g ≡ Refused Short → outcome h ≡ Refused Short
+  still : length m.card ≤ length l.card → outcome g ≡ Err Short → outcome h ≡ Err Short
   still r o =
       let more = card_grows.short prices l.run.bytes l.run.limit (length l.run.first) (length l.run.second) (length l.card)
       m.run.limit (length m.run.first) (length m.run.second) (length m.card) i j r (refused_by_lem prices l g p Short o) in

@@ -9,6 +9,7 @@ use lib.ListN.{length}
 use borrow.Author.Tests.{ne_eqb}
 use Rattle.calculus.specs.Trees.{Ty, N, list, ml, Term}
 use Rattle.calculus.specs.Words.{size}
+use Rattle.std.specs.Prelude.{Result, Ok, Err}
 use Rattle.calculus.specs.Verdicts.{Verdict, refused, passed, and_then}
 use Rattle.calculus.specs.Run as spec
 use Rattle.calculus.specs.Endings.{Ending}
@@ -21,7 +22,6 @@ use Rattle.calculus.proofs.Refusing.{Numbered, number_in_table}
 use Rattle.nodes.specs.declared.refusals.Refusal.TheVariants.{Capacity}
 use Rattle.calculus.proofs.Padding.{padded_none}
 use Rattle.ends.specs.declared.Report.{Report}
-use Rattle.engine.specs.declared.runs.Answer.TheVariants as answer
 use Rattle.ends.specs.Results.{Line, line_of, end_of, told}
 use Rattle.engine.specs.Lent.{Lent, room}
 use Rattle.engine.specs.Lent as engine
@@ -34,8 +34,6 @@ use Rattle.pricing.specs.Laws.{Way, overpriced, unaccepted, of_another_type, too
 use Rattle.pricing.specs.Answered.{spoken, charges_of, ran, Returned, Pricing, priced}
 use Rattle.pricing.specs.declared.Unpriced.{Unpriced}
 use Rattle.pricing.specs.declared.Unpriced.TheVariants as u
-use Rattle.pricing.specs.declared.Outcome.{Outcome}
-use Rattle.pricing.specs.declared.Outcome.TheVariants.{Refused, Ended}
 use Rattle.pricing.proofs.Listing.{lists_once}
 use Rattle.pricing.proofs.Billing.{billed_by}
 use Rattle.pricing.proofs.Laws.{exactly, own_run, grows}
@@ -72,37 +70,37 @@ unpriced_is u.Declared = refl
 unpriced_is u.Items = refl
 
 -- The number of an outcome, 0 for an end.
-abbrev number_of_outcome : Outcome → ℕ
-number_of_outcome (Refused x) = number_of x
-number_of_outcome (Ended x) = 0
+abbrev number_of_outcome : Result Report Unpriced → ℕ
+number_of_outcome (Err x) = number_of x
+number_of_outcome (Ok x) = 0
 
 -- What an outcome tells of the verdict, and a verdict of the outcome.
-told_ended : (o : Outcome) (v : Verdict Bill) (b : Bill) → spoken o ≡ and_then (ran v) (λ r. passed (line_of r)) → v ≡ passed b
-    → (x : Report) × (o ≡ Ended x) × (told x ≡ line_of b.run)
+told_ended : (o : Result Report Unpriced) (v : Verdict Bill) (b : Bill) → spoken o ≡ and_then (ran v) (λ r. passed (line_of r)) → v ≡ passed b
+    → (x : Report) × (o ≡ Ok x) × (told x ≡ line_of b.run)
 told_ended o v b h q = by o (h ∙ ap (λ (w : Verdict Bill). and_then (ran w) (λ r. passed (line_of r))) q)
   where
-    by : (o : Outcome) → spoken o ≡ passed (line_of b.run) → (x : Report) × (o ≡ Ended x) × (told x ≡ line_of b.run)
-    by (Refused y) e = absurd (not_both (number_of y) (place_of y) (line_of b.run) e)
-    by (Ended x) e = (x, refl, passed_injective (told x) (line_of b.run) e)
+    by : (o : Result Report Unpriced) → spoken o ≡ passed (line_of b.run) → (x : Report) × (o ≡ Ok x) × (told x ≡ line_of b.run)
+    by (Err y) e = absurd (not_both (number_of y) (place_of y) (line_of b.run) e)
+    by (Ok x) e = (x, refl, passed_injective (told x) (line_of b.run) e)
 
 told_refused : (g : Returned) (v : Verdict Bill) (n p : ℕ) → spoken (outcome g) ≡ and_then (ran v) (λ r. passed (line_of r)) → v ≡ refused n p
     → RefusedBy g n p
 told_refused g v n p h q = by (outcome g) refl (h ∙ ap (λ (w : Verdict Bill). and_then (ran w) (λ r. passed (line_of r))) q)
   where
-    by : (o : Outcome) → outcome g ≡ o → spoken o ≡ refused n p → RefusedBy g n p
-    by (Refused y) w e =
+    by : (o : Result Report Unpriced) → outcome g ≡ o → spoken o ≡ refused n p → RefusedBy g n p
+    by (Err y) w e =
         let i = refused_injective e in record { refusal = y; refused = w; number = i.0; place = i.1 }
-    by (Ended x) w e = absurd (not_both n p (told x) (sym e))
+    by (Ok x) w e = absurd (not_both n p (told x) (sym e))
 
 told_as : (g : Returned) (v : Verdict Bill) (n p : ℕ) → spoken (outcome g) ≡ and_then (ran v) (λ r. passed (line_of r)) → v ≡ refused n p
-    → outcome g ≡ Refused (unpriced_of n p)
+    → outcome g ≡ Err (unpriced_of n p)
 told_as g v n p h q =
     let r = told_refused g v n p h q in
-    r.refused ∙ ap Refused (sym (unpriced_is r.refusal) ∙ rw (r.number, r.place))
+    r.refused ∙ ap Err (sym (unpriced_is r.refusal) ∙ rw (r.number, r.place))
 
 -- What a run gives back that ends with this report and leaves what the pricing leaves.
 abbrev ended_as : Report → Returned → engine.Returned
-ended_as x g = engine.returned (answer.Ended x) g.first g.second
+ended_as x g = engine.returned (Ok x) g.first g.second
 
 -- A run has one result.
 pub result_is : {limit cap : ℕ} {e : Term ml} (τ : Ty) → Typed [] e τ → (x : Ending limit cap e) → spec.run limit cap spec.uncounted e ≡ x.result
@@ -116,7 +114,7 @@ module _ (prices : Prices) (l : Lent) (g : Returned) (h : Pricing prices l g) wh
   verdict = priced prices l
 
   -- A pricing that ended is a run.
-  as_run : (x : Report) (b : Bill) → outcome g ≡ Ended x → verdict ≡ passed b
+  as_run : (x : Report) (b : Bill) → outcome g ≡ Ok x → verdict ≡ passed b
       → Promised l (ended_as x g)
   as_run x b o q =
       let w = own_run.own prices l.bytes l.limit (length l.first) (length l.second) b q in
@@ -163,9 +161,9 @@ module _ (prices : Prices) (l : Lent) (g : Returned) (h : Pricing prices l g) wh
   answers (run_of w e a s) q = costs e a s verdict refl q
 
   -- Demand 1.
-  finish : (o : Outcome) → outcome g ≡ o → Finishes l g
-  finish (Ended x) q = ends x q
-  finish (Refused x) q = by verdict refl (ap spoken (sym q) ∙ h.answer_is)
+  finish : (o : Result Report Unpriced) → outcome g ≡ o → Finishes l g
+  finish (Ok x) q = ends x q
+  finish (Err x) q = by verdict refl (ap spoken (sym q) ∙ h.answer_is)
     where
       by : (v : Verdict Bill) → verdict ≡ v → refusal x ≡ and_then (ran v) (λ r. passed (line_of r)) → Finishes l g
       by (passed b) w e = absurd (not_both (number_of x) (place_of x) (line_of b.run) e)
@@ -175,20 +173,20 @@ module _ (prices : Prices) (l : Lent) (g : Returned) (h : Pricing prices l g) wh
           (h.first_is ∙ rw w (sym (padded_none (length l.first)))) (h.second_is ∙ sym (padded_none (length l.second)))
 
   -- The way, by the number of the answer.
-  numbered_as : (x y : Unpriced) → outcome g ≡ Refused x → outcome g ≡ Refused y → number_of x ≡ number_of y
+  numbered_as : (x y : Unpriced) → outcome g ≡ Err x → outcome g ≡ Err y → number_of x ≡ number_of y
   numbered_as x y p q = ap number_of_outcome (sym p ∙ q)
 
-  not_ended : (x : Unpriced) (r : Report) → outcome g ≡ Refused x → outcome g ≡ Ended r → ⊥
+  not_ended : (x : Unpriced) (r : Report) → outcome g ≡ Err x → outcome g ≡ Ok r → ⊥
   not_ended x r p q = let z : number_of x ≡ 0 = ap number_of_outcome (sym p ∙ q) in omega (arith, z, numbered x)
 
   -- A refusal of its own number comes of no other way.
-  module _ (x : Unpriced) (o : outcome g ≡ Refused x) (own : 9 ≤ number_of x) where
+  module _ (x : Unpriced) (o : outcome g ≡ Err x) (own : 9 ≤ number_of x) where
     not_unaccepted : (n p : ℕ) → check l.bytes ≡ refused n p → RefusedBy g n p → ⊥
     not_unaccepted n p c r =
         let t = subst Numbered c (number_in_table l.bytes) in
         omega (arith, own, numbered_as x r.refusal o r.refused, r.number, t)
 
-    not_too_large : outcome g ≡ Refused (u.Recipe Capacity) → ⊥
+    not_too_large : outcome g ≡ Err (u.Recipe Capacity) → ⊥
     not_too_large q = omega (arith, own, numbered_as x (u.Recipe Capacity) o q)
 
     not_costs : {e : Term ml} → (number_of x ≡ 10 → ⊥) → Costs prices l g e → ⊥
@@ -196,21 +194,21 @@ module _ (prices : Prices) (l : Lent) (g : Returned) (h : Pricing prices l g) wh
     not_costs k (too_many y ns v n q) = k (numbered_as x u.Items o q)
     not_costs k (charges y ns v n c) = not_ended x y.report o y.ended
 
-  eleven_by : outcome g ≡ Refused u.Prices → (w : Way prices l.bytes (room l)) → Answers prices l w g → Overpriced prices
+  eleven_by : outcome g ≡ Err u.Prices → (w : Way prices l.bytes (room l)) → Answers prices l w g → Overpriced prices
   eleven_by o (overpriced y) q = y
   eleven_by o (unaccepted w n p c) q = absurd (not_unaccepted u.Prices o (omega arith) n p c q)
   eleven_by o (of_another_type w τ e a y) q = absurd (omega (arith, numbered_as u.Prices u.Declared o q))
   eleven_by o (too_large w e a y) q = absurd (not_too_large u.Prices o (omega arith) q)
   eleven_by o (run_of w e a s) q = absurd (not_costs u.Prices o (omega arith) (λ z. omega (arith, z)) q)
 
-  nine_by : outcome g ≡ Refused u.Declared → (w : Way prices l.bytes (room l)) → Answers prices l w g → Within prices × OtherType l
+  nine_by : outcome g ≡ Err u.Declared → (w : Way prices l.bytes (room l)) → Answers prices l w g → Within prices × OtherType l
   nine_by o (overpriced y) q = absurd (omega (arith, numbered_as u.Declared u.Prices o q))
   nine_by o (unaccepted w n p c) q = absurd (not_unaccepted u.Declared o (omega arith) n p c q)
   nine_by o (of_another_type w τ e a y) q = (w, (τ, e, a, y))
   nine_by o (too_large w e a y) q = absurd (not_too_large u.Declared o (omega arith) q)
   nine_by o (run_of w e a s) q = absurd (not_costs u.Declared o (omega arith) (λ z. omega (arith, z)) q)
 
-  ten_by : outcome g ≡ Refused u.Items → (w : Way prices l.bytes (room l)) → Answers prices l w g → Within prices × TooMany l
+  ten_by : outcome g ≡ Err u.Items → (w : Way prices l.bytes (room l)) → Answers prices l w g → Within prices × TooMany l
   ten_by o (overpriced y) q = absurd (omega (arith, numbered_as u.Items u.Prices o q))
   ten_by o (unaccepted w n p c) q = absurd (not_unaccepted u.Items o (omega arith) n p c q)
   ten_by o (of_another_type w τ e a y) q = absurd (omega (arith, numbered_as u.Items u.Declared o q))
@@ -221,7 +219,7 @@ module _ (prices : Prices) (l : Lent) (g : Returned) (h : Pricing prices l g) wh
 
   -- Where there are too many items, 10 is the answer: the run has one ending, and its value is one list.
   ten_of : (e : Term ml) → Typed [] e (list N) → (x : Ending l.limit (room l) e) (ns : List ℕ) → ValueOf x.result ns → 9 < length ns
-      → Costs prices l g e → outcome g ≡ Refused u.Items
+      → Costs prices l g e → outcome g ≡ Err u.Items
   ten_of e t x ns v n (nothing y k c) = absurd (k (ap (λ (r : spec.Result). r.end) (same_result t y.reduces.by_rules x) ∙ v.ends))
   ten_of e t x ns v n (too_many y ms w k q) = q
   ten_of e t x ns v n (charges y ms w k c) =
@@ -247,7 +245,7 @@ module _ (prices : Prices) (l : Lent) (g : Returned) (h : Pricing prices l g) wh
 -- Two pricings of one file, at the same prices.
 module _ (prices : Prices) (l m : Lent) (g h : Returned) (b : l.bytes ≡ m.bytes) (p : Pricing prices l g) (q : Pricing prices m h)
     (i : l.limit ≤ m.limit) (j : room l ≤ room m) where
-  grow : (x : Report) → outcome g ≡ Ended x → spec.Final (end_of x.end) → SamePrice x g h
+  grow : (x : Report) → outcome g ≡ Ok x → spec.Final (end_of x.end) → SamePrice x g h
   grow x o f =
       let y = billed_by (priced prices l) x (ap spoken (sym o) ∙ p.answer_is) in
       let final = subst spec.Final (ap (λ (z : Line). z.end) y.2) f in
@@ -266,10 +264,10 @@ module _ (prices : Prices) (l m : Lent) (g h : Returned) (b : l.bytes ≡ m.byte
         words = same.words;
       }
 
-  stay : outcome g ≡ Refused u.Items → outcome h ≡ Refused u.Items
+  stay : outcome g ≡ Err u.Items → outcome h ≡ Err u.Items
   stay o = by (priced prices l) refl (ap spoken (sym o) ∙ p.answer_is)
     where
-      by : (v : Verdict Bill) → priced prices l ≡ v → refused 10 0 ≡ and_then (ran v) (λ r. passed (line_of r)) → outcome h ≡ Refused u.Items
+      by : (v : Verdict Bill) → priced prices l ≡ v → refused 10 0 ≡ and_then (ran v) (λ r. passed (line_of r)) → outcome h ≡ Err u.Items
       by (passed c) w e = absurd (not_both 10 0 (line_of c.run) e)
       by (refused n k) w e =
           let t : ◌≡◌ {A = Verdict Bill} (refused n k) (refused 10 0) = cc in

@@ -8,15 +8,15 @@ ghost use Rattle.card.specs.Answered.{card_lent, card_returned};
 ghost use Rattle.demands_of_cans.specs.Priced.{PricedOnce, PricedTwice};
 ghost use Rattle.demands_of_cans.specs.Carded.{CardedOnce, CardedTwice};
 
-use card::{Carded, card};
+use card::{Carded, Uncarded, card};
 use charges::Prices;
-use pricing::{Priced, price};
+use pricing::{Priced, Unpriced, price};
 
-// The answers of two pricings.
+// The answers of two calls of one operation.
 #[derive(Clone, Copy)]
-pub struct PricedAnswers {
-    pub earlier: Priced,
-    pub later: Priced,
+pub struct Pair<A> {
+    pub earlier: A,
+    pub later: A,
 }
 
 // Demands 1 and 2 of pricing: of these prices, this file, this limit and these buffers.
@@ -26,7 +26,7 @@ pub fn price_once(
     limit: u32,
     first: &mut [u32],
     second: &mut [u32],
-) -> Priced
+) -> Result<Priced, Unpriced>
     ensures { PricedOnce prices
         (lent file.now limit first.old second.old)
         (pricing.returned result first.new second.new) }
@@ -44,7 +44,7 @@ pub fn price_twice(
     limit_2: u32,
     first_2: &mut [u32],
     second_2: &mut [u32],
-) -> PricedAnswers
+) -> Pair<Result<Priced, Unpriced>>
     ensures { PricedTwice prices
         (lent file.now limit first.old second.old)
         (pricing.returned result.earlier first.new second.new)
@@ -53,17 +53,7 @@ pub fn price_twice(
 {
     let earlier = price(prices, file, limit, first, second);
     let later = price(prices, file, limit_2, first_2, second_2);
-    PricedAnswers {
-        earlier: earlier,
-        later: later,
-    }
-}
-
-// The answers of two cards.
-#[derive(Clone, Copy)]
-pub struct CardedAnswers {
-    pub earlier: Carded,
-    pub later: Carded,
+    Pair { earlier, later }
 }
 
 // Demands 1 and 2 of the card: of these prices, this file, this limit and these three buffers.
@@ -74,7 +64,7 @@ pub fn card_once(
     first: &mut [u32],
     second: &mut [u32],
     text: &mut [u8],
-) -> Carded
+) -> Result<Carded, Uncarded>
     ensures { CardedOnce prices
         (card_lent (lent file.now limit first.old second.old) text.old)
         (card_returned result first.new second.new text.new) }
@@ -94,7 +84,7 @@ pub fn card_twice(
     first_2: &mut [u32],
     second_2: &mut [u32],
     text_2: &mut [u8],
-) -> CardedAnswers
+) -> Pair<Result<Carded, Uncarded>>
     ensures { CardedTwice prices
         (card_lent (lent file.now limit first.old second.old) text.old)
         (card_returned result.earlier first.new second.new text.new)
@@ -103,8 +93,5 @@ pub fn card_twice(
 {
     let earlier = card(prices, file, limit, first, second, text);
     let later = card(prices, file, limit_2, first_2, second_2, text_2);
-    CardedAnswers {
-        earlier: earlier,
-        later: later,
-    }
+    Pair { earlier, later }
 }

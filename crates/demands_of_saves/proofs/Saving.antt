@@ -20,8 +20,8 @@ use Rattle.calculus.proofs.Bounds.{operate_bounded}
 use Rattle.calculus.proofs.Endings.{ends_iff, ending}
 use Rattle.calculus.proofs.Padding.{padded_none, padded_take, padded_drop, padded_length}
 use Rattle.counts.specs.Counting.{counts_of}
-use Rattle.engine.specs.declared.runs.Answer.{Answer}
-use Rattle.engine.specs.declared.runs.Answer.TheVariants as answer
+use Rattle.nodes.specs.declared.refusals.Refusal.{Refusal}
+use Rattle.ends.specs.declared.Report.{Report}
 use Rattle.ends.specs.Results.{Line, line_of, told}
 use Rattle.engine.specs.Answered as engine
 use Rattle.engine.specs.Lent.{Lent, Returned, lent, room}
@@ -33,8 +33,8 @@ use Rattle.saving.specs.Laws.{FileOf, Exactly}
 use Rattle.saving.specs.Laws as laws
 use Rattle.saving.specs.declared.Unsaved.{Unsaved}
 use Rattle.saving.specs.declared.Unsaved.TheVariants as u
-use Rattle.saving.specs.declared.Saved.{Saved}
-use Rattle.saving.specs.declared.Saved.TheVariants.{Refused, File}
+use Rattle.std.specs.Prelude.{Ok, Err}
+use Rattle.std.specs.Prelude as std
 use Rattle.saving.proofs.Bytes.{file_bytes_lem}
 use Rattle.saving.proofs.Saving.{refused_by_lem, passed_by}
 use Rattle.saving.proofs.Laws.{exactly}
@@ -50,20 +50,20 @@ unfolding operate
 run_as bs cs k j a b c d p q r = rw (p, q, r)
 
 -- What an answer is where the specification makes a file, or refuses.
-is_file : (x : Saved) (v : Verdict (List ℕ)) (file : List ℕ) → spoken x ≡ length_of v → v ≡ passed file → x ≡ File (length file)
+is_file : (x : std.Result ℕ Unsaved) (v : Verdict (List ℕ)) (file : List ℕ) → spoken x ≡ length_of v → v ≡ passed file → x ≡ Ok (length file)
 is_file x v file h q = by x (h ∙ ap length_of q)
   where
-    by : (x : Saved) → spoken x ≡ passed (length file) → x ≡ File (length file)
-    by (Refused y) e = absurd (not_both (number_of y) (place_of y) (length file) e)
-    by (File n) e = ap File (passed_injective n (length file) e)
+    by : (x : std.Result ℕ Unsaved) → spoken x ≡ passed (length file) → x ≡ Ok (length file)
+    by (Err y) e = absurd (not_both (number_of y) (place_of y) (length file) e)
+    by (Ok n) e = ap Ok (passed_injective n (length file) e)
 
-is_refused : (x : Saved) (v : Verdict (List ℕ)) (n p : ℕ) → spoken x ≡ length_of v → v ≡ refused n p → RefusedBy x n p
+is_refused : (x : std.Result ℕ Unsaved) (v : Verdict (List ℕ)) (n p : ℕ) → spoken x ≡ length_of v → v ≡ refused n p → RefusedBy x n p
 is_refused x v n p h q = by x refl (h ∙ ap length_of q)
   where
-    by : (y : Saved) → x ≡ y → spoken y ≡ refused n p → RefusedBy x n p
-    by (Refused y) w e =
+    by : (y : std.Result ℕ Unsaved) → x ≡ y → spoken y ≡ refused n p → RefusedBy x n p
+    by (Err y) w e =
         let i = refused_injective e in record { refusal = y; refused = w; number = i.0; place = i.1 }
-    by (File m) w e = absurd (not_both n p m (sym e))
+    by (Ok m) w e = absurd (not_both n p m (sym e))
 
 -- 12 and 13 are those of the lengths and of the buffer.
 is_long : (y : Unsaved) → number_of y ≡ 12 → y ≡ u.Long
@@ -76,14 +76,14 @@ is_short u.Long q = absurd (omega (arith, q))
 is_short (u.Recipe r) q = absurd (omega (arith, q, (running.numbered r).1))
 is_short u.Short q = refl
 
-module _ (h : Handed) (x : Saved) (out' : List ℕ) (s : Saves h.types h.terms h.out x out') where
+module _ (h : Handed) (x : std.Result ℕ Unsaved) (out' : List ℕ) (s : Saves h.types h.terms h.out x out') where
   abbrev verdict : Verdict (List ℕ)
   verdict = saving h.types h.terms (length h.out)
 
   abbrev law : Exactly h.types h.terms (length h.out)
   law = exactly h.types h.terms (length h.out)
 
-  refuses_as : (y : Unsaved) → x ≡ Refused y → verdict ≡ refusal y
+  refuses_as : (y : Unsaved) → x ≡ Err y → verdict ≡ refusal y
   refuses_as y q = refused_by_lem verdict y (sym (ap spoken q) ∙ s.answer_is)
 
   -- The file that was written stands first, and zeros after it.
@@ -94,7 +94,7 @@ module _ (h : Handed) (x : Saved) (out' : List ℕ) (s : Saves h.types h.terms h
     room_is : length file ≤ length h.out
     front_is : take n out' ≡ file
 
-  written : (n : ℕ) → x ≡ File n → Written n
+  written : (n : ℕ) → x ≡ Ok n → Written n
   written n q =
       let f = passed_by verdict n (sym (ap spoken q) ∙ s.answer_is) in
       let r = ((law.saves f.0).0 f.1).1 in
@@ -107,19 +107,19 @@ module _ (h : Handed) (x : Saved) (out' : List ℕ) (s : Saves h.types h.terms h
         front_is = ap (take n) o ∙ padded_take (length h.out) n f.0 r f.2;
       }
 
-  finish : (y : Saved) → x ≡ y → Finishes h x out'
-  finish (Refused y) q =
+  finish : (y : std.Result ℕ Unsaved) → x ≡ y → Finishes h x out'
+  finish (Err y) q =
       let r = refuses_as y q in
       refuses y q (law.no_other (number_of y) (place_of y) r)
       (s.out_is ∙ ap (λ (v : Verdict (List ℕ)). padded (length h.out) (written_by v)) r ∙ sym (padded_none (length h.out)))
-  finish (File n) q =
+  finish (Ok n) q =
       let w = written n q in
       writes n q (omega (arith, w.long, w.room_is))
       (subst (λ (l : List ℕ). FileOf h.types h.terms l) (sym w.front_is) ((law.saves w.file).0 w.made).0)
       (ap (drop n) (s.out_is ∙ ap (λ (v : Verdict (List ℕ)). padded (length h.out) (written_by v)) w.made)
       ∙ padded_drop (length h.out) n w.file w.room_is w.long)
 
-  makes : ((n : ℕ) × (x ≡ File n)) ↔ (Savable h × (bytes_due h ≤ length h.out))
+  makes : ((n : ℕ) × (x ≡ Ok n)) ↔ (Savable h × (bytes_due h ≤ length h.out))
   makes = (
     λ q.
         let w = written q.0 q.1 in
@@ -145,19 +145,19 @@ module _ (h : Handed) (x : Saved) (out' : List ℕ) (s : Saves h.types h.terms h
         writes = makes;
         twelve = (
           λ q. law.twelve.0 (refuses_as u.Long q),
-          λ i. let r = is_refused x verdict 12 0 s.answer_is (law.twelve.1 i) in r.refused ∙ ap Refused (is_long r.refusal r.number),
+          λ i. let r = is_refused x verdict 12 0 s.answer_is (law.twelve.1 i) in r.refused ∙ ap Err (is_long r.refusal r.number),
         );
         others = λ n p i. refused_iff n p (law.others n p i);
         six = λ p. refused_iff 6 p (law.six p);
         seven = λ p. refused_iff 7 p (law.seven p);
         thirteen = (
           λ q. law.thirteen.0 (refuses_as u.Short q),
-          λ i. let r = is_refused x verdict 13 0 s.answer_is (law.thirteen.1 i) in r.refused ∙ ap Refused (is_short r.refusal r.number),
+          λ i. let r = is_refused x verdict 13 0 s.answer_is (law.thirteen.1 i) in r.refused ∙ ap Err (is_short r.refusal r.number),
         );
       }
 
 -- A run, and the save of what it left.
-module _ (l : Lent) (g : Returned) (run : Promised l g) (types out : List ℕ) (x : Saved) (out' : List ℕ)
+module _ (l : Lent) (g : Returned) (run : Promised l g) (types out : List ℕ) (x : std.Result ℕ Unsaved) (out' : List ℕ)
     (s : Saves types (take (left_of g.answer) g.first) out x out') where
   abbrev due : Verdict spec.Result
   due = operate l.bytes l.limit (length l.first) (length l.second)
@@ -201,7 +201,7 @@ module _ (l : Lent) (g : Returned) (run : Promised l g) (types out : List ℕ) (
     abbrev h : Handed
     h = handed (words_ty p.declared) r.left out
 
-    only_by : (y : Unsaved) → x ≡ Refused y → (number_of y ≡ 4) ⊎ (number_of y ≡ 12) ⊎ (number_of y ≡ 13)
+    only_by : (y : Unsaved) → x ≡ Err y → (number_of y ≡ 4) ⊎ (number_of y ≡ 12) ⊎ (number_of y ≡ 13)
     only_by y q =
         goes_on.only_by l.bytes l.limit (length l.first) (length l.second) p.declared r paused (length out) (number_of y) (place_of y)
         (refuses_as h x out' saves y q)
@@ -214,7 +214,7 @@ module _ (l : Lent) (g : Returned) (run : Promised l g) (types out : List ℕ) (
         let ran = (ends_iff l.limit (room l) p.term p.declared p.accepted.typed e.result).0 e.ends in
         sym (i.4 ∙ ap (λ (y : Recipe). spec.run l.limit (room l) spec.uncounted y.1) same ∙ ran)
 
-    reads : (n : ℕ) → x ≡ File n → ReadBack l p.declared p.term (take n out')
+    reads : (n : ℕ) → x ≡ Ok n → ReadBack l p.declared p.term (take n out')
     reads n q =
         let w = written h x out' saves n q in
         let f = (((exactly (words_ty p.declared) r.left (length out)).saves w.file).0 w.made).0 in
@@ -231,7 +231,7 @@ module _ (l : Lent) (g : Returned) (run : Promised l g) (types out : List ℕ) (
     -- The second run, of the file saved, in the buffers as the first left them; and a run in others, of the same capacity.
     module _ (again : ℕ) (g₂ : Returned) (run₂ : Promised (lent (take (written_of x) out') again g.first g.second) g₂)
         (m : Lent) (g₃ : Returned) (run₃ : Promised m g₃) where
-      as_one : (n : ℕ) → x ≡ File n → 1 ≤ again → l.bytes ≡ m.bytes → l.limit + again ≡ m.limit → room l ≡ room m → AsOne p.report g₂ g₃
+      as_one : (n : ℕ) → x ≡ Ok n → 1 ≤ again → l.bytes ≡ m.bytes → l.limit + again ≡ m.limit → room l ≡ room m → AsOne p.report g₂ g₃
       as_one n q i b k c =
           let w = written h x out' saves n q in
           let one = goes_on.as_one l.bytes l.limit (length l.first) (length l.second) p.declared r paused (length out) w.file
@@ -264,7 +264,7 @@ module _ (l : Lent) (g : Returned) (run : Promised l g) (types out : List ℕ) (
           same_room : spec.capacity (length g.first) (length g.second) ≡ room l
           same_room = rw (run.first_is, run.second_is, padded_length (length l.first) (left_by due), padded_length (length l.second) [])
 
-pub save_runs : (l : Lent) (g : Returned) → Promised l g → (types out : List ℕ) (x : Saved) (out' : List ℕ)
+pub save_runs : (l : Lent) (g : Returned) → Promised l g → (types out : List ℕ) (x : std.Result ℕ Unsaved) (out' : List ℕ)
     → Saves types (take (left_of g.answer) g.first) out x out'
     → (again : ℕ) (g₂ : Returned) → Promised (lent (take (written_of x) out') again g.first g.second) g₂
     → (m : Lent) (g₃ : Returned) → Promised m g₃
@@ -283,22 +283,22 @@ left_within l g run = by g.answer refl
     due : Verdict spec.Result
     due = operate l.bytes l.limit (length l.first) (length l.second)
 
-    by : (a : Answer) → g.answer ≡ a → left_of a ≤ length g.first
-    by (answer.Refused y) q = omega arith
-    by (answer.Ended y) q =
+    by : (a : std.Result Report Refusal) → g.answer ≡ a → left_of a ≤ length g.first
+    by (Err y) q = omega arith
+    by (Ok y) q =
         let r = answering.passed_by due y (ap engine.spoken (sym q) ∙ run.answer_is) in
         let n : y.left ≡ length r.0.left = ap (λ (z : Line). z.left) r.2 in
         let b = (operate_bounded l.bytes l.limit (length l.first) (length l.second) r.0 r.1).0 in
         omega (arith, n, b, ap length run.first_is, padded_length (length l.first) (left_by due))
 
-pub written_within : (types terms out : List ℕ) (x : Saved) (out' : List ℕ) → Saves types terms out x out' → written_of x ≤ length out'
+pub written_within : (types terms out : List ℕ) (x : std.Result ℕ Unsaved) (out' : List ℕ) → Saves types terms out x out' → written_of x ≤ length out'
 written_within types terms out x out' s = by x refl
   where
     v : Verdict (List ℕ)
     v = saving types terms (length out)
 
-    by : (y : Saved) → x ≡ y → written_of y ≤ length out'
-    by (Refused y) q = omega arith
-    by (File n) q =
+    by : (y : std.Result ℕ Unsaved) → x ≡ y → written_of y ≤ length out'
+    by (Err y) q = omega arith
+    by (Ok n) q =
         let w = written (handed types terms out) x out' s n q in
         omega (arith, w.long, w.room_is, ap length s.out_is, padded_length (length out) (written_by v))

@@ -4,45 +4,34 @@
 
 ghost use Rattle.std.specs.Prelude.{◌≡◌};
 ghost use Rattle.engine.specs.Lent.{lent, returned};
-ghost use Rattle.demands_of_saves.specs.Saved.{handed, SavedOnce, left_of, written_of, SaveRuns};
+ghost use Rattle.demands_of_saves.specs.Saved.{handed, SavedOnce, left_of, SaveRuns};
 
-use engine::runs::{Answer, run};
-use saving::{Saved, save};
+use ends::Report;
+use engine::runs::run;
+use nodes::refusals::Refusal;
+use saving::{Unsaved, save};
 
 // Demands 1 and 2 of saving: of these words and this buffer.
-pub fn save_once(types: &[u32], terms: &[u32], out: &mut [u8]) -> Saved
+pub fn save_once(types: &[u32], terms: &[u32], out: &mut [u8]) -> Result<usize, Unsaved>
     ensures { SavedOnce (handed types.now terms.now out.old) result out.new }
 {
     save(types, terms, out)
 }
 
 // The words that a run left, counted: none where it was refused.
-fn left(a: Answer) -> usize
-    ensures { result ≡ left_of a }
+fn left(answer: Result<Report, Refusal>) -> usize
+    ensures { result ≡ left_of answer }
 {
-    match a {
-        Answer::Refused(_) => 0,
-        Answer::Ended(x) => x.left,
-    }
-}
-
-// The bytes that were saved, counted: none where the save was refused.
-fn written(x: Saved) -> usize
-    ensures { result ≡ written_of x }
-{
-    match x {
-        Saved::Refused(_) => 0,
-        Saved::File(n) => n,
-    }
+    answer.map_or(0, |report| report.left)
 }
 
 // The answers of a run, of the save of what it left, of the run of the file saved, and of one run.
 #[derive(Clone, Copy)]
 pub struct SavedAnswers {
-    pub earlier: Answer,
-    pub saved: Saved,
-    pub later: Answer,
-    pub whole: Answer,
+    pub earlier: Result<Report, Refusal>,
+    pub saved: Result<usize, Unsaved>,
+    pub later: Result<Report, Refusal>,
+    pub whole: Result<Report, Refusal>,
 }
 
 // The law of saving: this file is run, what is left is saved with these words as its declared type, the file saved is run in the same buffers; and
@@ -66,16 +55,16 @@ pub fn run_save_run(
         (lent file.now limit_2 first_2.old second_2.old)
         (returned result.whole first_2.new second_2.new) }
 {
-    let paused = run(file, limit, first, second);
-    let n = left(paused);
-    let saved = save(types, &first[..n], out);
-    let m = written(saved);
-    let later = run(&out[..m], again, first, second);
+    let earlier = run(file, limit, first, second);
+    let count = left(earlier);
+    let saved = save(types, &first[..count], out);
+    let written = saved.unwrap_or(0);
+    let later = run(&out[..written], again, first, second);
     let whole = run(file, limit_2, first_2, second_2);
     SavedAnswers {
-        earlier: paused,
-        saved: saved,
-        later: later,
-        whole: whole,
+        earlier,
+        saved,
+        later,
+        whole,
     }
 }

@@ -6,11 +6,14 @@ ghost use Rattle.std.specs.Prelude.{◌≡◌};
 ghost use Rattle.calculus.specs.Run.{capacity};
 ghost use Rattle.ends.specs.Results.{end_number};
 ghost use Rattle.counts.specs.Counting.{UpTo};
-ghost use Rattle.ends.specs.Decided.{stop, raise, go, decide};
+ghost use Rattle.ends.specs.Decided.{leaving, decide};
 
 use counts::{Class, Counts, counted, word_class};
 use reducer::steps::{Change, Move};
+use std::ops::ControlFlow;
+use std::ops::ControlFlow::{Break, Continue};
 
+// How a run ends: as a value, with its steps spent, with a wrong raised, or before a term that passes the capacity.
 #[derive(Clone, Copy)]
 pub enum End {
     Value,
@@ -20,18 +23,21 @@ pub enum End {
 }
 
 // An end's number.
-pub fn number(e: End) -> u32
-    ensures { result ≡ end_number e }
-{
-    match e {
-        End::Value => 0,
-        End::Spent => 1,
-        End::Error => 2,
-        End::Full => 3,
+impl From<End> for u32 {
+    ghost from_gives = { λ e n. n ≡ end_number e };
+
+    fn from(e: End) -> u32 {
+        match e {
+            End::Value => 0,
+            End::Spent => 1,
+            End::Error => 2,
+            End::Full => 3,
+        }
     }
 }
 
-// The result of a run; `left` is how many words are left.
+// The result of a run; `left` is how many words are left. `code` and `wanted` are 0 at the ends that have none, and no Option: they are C's numbers
+// and those of the contracts' record.
 #[derive(Clone, Copy)]
 pub struct Report {
     pub end: End,
@@ -41,63 +47,53 @@ pub struct Report {
     pub wanted: usize,
 }
 
-// What follows a move: the run's end, or the step is made.
-#[derive(Clone, Copy)]
-pub enum Choice {
-    Stop(Report),
-    Go(Change, Counts),
-}
-
-// The run ends, with so many words left.
-fn stop(end: End, code: u32, made: Counts, left: usize, wanted: usize) -> Choice
-    ensures { result ≡ stop end code made left wanted }
-{
-    Choice::Stop(Report {
-        end: end,
-        code: code,
-        made: made,
-        left: left,
-        wanted: wanted,
-    })
-}
-
-// "steps made equal to the limit, as spent; a wrong whose turn it is, as error": in one step of its own, which is among the others.
-fn raise(code: u32, made: Counts, left: usize, limit: u32) -> Choice
-    requires { UpTo limit made }
-    ensures { result ≡ raise code left made limit }
-{
-    if made.steps == limit {
-        return stop(End::Spent, 0, made, left, 0);
+// Reports without a code.
+impl Report {
+    // The result of a run that leaves so many words.
+    fn leaving(end: End, made: Counts, left: usize, wanted: usize) -> Report
+        ensures { result ≡ leaving end made left wanted }
+    {
+        Report {
+            end,
+            code: 0,
+            made,
+            left,
+            wanted,
+        }
     }
-    let more = counted(Class::Other, made, limit);
-    stop(End::Error, code, more, 0, 0)
 }
 
-// "steps made equal to the limit, as spent; a next term of more words than capacity, as full; else the step is made".
-fn go(change: Change, made: Counts, n: usize, cap: usize, limit: u32) -> Choice
-    requires { UpTo limit made }
-    ensures { result ≡ go change n cap made limit }
-{
-    if limit == made.steps {
-        return stop(End::Spent, 0, made, n, 0);
-    }
-    if change.size <= cap {
-        let more = counted(word_class(change.word), made, limit);
-        return Choice::Go(change, more);
-    }
-    stop(End::Full, 0, made, n, change.size)
-}
-
-// "a value ends as value", and the rest in its order: what follows a move of the term of n words.
-pub fn decide(moved: Move, n: usize, cap: usize, made: Counts, limit: u32) -> Choice
+// What follows a move of the term of n words: the run ends, or the step is made and counted. "a value ends as value; steps made equal to the
+// limit, as spent; a wrong whose turn it is, as error", in a step of its own, which is among the others; "a next term of more words than
+// capacity, as full; else the step is made". No accepted recipe comes to a term that is stuck.
+pub fn decide(
+    moved: Move,
+    n: usize,
+    cap: usize,
+    made: Counts,
+    limit: u32,
+) -> ControlFlow<Report, (Change, Counts)>
     requires { UpTo limit made }
     ensures { result ≡ decide moved n cap made limit }
 {
     match moved {
-        Move::Value => stop(End::Value, 0, made, n, 0),
-        Move::Raised(code) => raise(code, made, n, limit),
-        Move::Next(change) => go(change, made, n, cap, limit),
-        Move::Stuck => stop(End::Spent, 0, made, n, 0),
+        Move::Value => Break(Report::leaving(End::Value, made, n, 0)),
+        Move::Stuck => Break(Report::leaving(End::Spent, made, n, 0)),
+        _ if made.steps == limit => Break(Report::leaving(End::Spent, made, n, 0)),
+        Move::Raised(code) => {
+            let more = counted(Class::Other, made, limit);
+            Break(Report {
+                end: End::Error,
+                code,
+                made: more,
+                left: 0,
+                wanted: 0,
+            })
+        }
+        Move::Next(change) if change.size <= cap => {
+            Continue((change, counted(word_class(change.word), made, limit)))
+        }
+        Move::Next(change) => Break(Report::leaving(End::Full, made, n, change.size)),
     }
 }
 
@@ -105,14 +101,5 @@ pub fn decide(moved: Move, n: usize, cap: usize, made: Counts, limit: u32) -> Ch
 pub fn capacity(first: usize, second: usize) -> usize
     ensures { result ≡ capacity first second }
 {
-    if first <= second {
-        if first <= 16384 {
-            return first;
-        }
-        return 16384;
-    }
-    if second <= 16384 {
-        return second;
-    }
-    16384
+    first.min(second).min(16384)
 }

@@ -4,7 +4,7 @@ use mathlib.Core.List.{List, [], ◌∷◌}
 use mathlib.Core.Path.{◌≡◌, refl, sym, ap, ◌∙◌, subst}
 use native.Mathlib.Omega.{arith}
 use lib.ListN.{length, take, drop}
-use lib.Seq.{sets-eq, take_at, take-nil}
+use lib.Seq.{take-nil}
 use borrow.Author.Tests.{le-leb, lt-leb}
 use Rattle.calculus.specs.Trees.{ml, Term}
 use Rattle.calculus.specs.Words.{words, size}
@@ -15,13 +15,11 @@ use Rattle.calculus.specs.File.{words_of, Recipe, check, run_in, operate}
 use Rattle.calculus.proofs.Verdicts.{not_both, passed_injective}
 use Rattle.calculus.proofs.Sizes.{tree_length}
 use Rattle.calculus.proofs.Checks.{passes_in_order}
+use Rattle.std.specs.Prelude.{Result, Ok, Err}
 use Rattle.nodes.specs.declared.refusals.Refusal.{Refusal}
 use Rattle.nodes.specs.Refusals.{number_of, place_of, refusal}
-use Rattle.writing.specs.Wrote.{Wrote}
 use Rattle.checker.proofs.Admitting.{term_at, Admits}
 use Rattle.ends.specs.declared.Report.{Report}
-use Rattle.engine.specs.declared.runs.Answer.{Answer}
-use Rattle.engine.specs.declared.runs.Answer.TheVariants as a
 use Rattle.engine.specs.Buffered.{Settled}
 use Rattle.calculus.specs.File.{padded}
 use Rattle.engine.specs.Ran.{Reduced}
@@ -30,11 +28,11 @@ use Rattle.engine.specs.Answered.{Answered, Begun}
 
 -- A refusal, with both buffers all zero.
 pub answered_refused : {r : Refusal} {first second first' second' : List ℕ} → Settled [] first second first' second'
-    → Answered (refusal r) (a.Refused r) first second first' second'
+    → Answered (refusal r) (Err r) first second first' second'
 answered_refused s = record { answer_is = refl; first_is = s.first_is; second_is = s.second_is }
 
-answered_as : {v w : Verdict spec.Result} {x : Answer} {first second first' second' : List ℕ} → v ≡ w → Answered v x first second first' second'
-    → Answered w x first second first' second'
+answered_as : {v w : Verdict spec.Result} {x : Result Report Refusal} {first second first' second' : List ℕ}
+    → v ≡ w → Answered v x first second first' second' → Answered w x first second first' second'
 answered_as {x = x} {first = first} {second = second} {first' = first'} {second' = second'} e h =
     subst (λ (u : Verdict spec.Result). Answered u x first second first' second') e h
 
@@ -67,21 +65,20 @@ unfolding run_in
 fitting limit cap x h = rw (le-leb (size x.1) cap h)
 
 -- Refusal 8.
-pub begun_refused : {limit : ℕ} {ws first second first' second' : List ℕ} {x : Answer} → spec.capacity (length first) (length second) < length ws
+pub begun_refused : {limit : ℕ} {ws first second first' second' : List ℕ} {x : Result Report Refusal}
+    → spec.capacity (length first) (length second) < length ws
     → Answered (refused 8 0) x first second first' second' → Begun limit ws x first second first' second'
 begun_refused {limit} {ws} {first} {second} h r =
     let cap = spec.capacity (length first) (length second) in
     record { of = λ e τ q g. answered_as (over limit cap (τ, e) (omega (arith, h, ap length q, words_size e))) r }
 
 -- The term's words are copied to the first buffer and reduced there.
-pub begun_ended : {limit cap count k : ℕ} {ws first second first₁ first' second' : List ℕ} {x : Report}
+pub begun_ended : {limit cap count : ℕ} {ws first second first₁ first' second' : List ℕ} {x : Report}
     → cap ≡ spec.capacity (length first) (length second)
-    → count ≡ length ws → count ≤ cap → Wrote first 0 ws k first₁ → length first₁ ≡ length first
+    → count ≡ length ws → count ≤ cap → take count first₁ ≡ ws → length first₁ ≡ length first
     → Reduced limit (spec.capacity (length first₁) (length second)) (take count first₁) x first₁ second first' second'
-    → Begun limit ws (a.Ended x) first second first' second'
-begun_ended {limit} {cap} {count} {k} {ws} {first} {second} {first₁} {first'} {second'} {x} c n fits w l r =
-    let front : take count first₁ ≡ ws =
-    ap (take count) (w.stored ∙ sets-eq ws first 0 (omega arith)) ∙ take_at ws (drop (0 + length ws) first) count (sym n) in
+    → Begun limit ws (Ok x) first second first' second'
+begun_ended {limit} {cap} {count} {ws} {first} {second} {first₁} {first'} {second'} {x} c n fits front l r =
     let same : spec.capacity (length first₁) (length second) ≡ spec.capacity (length first) (length second) =
     ap (λ (m : ℕ). spec.capacity m (length second)) l in
     record {
@@ -103,7 +100,7 @@ pub term_within : {bytes all : List ℕ} {types n : ℕ} → Admits bytes all ty
 term_within m = let o = m.opened in (omega (arith, (term_at o).within, o.count_is), o.few, o.array_is)
 
 -- A file's bytes: refused by the check, or its term begun.
-module _ (bytes : List ℕ) (limit : ℕ) {first second first' second' : List ℕ} {x : Answer} where
+module _ (bytes : List ℕ) (limit : ℕ) {first second first' second' : List ℕ} {x : Result Report Refusal} where
   pub run_refused : (r : Refusal) → check bytes ≡ refusal r → Answered (refusal r) x first second first' second'
       → Answered (operate bytes limit (length first) (length second)) x first second first' second'
   unfolding operate

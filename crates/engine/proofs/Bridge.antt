@@ -7,7 +7,7 @@ use Rattle.calculus.specs.Words.{words}
 use Rattle.calculus.specs.Reduction.{Outcome, value, raised, next, stuck, step}
 use Rattle.calculus.specs.Classes.{word_class, turn_class, next_class}
 use Rattle.calculus.proofs.Classes.{word_class_lem}
-use Rattle.reducer.specs.declared.turns.From.{From}
+use Rattle.reducer.specs.declared.turns.Start.{Start}
 use Rattle.reducer.specs.declared.steps.Change.{Change}
 use Rattle.reducer.specs.declared.steps.Move.{Move}
 use Rattle.reducer.specs.Standing.{Standing}
@@ -25,7 +25,7 @@ by_change e c =
       standing = c.resumes;
     }
 
-pub moved : {ws b b' : List ℕ} {from : From} {r : Move} → reducer.OneStep ws from b r b' → (e : Term ml) → ws ≡ words e
+pub moved : {ws b b' : List ℕ} {from : Start} {r : Move} → reducer.OneStep ws from b r b' → (e : Term ml) → ws ≡ words e
     → Standing e from.place from.due → Moved (next_class e) (step e) b r b'
 moved {ws} {b} {b'} {from} {r} s e q at = by (step e) (s.of e q at)
   where

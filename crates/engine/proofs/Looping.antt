@@ -17,20 +17,19 @@ use Rattle.calculus.proofs.Sizes.{tree_length}
 use Rattle.calculus.proofs.Counting.{adds_up_more}
 use Rattle.calculus.proofs.Soundness.{Kept, sound}
 use Rattle.calculus.proofs.Ranges.{OutcomeInRange, step_in_range}
-use Rattle.reducer.specs.declared.turns.From.{From}
+use Rattle.reducer.specs.declared.turns.Start.{Start}
 use Rattle.reducer.specs.declared.steps.Change.{Change}
 use Rattle.reducer.specs.declared.steps.Move.{Move}
 use Rattle.reducer.specs.Standing.{root, Standing}
 use Rattle.reducer.specs.Placed.{beginning}
-use Rattle.reducer.specs.Moves.{Few}
+use Rattle.reducer.specs.Moves.{FewDueNext}
 use Rattle.counts.specs.declared.Counts.{Counts}
 use Rattle.ends.specs.declared.Report.{Report}
-use Rattle.ends.specs.declared.Choice.TheVariants.{Stop, Go}
-use Rattle.engine.specs.declared.reductions.Halt.{Halt}
+use Rattle.std.specs.declared.ops.ControlFlow.TheVariants.{Continue, Break}
 use Rattle.calculus.specs.File.{padded}
 use Rattle.engine.specs.Buffered.{Room, held, Settled}
 use Rattle.ends.specs.Decided.{decide}
-use Rattle.engine.specs.Ran.{Good, Advanced, Ran, Reduced}
+use Rattle.engine.specs.Ran.{Good, Advanced, Reduced}
 use Rattle.counts.specs.Counting.{counts_of, counted, UpTo}
 use Rattle.ends.specs.Results.{line_of, told}
 use Rattle.engine.proofs.Bridge.{moved}
@@ -49,7 +48,7 @@ size_words : (e : Term ml) → length (words e) ≡ size e
 size_words e = omega (arith, tree_length (term ml) e [])
 
 -- The term at hand: its words are the first n of the buffer that holds it, and the whole run is the run from it.
-pub record At (whole : spec.Result) (limit cap : ℕ) (made : Counts) (n : ℕ) (from : From) (b : List ℕ) : Type 0 where
+pub record At (whole : spec.Result) (limit cap : ℕ) (made : Counts) (n : ℕ) (from : Start) (b : List ℕ) : Type 0 where
   pub term : Term ml
   pub good : Good term
   pub words_are : take n b ≡ words term
@@ -57,7 +56,7 @@ pub record At (whole : spec.Result) (limit cap : ℕ) (made : Counts) (n : ℕ) 
   pub standing : Standing term from.place from.due
 
 pub record Running (first₀ second₀ : List ℕ) (count cap limit : ℕ) (first second : List ℕ) (n : ℕ) (made : Counts) (front : Bool)
-    (from : From) : Type 0 where
+    (from : Start) : Type 0 where
   pub first_length : length first ≡ length first₀
   pub second_length : length second ≡ length second₀
   pub room : n ≤ cap
@@ -90,8 +89,12 @@ running_start first second count cap limit h =
       few = omega arith;
     }
 
+-- Both buffers have room for their capacity.
+pub room_of : (first second : List ℕ) {cap : ℕ} → cap ≡ spec.capacity (length first) (length second) → Room first second cap
+room_of first second e = record { in_first = omega (arith, e); in_second = omega (arith, e); few = omega (arith, e) }
+
 -- The buffer lengths after a step: one stays as it is, the other keeps its length.
-module _ {first₀ second₀ first second first' second' : List ℕ} {count cap limit n : ℕ} {made : Counts} {front : Bool} {from : From} {r : Move}
+module _ {first₀ second₀ first second first' second' : List ℕ} {count cap limit n : ℕ} {made : Counts} {front : Bool} {from : Start} {r : Move}
     (i : Running first₀ second₀ count cap limit first second n made front from) (s : Advanced front n from first second r first' second')
     (lent : Room first₀ second₀ cap) where
   held_long : n ≤ length (held front first second)
@@ -115,7 +118,7 @@ module _ {first₀ second₀ first second first' second' : List ℕ} {count cap 
     outcome : Moved (next_class a.term) (step a.term) (held (not front) first second) r (held (not front) first' second')
     outcome = moved s.stepped a.term a.words_are a.standing
 
-    at_next : (y : Change) (more : Counts) → decide r n cap made limit ≡ Go y more
+    at_next : (y : Change) (more : Counts) → decide r n cap made limit ≡ Continue (y, more)
         → At whole limit cap more y.size y.back (held (not front) first' second')
     at_next y more q =
         let g = goes a.term n cap limit made size_of i.counted_so.most (limit - made.steps) (step a.term) _ _ r y more refl outcome q in
@@ -133,7 +136,7 @@ module _ {first₀ second₀ first second first' second' : List ℕ} {count cap 
           standing = g.by_change.standing;
         }
 
-    at_end : (x : Report) → decide r n cap made limit ≡ Stop x
+    at_end : (x : Report) → decide r n cap made limit ≡ Break x
         → (told x ≡ line_of whole) × (take x.left (held front first' second') ≡ whole.left)
     at_end x q =
         let f = stops a.term n cap limit made size_of i.counted_so.most (limit - made.steps) (step a.term) _ _ r x refl outcome q in
@@ -145,7 +148,7 @@ module _ {first₀ second₀ first second first' second' : List ℕ} {count cap 
               ∙ f.left_is ∙ ap (λ (y : spec.Result). y.left) w,
         )
 
-  pub running_next : (y : Change) (more : Counts) → decide r n cap made limit ≡ Go y more → length first' ≡ length first
+  pub running_next : (y : Change) (more : Counts) → decide r n cap made limit ≡ Continue (y, more) → length first' ≡ length first
       → length second' ≡ length second → Running first₀ second₀ count cap limit first' second' y.size more (not front) y.back
   running_next y more q p o =
       let f = go_fits n cap limit made i.counted_so.most r y more q in
@@ -155,36 +158,34 @@ module _ {first₀ second₀ first second first' second' : List ℕ} {count cap 
         room = f.1;
         counted_so = up_to_more (word_class y.word) i.counted_so f.2 f.3;
         at = λ e w g. at_next (i.at e w g) y more q;
-        few = subst Few f.0 s.few;
+        few = subst FewDueNext f.0 s.few;
       }
 
-  pub running_end : (x : Report) → decide r n cap made limit ≡ Stop x
-      → Ran limit cap (take count first₀) (record { report = x; front = front }) first' second'
-  running_end x q =
+  -- The run ends: the buffers are settled after the last step.
+  pub running_end : {first₂ second₂ : List ℕ} (x : Report) → decide r n cap made limit ≡ Break x → length first' ≡ length first
+      → length second' ≡ length second → Settled (take x.left (held front first' second')) first' second' first₂ second₂
+      → Reduced limit cap (take count first₀) x first₀ second₀ first₂ second₂
+  running_end x q p o s =
       record {
-        short = omega (arith, end_short n cap limit made i.counted_so.most r x q, i.room);
-        of = λ e w g. let a = at_end (i.at e w g) x q in record { told_is = a.0; left_is = a.1 };
+        of = λ e w g.
+            let a = at_end (i.at e w g) x q in (
+              a.0,
+              record {
+                first_is =
+                    s.first_is ∙ ap (λ (k : ℕ). padded k (take x.left (held front first' second'))) (p ∙ i.first_length)
+                    ∙ ap (padded (length first₀)) a.1;
+                second_is = s.second_is ∙ ap (λ (k : ℕ). padded k []) (o ∙ i.second_length);
+              },
+            );
       }
 
--- The loop, and then the buffers settled.
-pub reduced : {limit cap : ℕ} {ws first second first₁ second₁ first₂ second₂ : List ℕ} {h : Halt} → cap ≡ spec.capacity (length first) (length second)
-    → Ran limit cap ws h first₁ second₁ → length first₁ ≡ length first → length second₁ ≡ length second
-    → Settled (take h.report.left (held h.front first₁ second₁)) first₁ second₁ first₂ second₂
-    → Reduced limit (spec.capacity (length first) (length second)) ws h.report first second first₂ second₂
-reduced {limit} {cap} {ws} {first} {second} {first₁} {second₁} {first₂} {second₂} {h} c r p q s =
-    record {
-      of = λ e w g.
-          let x = r.of e w g in
-          subst
-          (λ (k : ℕ).
-          (told h.report ≡ line_of (spec.run limit k spec.uncounted e))
-          × Settled (spec.run limit k spec.uncounted e).left first second first₂ second₂) c (
-            x.told_is,
-            record {
-              first_is =
-                  s.first_is ∙ ap (λ (k : ℕ). padded k (take h.report.left (held h.front first₁ second₁))) p
-                  ∙ ap (padded (length first)) x.left_is;
-              second_is = s.second_is ∙ ap (λ (k : ℕ). padded k []) q;
-            },
-          );
-    }
+  -- What is left is in both buffers.
+  pub end_room : (x : Report) → decide r n cap made limit ≡ Break x → length first' ≡ length first → length second' ≡ length second
+      → Room first' second' x.left
+  end_room x q p o =
+      let l = end_short n cap limit made i.counted_so.most r x q in
+      record {
+        in_first = omega (arith, l, p, i.first_length, i.room, lent.in_first);
+        in_second = omega (arith, l, o, i.second_length, i.room, lent.in_second);
+        few = omega (arith, l, i.room, lent.few);
+      }

@@ -21,8 +21,8 @@ use Rattle.counts.specs.declared.Counts.{Counts}
 use Rattle.ends.specs.declared.End.{End}
 use Rattle.ends.specs.declared.End.TheVariants as ends
 use Rattle.ends.specs.declared.Report.{Report}
-use Rattle.ends.specs.declared.Choice.TheVariants.{Stop, Go}
-use Rattle.ends.specs.Decided.{stop, go_on, decide}
+use Rattle.std.specs.declared.ops.ControlFlow.TheVariants.{Continue, Break}
+use Rattle.ends.specs.Decided.{Choice, stop, leaving, failing, go_on, decide}
 use Rattle.counts.specs.Counting.{counts_of, counted}
 use Rattle.ends.specs.Results.{line_of, end_of, told}
 
@@ -56,8 +56,12 @@ pub record Going (r : spec.Result) (class : Class) (o : Outcome ml) (b b' : List
   pub counted_is : more ≡ counted class made
   pub same : r ≡ spec.run (limit - (made.steps + 1)) cap (counts_of (counted class made)) term
 
-no_both : {y : Change} {more : Counts} {x : Report} → Go y more ≡ Stop x → ⊥
+no_both : {g : Change × Counts} {x : Report} → ◌≡◌ {A = Choice} (Continue g) (Break x) → ⊥
 no_both q = let z : ◌≡◌ {A = ℕ} 0 1 = cc in omega arith
+
+both_same : {x y : Change} {n more : Counts} → ◌≡◌ {A = Choice} (Continue (x, n)) (Continue (y, more)) → (x ≡ y) × (more ≡ n)
+both_same {x} {y} {n} {more} q =
+    let p : ◌≡◌ {A = Change × Counts} (x, n) (y, more) = cc in (ap (λ g. g.0) p, sym (ap (λ g. g.1) p))
 
 -- The run of a term with k steps left, by the outcome of its step.
 abbrev pub by_outcome : ℕ → ℕ → spec.Counts → Term ml → Outcome ml → spec.Result
@@ -71,32 +75,33 @@ run_by (suc k) cap made e = refl
 
 module _ (e : Term ml) (n cap limit : ℕ) (made : Counts) (size_is : n ≡ length (words e)) (le : made.steps ≤ limit) where
   -- a report that leaves the term
-  leaves : (x : End) (w : ℕ) (y : Report) → stop x 0 made n w ≡ Stop y → Finished (spec.ended (end_of x) 0 (counts_of made) (words e) w) (words e) y
+  leaves : (x : End) (w : ℕ) (y : Report) → stop (leaving x made n w) ≡ Break y
+      → Finished (spec.ended (end_of x) 0 (counts_of made) (words e) w) (words e) y
   leaves x w y q =
-      let z : record { end = x; code = 0; made = made; left = n; wanted = w } ≡ y = cc in
+      let z : leaving x made n w ≡ y = cc in
       subst (Finished (spec.ended (end_of x) 0 (counts_of made) (words e) w) (words e)) z
       (record { told_is = rw size_is; left_is = take_all n (words e) (omega arith); short = omega arith })
 
-  errs : (c : ℕ) (y : Report) → stop ends.Error c (counted other made) 0 0 ≡ Stop y
+  errs : (c : ℕ) (y : Report) → stop (failing c made) ≡ Break y
       → Finished (spec.ended spec.error c (spec.counted other (counts_of made)) [] 0) (words e) y
   errs c y q =
-      let z : record { end = ends.Error; code = c; made = counted other made; left = 0; wanted = 0 } ≡ y = cc in
+      let z : failing c made ≡ y = cc in
       subst (Finished (spec.ended spec.error c (spec.counted other (counts_of made)) [] 0) (words e)) z
       (record { told_is = refl; left_is = refl; short = omega arith })
 
   fills : (b : Bool) (u : Term ml) (g : Term ml → spec.Result) (x : Change) (y : Report)
-      → cond b (go_on x made) (stop ends.Full 0 made n (size u)) ≡ Stop y → Finished (spec.if_fits b (counts_of made) e u g) (words e) y
+      → cond b (go_on x made) (stop (leaving ends.Full made n (size u))) ≡ Break y → Finished (spec.if_fits b (counts_of made) e u g) (words e) y
   fills true u g x y q = absurd (no_both q)
   fills false u g x y q = leaves ends.Full (size u) y q
 
   fills_by : (u : Term ml) (g : Term ml → spec.Result) (x : Change) (k : ℕ) (y : Report) → k ≡ size u
-      → cond (leb k cap) (go_on x made) (stop ends.Full 0 made n k) ≡ Stop y
+      → cond (leb k cap) (go_on x made) (stop (leaving ends.Full made n k)) ≡ Break y
       → Finished (spec.if_fits (leb (size u) cap) (counts_of made) e u g) (words e) y
   fills_by u g x k y h q = fills (leb (size u) cap) u g x y (rw h at q)
 
   -- the run ends here
   pub stops : (k : ℕ) (o : Outcome ml) (b b' : List ℕ) (r : Move) (x : Report) → k ≡ limit - made.steps → Moved (next_class e) o b r b'
-      → decide r n cap made limit ≡ Stop x
+      → decide r n cap made limit ≡ Break x
       → Finished (by_outcome k cap (counts_of made) e o) (words e) x
   stops zero value b b' r x i h q = leaves ends.Value 0 x (rw h at q)
   stops (suc k) value b b' r x i h q = leaves ends.Value 0 x (rw h at q)
@@ -110,19 +115,19 @@ module _ (e : Term ml) (n cap limit : ℕ) (made : Counts) (size_is : n ≡ leng
   stops (suc k) stuck b b' r x i h q = leaves ends.Spent 0 x (rw h at q)
 
   fits : (b : Bool) (u : Term ml) (g : Term ml → spec.Result) (x y : Change) (more : Counts)
-      → cond b (go_on x made) (stop ends.Full 0 made n (size u)) ≡ Go y more
+      → cond b (go_on x made) (stop (leaving ends.Full made n (size u))) ≡ Continue (y, more)
       → (spec.if_fits b (counts_of made) e u g ≡ g u) × (x ≡ y) × (more ≡ counted (word_class x.word) made)
-  fits true u g x y more q = (refl, cc, cc)
+  fits true u g x y more q = let s = both_same q in (refl, s.0, s.1)
   fits false u g x y more q = absurd (no_both (sym q))
 
   fits_by : (u : Term ml) (g : Term ml → spec.Result) (x y : Change) (k : ℕ) (more : Counts) → k ≡ size u
-      → cond (leb k cap) (go_on x made) (stop ends.Full 0 made n k) ≡ Go y more
+      → cond (leb k cap) (go_on x made) (stop (leaving ends.Full made n k)) ≡ Continue (y, more)
       → (spec.if_fits (leb (size u) cap) (counts_of made) e u g ≡ g u) × (x ≡ y) × (more ≡ counted (word_class x.word) made)
   fits_by u g x y k more h q = fits (leb (size u) cap) u g x y more (rw h at q)
 
   -- the run goes on
   pub goes : (k : ℕ) (o : Outcome ml) (b b' : List ℕ) (r : Move) (y : Change) (more : Counts) → k ≡ limit - made.steps → Moved (next_class e) o b r b'
-      → decide r n cap made limit ≡ Go y more → Going (by_outcome k cap (counts_of made) e o) (next_class e) o b b' cap limit made y more
+      → decide r n cap made limit ≡ Continue (y, more) → Going (by_outcome k cap (counts_of made) e o) (next_class e) o b b' cap limit made y more
   goes zero value b b' r y more i h q = absurd (no_both (sym (rw h at q)))
   goes (suc k) value b b' r y more i h q = absurd (no_both (sym (rw h at q)))
   goes zero (raised c) b b' r y more i h q = absurd (no_both (sym (rw (h, eq-eqb made.steps limit (omega arith)) at q)))
@@ -148,22 +153,23 @@ module _ (n cap limit : ℕ) (made : Counts) (le : made.steps ≤ limit) where
   abbrev Made : Move → Change → Counts → Type 0
   Made r y more = (r ≡ m.Next y) × (y.size ≤ cap) × (made.steps < limit) × (more ≡ counted (word_class y.word) made)
 
-  pub go_fits : (r : Move) (y : Change) (more : Counts) → decide r n cap made limit ≡ Go y more → Made r y more
+  pub go_fits : (r : Move) (y : Change) (more : Counts) → decide r n cap made limit ≡ Continue (y, more) → Made r y more
   go_fits m.Value y more q = absurd (no_both (sym q))
   go_fits (m.Raised c) y more q = by (eqb made.steps limit) q
     where
-      by : (b : Bool) → cond b (stop ends.Spent 0 made n 0) (stop ends.Error c (counted other made) 0 0) ≡ Go y more → Made (m.Raised c) y more
+      by : (b : Bool) → cond b (stop (leaving ends.Spent made n 0)) (stop (failing c made)) ≡ Continue (y, more) → Made (m.Raised c) y more
       by true g = absurd (no_both (sym g))
       by false g = absurd (no_both (sym g))
   go_fits (m.Next x) y more q = by (eqb made.steps limit) refl (leb x.size cap) refl q
     where
       by : (b : Bool) → eqb made.steps limit ≡ b → (d : Bool) → leb x.size cap ≡ d
-          → cond b (stop ends.Spent 0 made n 0) (cond d (go_on x made) (stop ends.Full 0 made n x.size)) ≡ Go y more
+          → cond b (stop (leaving ends.Spent made n 0)) (cond d (go_on x made) (stop (leaving ends.Full made n x.size))) ≡ Continue (y, more)
           → Made (m.Next x) y more
       by true e d f g = absurd (no_both (sym g))
       by false e true f g =
-          let i : x ≡ y = cc in
-          let k : more ≡ counted (word_class x.word) made = cc in
+          let s = both_same g in
+          let i = s.0 in
+          let k = s.1 in
           let l = eqb-false made.steps limit e in (
             ap m.Next i,
             subst (λ (z : Change). z.size ≤ cap) i (leb-true x.size cap f),
@@ -173,20 +179,20 @@ module _ (n cap limit : ℕ) (made : Counts) (le : made.steps ≤ limit) where
       by false e false f g = absurd (no_both (sym g))
   go_fits m.Stuck y more q = absurd (no_both (sym q))
 
-  left_by_lem : (x y : Report) → Stop x ≡ Stop y → x.left ≤ n → y.left ≤ n
+  left_by_lem : (x y : Report) → stop x ≡ stop y → x.left ≤ n → y.left ≤ n
   left_by_lem x y q h = let z : x ≡ y = cc in subst (λ (r : Report). r.left ≤ n) z h
 
-  pub end_short : (r : Move) (y : Report) → decide r n cap made limit ≡ Stop y → y.left ≤ n
+  pub end_short : (r : Move) (y : Report) → decide r n cap made limit ≡ Break y → y.left ≤ n
   end_short m.Value y q = left_by_lem _ y q (omega arith)
   end_short (m.Raised c) y q = by (eqb made.steps limit) q
     where
-      by : (b : Bool) → cond b (stop ends.Spent 0 made n 0) (stop ends.Error c (counted other made) 0 0) ≡ Stop y → y.left ≤ n
+      by : (b : Bool) → cond b (stop (leaving ends.Spent made n 0)) (stop (failing c made)) ≡ Break y → y.left ≤ n
       by true g = left_by_lem _ y g (omega arith)
       by false g = left_by_lem _ y g (omega arith)
   end_short (m.Next x) y q = by (eqb made.steps limit) (leb x.size cap) q
     where
-      by : (b d : Bool) → cond b (stop ends.Spent 0 made n 0) (cond d (go_on x made) (stop ends.Full 0 made n x.size))
-          ≡ Stop y → y.left ≤ n
+      by : (b d : Bool) → cond b (stop (leaving ends.Spent made n 0)) (cond d (go_on x made) (stop (leaving ends.Full made n x.size)))
+          ≡ Break y → y.left ≤ n
       by true d g = left_by_lem _ y g (omega arith)
       by false true g = absurd (no_both g)
       by false false g = left_by_lem _ y g (omega arith)

@@ -1,15 +1,14 @@
 -- A run in two buffers: what the loop leaves.
-use Rattle.std.specs.Prelude.{ℕ, ◌≤◌, Bool, not, List, [], ◌≡◌, take}
+use Rattle.std.specs.Prelude.{ℕ, Bool, not, List, [], ◌≡◌, take}
 use Rattle.calculus.specs.Trees.{Ty, ml, Term}
 use Rattle.calculus.specs.Words.{words}
 use Rattle.calculus.specs.Limits.{InRange}
 use Rattle.calculus.specs.Typing.{Typed}
 use Rattle.calculus.specs.Run as spec
-use Rattle.reducer.specs.declared.turns.From.{From}
+use Rattle.reducer.specs.declared.turns.Start.{Start}
 use Rattle.reducer.specs.declared.steps.Move.{Move}
-use Rattle.reducer.specs.Moves.{Few, OneStep}
+use Rattle.reducer.specs.Moves.{FewDueNext, OneStep}
 use Rattle.ends.specs.declared.Report.{Report}
-use Rattle.engine.specs.declared.reductions.Halt.{Halt}
 use Rattle.ends.specs.Results.{line_of, told}
 use Rattle.engine.specs.Buffered.{held, Settled}
 
@@ -20,19 +19,10 @@ pub record Good (e : Term ml) : Type 0 where
   pub typed : Typed [] e type
 
 -- A step of the first n words of the buffer that holds the term, into the other.
-pub record Advanced (front : Bool) (n : ℕ) (from : From) (first second : List ℕ) (r : Move) (first' second' : List ℕ) : Type 0 where
+pub record Advanced (front : Bool) (n : ℕ) (from : Start) (first second : List ℕ) (r : Move) (first' second' : List ℕ) : Type 0 where
   pub kept : held front first' second' ≡ held front first second
-  pub few : Few r
+  pub few : FewDueNext r
   pub stepped : OneStep (take n (held front first second)) from (held (not front) first second) r (held (not front) first' second')
-
--- Where the loop halts: the report and the term left are the run's.
-pub record Halted (r : spec.Result) (h : Halt) (first' second' : List ℕ) : Type 0 where
-  pub told_is : told h.report ≡ line_of r
-  pub left_is : take h.report.left (held h.front first' second') ≡ r.left
-
-pub record Ran (limit cap : ℕ) (ws : List ℕ) (h : Halt) (first' second' : List ℕ) : Type 0 where
-  pub short : h.report.left ≤ cap
-  pub of : (e : Term ml) → ws ≡ words e → Good e → Halted (spec.run limit cap spec.uncounted e) h first' second'
 
 -- A run of the term whose words ws stand first in the first buffer: the report, and both buffers.
 pub record Reduced (limit cap : ℕ) (ws : List ℕ) (x : Report) (first second first' second' : List ℕ) : Type 0 where

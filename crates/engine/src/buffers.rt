@@ -3,14 +3,15 @@
 ghost use Rattle.std.specs.Prelude.{take};
 ghost use Rattle.engine.specs.Buffered.{Room, held, Settled};
 
-use writing::{clear, copy};
+use writing::Writer;
 
 // The first n words of the first buffer stay; every other word of both becomes zero.
+#[tactic(auto, using(writing::proofs::Stores::padded_is, calculus::proofs::Padding::padded_none))]
 pub fn keep(first: &mut [u32], second: &mut [u32], n: usize)
     ensures { Settled (take n first.old) first.old second.old first.new second.new }
 {
-    clear(first, n);
-    clear(second, 0);
+    Writer::from(first, n).fill_rest(0);
+    second.fill(0);
 }
 
 // The first n words of the buffer that holds the term stand first in the first buffer; every other word of both becomes zero.
@@ -19,10 +20,8 @@ pub fn settle(front: bool, first: &mut [u32], second: &mut [u32], n: usize)
     ensures { Settled (take n (held front first.old second.old))
         first.old second.old first.new second.new }
 {
-    if front {
-        keep(first, second, n);
-        return;
+    if !front {
+        first[..n].copy_from_slice(&second[..n]);
     }
-    copy(&second[..n], first, 0);
     keep(first, second, n);
 }

@@ -5,26 +5,23 @@ use mathlib.Core.Path.{◌≡◌, sym, ap, ◌∙◌, subst}
 use native.Mathlib.Omega.{arith}
 use lib.ListN.{length}
 use Rattle.calculus.specs.Verdicts.{Verdict, refused, passed, and_then}
-use Rattle.calculus.specs.Run.{Result, capacity}
+use Rattle.std.specs.Prelude.{Result, Ok, Err}
+use Rattle.calculus.specs.Run as run
+use Rattle.calculus.specs.Run.{capacity}
 use Rattle.calculus.specs.File.{Recipe}
 use Rattle.calculus.proofs.Bounds.{operate_bounded}
 use Rattle.calculus.proofs.Refusing.{PlaceWithin}
 use Rattle.ends.specs.declared.Report.{Report}
 use Rattle.ends.specs.Results.{Line, line_of, told}
 use Rattle.charges.specs.Prices.{Prices}
-use Rattle.charges.specs.declared.Charges.{Charges}
 use Rattle.pricing.specs.Pricing.{Bill, pricing}
-use Rattle.pricing.specs.Refusals.{place_of, refusal}
+use Rattle.pricing.specs.Refusals.{place_of}
 use Rattle.pricing.specs.Laws.{Way, overpriced, unaccepted, of_another_type, too_large, run_of, Costs, nothing, refused_10, charges_of_lem, Gives}
-use Rattle.pricing.specs.Answered.{spoken, ran, charges_of}
+use Rattle.pricing.specs.Answered.{outcome, spoken, ran}
 use Rattle.pricing.specs.declared.Unpriced.{Unpriced}
-use Rattle.pricing.specs.declared.Outcome.{Outcome}
-use Rattle.pricing.specs.declared.Outcome.TheVariants.{Refused, Ended}
+use Rattle.pricing.specs.declared.Priced.{Priced}
 use Rattle.pricing.proofs.Billing.{billed_by}
 use Rattle.pricing.proofs.Laws.{exactly, own_run}
-use Rattle.exports.specs.declared.runs.RecipeRun.{RecipeRun}
-use Rattle.exports.specs.declared.prices.RecipePriced.{RecipePriced}
-use Rattle.exports.specs.Numbers.{ended_numbers, run_numbers, packed_numbers, priced_numbers}
 use Rattle.exports.proofs.Packing.{check_within}
 
 pub lines_within : (v : Verdict Bill) → PlaceWithin 4096 v → PlaceWithin 4096 (and_then (ran v) (λ y. passed (line_of y)))
@@ -35,7 +32,7 @@ module _ (prices : Prices) (bytes : List ℕ) (limit n m : ℕ) where
   abbrev verdict : Verdict Bill
   verdict = pricing prices bytes limit n m
 
-  costs_within : (r : Result) (v : Verdict Bill) → Costs prices r v → PlaceWithin 4096 v
+  costs_within : (r : run.Result) (v : Verdict Bill) → Costs prices r v → PlaceWithin 4096 v
   costs_within r v (nothing h) = tt
   costs_within r v (refused_10 ns y h) = omega arith
   costs_within r v (charges_of_lem ns y h) = tt
@@ -59,19 +56,14 @@ module _ (prices : Prices) (bytes : List ℕ) (limit n m : ℕ) where
       let k = operate_bounded bytes limit n m b.run (own_run.own prices bytes limit n m b q) in
       (omega (arith, l, k.0), omega (arith, w, k.1))
 
-  module _ (o : Outcome) (h : spoken o ≡ and_then (ran verdict) (λ y. passed (line_of y))) where
+  module _ (p : Result Priced Unpriced) (h : spoken (outcome p) ≡ and_then (ran verdict) (λ y. passed (line_of y))) where
+    tells : {q : Result Priced Unpriced} → p ≡ q → spoken (outcome q) ≡ and_then (ran verdict) (λ y. passed (line_of y))
+    tells e = sym (ap (λ (y : Result Priced Unpriced). spoken (outcome y)) e) ∙ h
+
     -- The place of a refusal.
-    pub price_place : (u : Unpriced) → o ≡ Refused u → place_of u ≤ 4096
-    price_place u q = subst (PlaceWithin 4096) (sym (sym (ap spoken q) ∙ h)) (lines_within verdict price_within)
+    pub price_place : (u : Unpriced) → p ≡ Err u → place_of u ≤ 4096
+    price_place u q = subst (PlaceWithin 4096) (sym (tells q)) (lines_within verdict price_within)
 
     -- The words left and the words wanted.
-    pub price_words : (x : Report) → o ≡ Ended x → (x.left ≤ 16384) × (x.wanted ≤ 268435456)
-    price_words x q = let y = billed_by verdict x (sym (ap spoken q) ∙ h) in bill_words y.0 y.1 x y.2
-
-    -- Either case of an answer.
-    module _ {c : Charges} {r : RecipeRun} {x : RecipePriced} (k : c ≡ charges_of verdict) (p : x ≡ packed_numbers r c) where
-      pub priced_refused : (u : Unpriced) → o ≡ Refused u → r ≡ run_numbers (refusal u) → x ≡ priced_numbers verdict
-      priced_refused u q e = p ∙ rw (e, k, ← (ap run_numbers (sym (ap spoken q) ∙ h)))
-
-      pub priced_ended : (y : Report) → o ≡ Ended y → r ≡ ended_numbers y → x ≡ priced_numbers verdict
-      priced_ended y q e = p ∙ rw (e, k, ← (ap run_numbers (sym (ap spoken q) ∙ h)))
+    pub price_words : (x : Priced) → p ≡ Ok x → (x.report.left ≤ 16384) × (x.report.wanted ≤ 268435456)
+    price_words x q = let y = billed_by verdict x.report (tells q) in bill_words y.0 y.1 x.report y.2

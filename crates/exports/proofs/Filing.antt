@@ -5,22 +5,18 @@ use mathlib.Core.Logic.{inl, inr}
 use mathlib.Core.Path.{◌≡◌, sym, ap, ◌∙◌}
 use native.Mathlib.Omega.{arith}
 use lib.ListN.{length}
-use Rattle.calculus.specs.Verdicts.{Verdict}
+use Rattle.std.specs.Prelude.{Result, Ok, Err}
 use Rattle.saving.specs.Saving.{file_bytes, saving}
 use Rattle.saving.specs.Refusals.{number_of, place_of}
 use Rattle.saving.specs.Laws.{Numbered}
 use Rattle.saving.specs.Answered.{spoken, length_of}
 use Rattle.saving.specs.declared.Unsaved.{Unsaved}
-use Rattle.saving.specs.declared.Saved.{Saved}
-use Rattle.saving.specs.declared.Saved.TheVariants.{Refused, File}
 use Rattle.saving.proofs.Saving.{refused_by_lem, passed_by}
 use Rattle.saving.proofs.Laws.{exactly}
-use Rattle.exports.specs.declared.saves.RecipeSaved.{RecipeSaved}
-use Rattle.exports.specs.Numbers.{saved_numbers, saved_numbers_of}
 
-module _ (types terms : List ℕ) (room : ℕ) (a : Saved) (h : spoken a ≡ length_of (saving types terms room)) where
+module _ (types terms : List ℕ) (room : ℕ) (a : Result ℕ Unsaved) (h : spoken a ≡ length_of (saving types terms room)) where
   -- The place of a refusal, and the length of a file.
-  pub save_place : (u : Unsaved) → a ≡ Refused u → place_of u ≤ 4096
+  pub save_place : (u : Unsaved) → a ≡ Err u → place_of u ≤ 4096
   save_place u q =
       let x = exactly types terms room in
       let r = refused_by_lem (saving types terms room) u (sym (ap spoken q) ∙ h) in
@@ -32,11 +28,7 @@ module _ (types terms : List ℕ) (room : ℕ) (a : Saved) (h : spoken a ≡ len
       by (inl i) few = omega (arith, i.2, few i.1)
       by (inr i) few = omega (arith, i.1)
 
-  pub save_bytes : (n : ℕ) → a ≡ File n → n ≤ 16384
+  pub save_bytes : (n : ℕ) → a ≡ Ok n → n ≤ 16384
   save_bytes n q =
       let f = passed_by (saving types terms room) n (sym (ap spoken q) ∙ h) in
       omega (arith, f.2, (((exactly types terms room).saves f.0).0 f.1).0.accepted.filed.most)
-
-  -- Either case of an answer.
-  pub saved_as : (v : Verdict ℕ) (x : RecipeSaved) → spoken a ≡ v → x ≡ saved_numbers v → x ≡ saved_numbers_of types terms room
-  saved_as v x q e = e ∙ ap saved_numbers (sym q ∙ h)

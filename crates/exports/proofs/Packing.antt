@@ -1,5 +1,5 @@
 -- A refusal fits one number, for its place is in the file; a run's numbers fit 32 bits, for its words fit the capacity. Assumes nothing.
-use Prim.Native.Nat.{ℕ, ◌+◌, ◌*◌, ◌≤◌}
+use Prim.Native.Nat.{ℕ, ◌≤◌}
 use mathlib.Core.Bool.{Bool, true, false}
 use mathlib.Core.List.{List}
 use mathlib.Core.Path.{◌≡◌, refl, sym, ap, ◌∙◌, subst}
@@ -8,7 +8,9 @@ use lib.ListN.{length}
 use native.Mathlib.Omega.{arith}
 use Rattle.calculus.specs.Words.{size}
 use Rattle.calculus.specs.Verdicts.{Verdict, refused, passed, and_then, unless}
-use Rattle.calculus.specs.Run.{Result, run, uncounted, capacity}
+use Rattle.std.specs.Prelude.{Result, Ok, Err}
+use Rattle.calculus.specs.Run as runs
+use Rattle.calculus.specs.Run.{run, uncounted, capacity}
 use Rattle.calculus.specs.File.{words_of, is_size, check_words, check, Recipe, run_in, operate}
 use Rattle.calculus.proofs.Verdicts.{not_both, passed_injective}
 use Rattle.calculus.proofs.Bounds.{operate_bounded}
@@ -16,16 +18,11 @@ use Rattle.calculus.proofs.Refusing.{PlaceWithin, words_within}
 use Rattle.calculus.proofs.Files.{size_iff}
 use Rattle.file.proofs.Bytes.{words_length}
 use Rattle.nodes.specs.declared.refusals.Refusal.{Refusal}
-use Rattle.nodes.specs.Refusals.{number_of, place_of}
+use Rattle.nodes.specs.Refusals.{place_of}
 use Rattle.checker.specs.Checks.{checked, accepting}
-use Rattle.checker.specs.declared.Checked.{Checked}
-use Rattle.checker.specs.declared.Checked.TheVariants.{Refused, Accepted}
 use Rattle.ends.specs.declared.Report.{Report}
-use Rattle.engine.specs.declared.runs.Answer.{Answer}
-use Rattle.engine.specs.declared.runs.Answer.TheVariants as answer
 use Rattle.ends.specs.Results.{Line, line_of, told}
 use Rattle.engine.specs.Answered.{spoken}
-use Rattle.exports.specs.Numbers.{check_number}
 
 accepting_within : (b : ℕ) (v : Verdict Recipe) → PlaceWithin b v → PlaceWithin b (accepting v)
 accepting_within b (refused n p) h = h
@@ -46,16 +43,10 @@ check_within bytes = by (is_size (length bytes)) refl
         within_more (length (words_of bytes)) 4096 (check_words (words_of bytes)) few (words_within (words_of bytes))
     by false q = omega arith
 
-pub refused_place : (bytes : List ℕ) (r : Refusal) (x : Checked) → x ≡ Refused r → checked x ≡ accepting (check bytes) → place_of r ≤ 4096
+pub refused_place : (bytes : List ℕ) (r : Refusal) (x : Result (Unit {0}) Refusal) → x ≡ Err r → checked x ≡ accepting (check bytes)
+    → place_of r ≤ 4096
 refused_place bytes r x q e =
     subst (PlaceWithin 4096) (sym (sym (ap checked q) ∙ e)) (accepting_within 4096 (check bytes) (check_within bytes))
-
-pub refused_number : (bytes : List ℕ) (r : Refusal) (x : Checked) (n : ℕ) → x ≡ Refused r → checked x ≡ accepting (check bytes)
-    → n ≡ number_of r + 256 * place_of r → n ≡ check_number (accepting (check bytes))
-refused_number bytes r x n q e p = p ∙ ap check_number (sym (ap checked q) ∙ e)
-
-pub accepted_number : (bytes : List ℕ) (x : Checked) → x ≡ Accepted → checked x ≡ accepting (check bytes) → 0 ≡ check_number (accepting (check bytes))
-accepted_number bytes x q e = ap check_number (sym (ap checked q) ∙ e)
 
 -- The same of a run.
 module _ (bytes : List ℕ) (limit n m : ℕ) where
@@ -72,20 +63,20 @@ module _ (bytes : List ℕ) (limit n m : ℕ) where
   unfolding operate
   operate_within = run_within (check bytes) (check_within bytes)
 
-  lines_within : (v : Verdict Result) → PlaceWithin 4096 v → PlaceWithin 4096 (and_then v (λ y. passed (line_of y)))
+  lines_within : (v : Verdict runs.Result) → PlaceWithin 4096 v → PlaceWithin 4096 (and_then v (λ y. passed (line_of y)))
   lines_within (refused r p) h = h
   lines_within (passed y) h = tt
 
-  module _ (a : Answer) (h : spoken a ≡ and_then (operate bytes limit n m) (λ y. passed (line_of y))) where
+  module _ (a : Result Report Refusal) (h : spoken a ≡ and_then (operate bytes limit n m) (λ y. passed (line_of y))) where
     -- The place of a refusal.
-    pub run_place : (r : Refusal) → a ≡ answer.Refused r → place_of r ≤ 4096
+    pub run_place : (r : Refusal) → a ≡ Err r → place_of r ≤ 4096
     run_place r q = subst (PlaceWithin 4096) (sym (sym (ap spoken q) ∙ h)) (lines_within (operate bytes limit n m) operate_within)
 
     -- The words left and the words wanted.
-    pub run_words : (x : Report) → a ≡ answer.Ended x → (x.left ≤ 16384) × (x.wanted ≤ 268435456)
+    pub run_words : (x : Report) → a ≡ Ok x → (x.left ≤ 16384) × (x.wanted ≤ 268435456)
     run_words x q = by (operate bytes limit n m) refl (sym (ap spoken q) ∙ h)
       where
-        by : (v : Verdict Result) → operate bytes limit n m ≡ v → passed (told x) ≡ and_then v (λ y. passed (line_of y))
+        by : (v : Verdict runs.Result) → operate bytes limit n m ≡ v → passed (told x) ≡ and_then v (λ y. passed (line_of y))
             → (x.left ≤ 16384) × (x.wanted ≤ 268435456)
         by (refused i p) o e = absurd (not_both i p (told x) (sym e))
         by (passed y) o e =

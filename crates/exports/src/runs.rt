@@ -1,16 +1,16 @@
 // A run for a C program. A place is at most 4,096, the words left are at most 16,384, and those wanted at most their square.
 
 ghost use Rattle.std.specs.Prelude.{◌≡◌, ◌≤◌};
-ghost use Rattle.nodes.specs.Refusals.{place_of, refusal};
 ghost use Rattle.engine.specs.Lent.{lent};
-ghost use Rattle.exports.specs.Numbers.{refused_numbers, ended_numbers, run_numbers, numbers_of, first_of, second_of};
+ghost use Rattle.exports.specs.Numbers.{refused_numbers, ended_numbers, numbers_of, first_of, second_of};
 
 use ends::Report;
-use engine::runs::{Answer, run};
-use nodes::refusals::{Numbers, Refusal, numbered};
+use engine::runs::run;
+use nodes::refusals::Numbers;
 
+// Numbers beside one another and no Result, for the C interface: a refusal of 0 is none.
 #[repr(C)]
-#[derive(Clone, Copy)]
+#[derive(Clone, Copy, Default)]
 pub struct RecipeRun {
     pub refusal: u32,
     pub place: u32,
@@ -24,13 +24,6 @@ pub struct RecipeRun {
     pub others: u32,
 }
 
-pub fn narrow(n: usize) -> u32
-    requires { n ≤ 268435456 }
-    ensures { result ≡ n }
-{
-    n as u32
-}
-
 // A refusal of this number and place.
 pub fn refused(told: Numbers) -> RecipeRun
     requires { told.place ≤ 4096 }
@@ -38,42 +31,27 @@ pub fn refused(told: Numbers) -> RecipeRun
 {
     RecipeRun {
         refusal: told.number,
-        place: narrow(told.place),
-        end: 0,
-        code: 0,
-        steps: 0,
-        left: 0,
-        wanted: 0,
-        calls: 0,
-        conversions: 0,
-        others: 0,
+        place: told.place as u32,
+        ..RecipeRun::default()
     }
 }
 
-fn refused_by(r: Refusal) -> RecipeRun
-    requires { place_of r ≤ 4096 }
-    ensures { result ≡ run_numbers (refusal r) }
-{
-    refused(numbered(r))
-}
-
+// A run that ended.
 pub fn ended(x: Report) -> RecipeRun
     requires { (x.left ≤ 16384) × (x.wanted ≤ 268435456) }
     ensures { result ≡ ended_numbers x }
 {
-    let e = x.end;
-    let made = x.made;
     RecipeRun {
         refusal: 0,
         place: 0,
-        end: ends::number(e),
+        end: x.end.into(),
         code: x.code,
-        steps: made.steps,
-        left: narrow(x.left),
-        wanted: narrow(x.wanted),
-        calls: made.calls,
-        conversions: made.conversions,
-        others: made.others,
+        steps: x.made.steps,
+        left: x.left as u32,
+        wanted: x.wanted as u32,
+        calls: x.made.calls,
+        conversions: x.made.conversions,
+        others: x.made.others,
     }
 }
 
@@ -84,7 +62,7 @@ pub fn recipe_run(file: &[u8], limit: u32, first: &mut [u32], second: &mut [u32]
     ensures second { second.new ≡ second_of (lent file.now limit first.old second.old) }
 {
     match run(file, limit, first, second) {
-        Answer::Refused(r) => refused_by(r),
-        Answer::Ended(x) => ended(x),
+        Ok(x) => ended(x),
+        Err(r) => refused(r.into()),
     }
 }

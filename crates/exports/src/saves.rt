@@ -1,13 +1,12 @@
 // A save for a C program. A place is at most 4,096, and a file has at most 16,384 bytes.
 
-ghost use Rattle.std.specs.Prelude.{◌≡◌, ◌≤◌, length};
-ghost use Rattle.calculus.specs.Verdicts.{passed};
-ghost use Rattle.saving.specs.Refusals.{place_of, refusal};
-ghost use Rattle.exports.specs.Numbers.{saved_numbers, saved_numbers_of, saved_bytes_of};
+ghost use Rattle.std.specs.Prelude.{◌≡◌, length};
+ghost use Rattle.exports.specs.Numbers.{saved_numbers_of, saved_bytes_of};
 
-use crate::runs::narrow;
-use saving::{Saved, Unsaved, numbered, save};
+use nodes::refusals::Numbers;
+use saving::save;
 
+// Numbers beside one another and no Result, for the C interface: a refusal of 0 is none.
 #[repr(C)]
 #[derive(Clone, Copy)]
 pub struct RecipeSaved {
@@ -16,36 +15,24 @@ pub struct RecipeSaved {
     pub bytes: u32,
 }
 
-fn refused_by(u: Unsaved) -> RecipeSaved
-    requires { place_of u ≤ 4096 }
-    ensures { result ≡ saved_numbers (refusal u) }
-{
-    let told = numbered(u);
-    RecipeSaved {
-        refusal: told.number,
-        place: narrow(told.place),
-        bytes: 0,
-    }
-}
-
-fn written(n: usize) -> RecipeSaved
-    requires { n ≤ 16384 }
-    ensures { result ≡ saved_numbers (passed n) }
-{
-    RecipeSaved {
-        refusal: 0,
-        place: 0,
-        bytes: narrow(n),
-    }
-}
-
 // A save of the words of a declared type and of a term, for all words and every buffer.
 pub fn recipe_save(types: &[u32], terms: &[u32], out: &mut [u8]) -> RecipeSaved
     ensures answer { result ≡ saved_numbers_of types.now terms.now (length out.old) }
     ensures out { out.new ≡ saved_bytes_of types.now terms.now (length out.old) }
 {
     match save(types, terms, out) {
-        Saved::Refused(u) => refused_by(u),
-        Saved::File(n) => written(n),
+        Ok(n) => RecipeSaved {
+            refusal: 0,
+            place: 0,
+            bytes: n as u32,
+        },
+        Err(why) => {
+            let told = Numbers::from(why);
+            RecipeSaved {
+                refusal: told.number,
+                place: told.place as u32,
+                bytes: 0,
+            }
+        }
     }
 }

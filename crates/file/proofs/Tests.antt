@@ -1,28 +1,12 @@
 -- What the tests of a file's size and of its header say of the numbers. Assumes nothing.
-use mathlib.Core.Path.{◌≡◌, refl}
-use mathlib.Core.Bool.{Bool, true, false, ◌&&◌}
+use mathlib.Core.Path.{◌≡◌}
+use mathlib.Core.Bool.{true}
 use mathlib.Core.List.{List}
 use Prim.Native.Nat.{ℕ, ◌+◌, ◌%◌, ◌≤◌}
+use native.Mathlib.Omega.{arith}
 use lib.ListN.{length, get_or}
-use borrow.Author.Tests.{leb-true, eqb-true, le-leb, eq-eqb}
-use Rattle.calculus.specs.Verdicts.{refused, passed}
+use Rattle.std.proofs.Common.{tests}
 use Rattle.calculus.specs.File.{is_size, is_header, type_count}
-use Rattle.file.specs.Opening.{headed}
-
-split : (a b : Bool) → a && b ≡ true → (a ≡ true) × (b ≡ true)
-split true b e = (refl, e)
-split false true e = (e, refl)
-split false false e = (e, e)
-
-joined : (a b : Bool) → a ≡ true → b ≡ true → a && b ≡ true
-joined true true p q = refl
-joined true false p q = q
-joined false b p q = p
-
--- A test whose truth is refuted is false.
-pub refuted : (b : Bool) → (b ≡ true → ⊥) → b ≡ false
-refuted true h = absurd (h refl)
-refuted false h = refl
 
 -- The numbers of a size that a file can have.
 pub record Sized (n : ℕ) : Type 0 where
@@ -32,10 +16,7 @@ pub record Sized (n : ℕ) : Type 0 where
 
 -- They follow from the test.
 pub size_fits : (n : ℕ) → is_size n ≡ true → Sized n
-size_fits n e =
-    let p = split _ _ e in
-    let q = split _ _ p.0 in
-    record { least = leb-true _ _ q.0; most = leb-true _ _ q.1; whole = eqb-true _ _ p.1 }
+size_fits n e = grind (arith, tests)
 
 -- The numbers of a header that fits its words.
 pub record HeaderFits (ws : List ℕ) : Type 0 where
@@ -47,28 +28,8 @@ pub record HeaderFits (ws : List ℕ) : Type 0 where
 
 -- They follow from the test.
 pub header_fits : (ws : List ℕ) → is_header ws ≡ true → HeaderFits ws
-header_fits ws e =
-    let p = split _ _ e in
-    let q = split _ _ p.0 in
-    let r = split _ _ q.0 in
-    let s = split _ _ r.0 in
-    record {
-      types = leb-true _ _ s.0;
-      types_from = eqb-true _ _ s.1;
-      terms = leb-true _ _ r.1;
-      terms_from = eqb-true _ _ q.1;
-      ends = eqb-true _ _ p.1;
-    }
+header_fits ws e = grind (arith, tests)
 
+-- And the test follows from them.
 pub header_is : (ws : List ℕ) → HeaderFits ws → is_header ws ≡ true
-header_is ws f =
-    joined _ _ (joined _ _ (joined _ _ (joined _ _ (le-leb _ _ f.types) (eq-eqb _ _ f.types_from)) (le-leb _ _ f.terms))
-    (eq-eqb _ _ f.terms_from)) (eq-eqb _ _ f.ends)
-
--- A header that fits passes with its counts.
-pub header_passed : (ws : List ℕ) → HeaderFits ws → passed (type_count ws, length ws) ≡ headed ws
-header_passed ws f = rw (header_is ws f)
-
--- Any other is refused by 2.
-pub header_refused : (ws : List ℕ) → (HeaderFits ws → ⊥) → refused 2 0 ≡ headed ws
-header_refused ws h = rw (refuted (is_header ws) (λ e. h (header_fits ws e)))
+header_is ws f = grind (arith, tests)

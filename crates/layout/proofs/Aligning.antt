@@ -5,10 +5,10 @@ use mathlib.Core.Path.{◌≡◌, sym, ap, ◌∙◌, subst}
 use native.Mathlib.Omega.{arith}
 use native.Mathlib.Numerals.{add-one}
 use lib.ListN.{length, take, get_or, replicate, replicate-append-replicate}
-use lib.Seq.{take-suc, take_all, length-take-le}
-use Rattle.writing.specs.Wrote.{Wrote}
-use Rattle.writing.proofs.Stores.{then, wrote_as}
-use Rattle.writing.proofs.Clearing.{front_copied}
+use lib.Seq.{take-suc, length-take-le}
+use Rattle.writing.specs.declared.Writer.{Writer}
+use Rattle.writing.specs.Puts.{Puts}
+use Rattle.writing.proofs.Stores.{puts_then, puts_as}
 use Rattle.text.specs.Characters.{blank, line_feed}
 use Rattle.layout.specs.Layout.{right_to, ended, pump_line, pump_lines}
 
@@ -18,29 +18,23 @@ blanks_more n k h =
     let e : k - n + 1 ≡ k + 1 - n = omega arith in
     replicate-append-replicate (k - n) 1 blank ∙ ap (λ (i : ℕ). replicate i blank) e
 
--- A text put into a buffer that it fits in stands there.
-pub set_aside : (b b' text : List ℕ) (k : ℕ) → Wrote b 0 text k b' → length text ≤ length b → take k b' ≡ text
-set_aside b b' text k w h =
-    let all : take k text ≡ text = take_all k text (omega (arith, w.place)) in
-    front_copied text b b' k k (omega (arith, w.place)) (omega (arith, w.place)) (wrote_as (sym all) w) ∙ all
+-- Behind the line so far: a text right-aligned to a column, and the line's end.
+module _ {w r q : Writer ℕ} (line : List ℕ) (so_far : Puts w line r) where
+  pub aligned : (column : ℕ) (text : List ℕ) → Puts r (replicate (w.at + column - length text - r.at) blank ++ text) q
+      → Puts w (right_to column text line) q
+  aligned column text p =
+      let e : w.at + column - length text - r.at ≡ column - length text - length line = omega (arith, so_far.wrote.place) in
+      puts_as
+      (sym (append_assoc line (replicate (w.at + column - length text - r.at) blank) text) ∙ ap (λ (i : ℕ). (line ++ replicate i blank) ++ text) e)
+      (puts_then so_far p)
 
--- Behind the line so far, which starts at a place: a text right-aligned to a column, and the line's end.
-module _ {b b₁ b₂ : List ℕ} {start n k : ℕ} (line : List ℕ) (so_far : Wrote b start line n b₁) where
-  pub aligned : (column : ℕ) (text : List ℕ) → Wrote b₁ n (replicate (start + column - (n + length text)) blank ++ text) k b₂
-      → Wrote b start (right_to column text line) k b₂
-  aligned column text w =
-      let e : start + column - (n + length text) ≡ column - length text - length line = omega (arith, so_far.place) in
-      wrote_as
-      (sym (append_assoc line (replicate (start + column - (n + length text)) blank) text)
-      ∙ ap (λ (i : ℕ). (line ++ replicate i blank) ++ text) e)
-      (then so_far w)
-
-  pub ends : Wrote b₁ n (replicate (start + 40 - n) blank ++ line_feed ∷ []) k b₂ → Wrote b start (ended line) k b₂
-  ends w =
-      let e : start + 40 - n ≡ 40 - length line = omega (arith, so_far.place) in
-      wrote_as
-      (sym (append_assoc line (replicate (start + 40 - n) blank) (line_feed ∷ [])) ∙ ap (λ (i : ℕ). (line ++ replicate i blank) ++ line_feed ∷ []) e)
-      (then so_far w)
+  pub ends : Puts r (replicate (w.at + 40 - r.at) blank ++ line_feed ∷ []) q → Puts w (ended line) q
+  ends p =
+      let e : w.at + 40 - r.at ≡ 40 - length line = omega (arith, so_far.wrote.place) in
+      puts_as
+      (sym (append_assoc line (replicate (w.at + 40 - r.at) blank) (line_feed ∷ []))
+      ∙ ap (λ (i : ℕ). (line ++ replicate i blank) ++ line_feed ∷ []) e)
+      (puts_then so_far p)
 
 -- One pump's line more.
 lines_append : (charges : List ℕ) (i : ℕ) (ns : List ℕ) (n : ℕ)

@@ -1,3 +1,3 @@
-pub mod Fields
+pub mod Written
 pub mod Texts
 pub mod Examples

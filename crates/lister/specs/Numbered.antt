@@ -1,20 +1,25 @@
--- The same text, by the numbers that a run is told in.
-use Rattle.std.specs.Prelude.{ℕ, cond, List, [], ◌∷◌, ◌++◌, eqb}
-use Rattle.exports.specs.declared.runs.RecipeRun.{RecipeRun}
+-- The same text, by what a run is told in and the words that stand in its first buffer.
+use Rattle.std.specs.Prelude.{ℕ, ◌≤◌, List, [], ◌∷◌, ◌++◌, length, take}
+use Rattle.calculus.specs.Verdicts.{Verdict, refused, passed}
+use Rattle.ends.specs.Results.{Line}
 use Rattle.text.specs.Characters.{line_feed, characters}
-use Rattle.lister.specs.Listing.{line, words_line}
-
--- The name of an end, by its number.
-abbrev pub name_of : ℕ → List ℕ
-name_of n = cond (eqb n 0) (characters "value") (cond (eqb n 1) (characters "spent") (cond (eqb n 2) (characters "error") (characters "full")))
+use Rattle.lister.specs.Listing.{end_name, line, words_line}
 
 -- The line of a refusal, and the first line of a result.
-abbrev pub refused_line : RecipeRun → List ℕ
-refused_line x = line (characters "refused") (x.refusal ∷ x.place ∷ [])
+abbrev pub refused_line : ℕ → ℕ → List ℕ
+refused_line n p = line (characters "refused") (n ∷ p ∷ [])
 
-abbrev pub ended_line : RecipeRun → List ℕ
-ended_line x = line (name_of x.end) (x.code ∷ x.steps ∷ x.left ∷ x.wanted ∷ x.calls ∷ x.conversions ∷ x.others ∷ [])
+abbrev pub ended_line : Line → List ℕ
+ended_line x =
+    let m = x.made in
+    line (end_name x.end) (x.code ∷ m.steps ∷ x.left ∷ x.wanted ∷ m.calls ∷ m.conversions ∷ m.others ∷ [])
 
--- Of a run's numbers, and the words that it left.
-abbrev pub text_by : RecipeRun → List ℕ → List ℕ
-text_by x ws = cond (eqb x.refusal 0) (ended_line x ++ words_line ws ++ line_feed ∷ []) (refused_line x)
+-- The words that are left stand in the buffer.
+abbrev pub LeftWithin : Verdict Line → List ℕ → Type 0
+LeftWithin (refused n p) ws = Unit {0}
+LeftWithin (passed x) ws = x.left ≤ length ws
+
+-- The text of either.
+abbrev pub text_by : Verdict Line → List ℕ → List ℕ
+text_by (refused n p) ws = refused_line n p
+text_by (passed x) ws = ended_line x ++ words_line (take x.left ws) ++ line_feed ∷ []

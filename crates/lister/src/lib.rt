@@ -2,113 +2,115 @@
 
 #![tactic(auto)]
 
-ghost use Rattle.std.specs.Prelude.{◌≡◌, ◌+◌, ◌*◌, ◌≤◌, length};
+ghost use Rattle.std.specs.Prelude.{◌≡◌, ◌+◌, ◌<◌, ◌≤◌, length};
 ghost use Rattle.calculus.specs.File.{padded};
 ghost use Rattle.writing.specs.Given.{most_place};
-ghost use Rattle.writing.specs.Wrote.{Wrote};
-ghost use Rattle.lister.specs.Listing.{field, fields, words_line, listing};
-ghost use Rattle.lister.specs.Numbered.{name_of, refused_line, ended_line, text_by};
+ghost use Rattle.writing.specs.Puts.{Puts};
+ghost use Rattle.ends.specs.Results.{end_of, told};
+ghost use Rattle.engine.specs.Answered.{spoken};
+ghost use Rattle.lister.specs.Listing.{field, words_line, end_name, line, listing};
+ghost use Rattle.lister.specs.Numbered.{refused_line, ended_line, text_by, LeftWithin};
 
-use exports::runs::{RecipeRun, recipe_run};
-use text::{copy, put, put_decimal};
+use ends::{End, Report};
+use engine::runs::run;
+use nodes::refusals::{Numbers, Refusal};
+use text::put_decimal;
+use writing::Writer;
 
-// A blank and a number, from the place n on. Returns the place after it, as each function here does.
-fn field(text: &mut [u8], n: usize, number: u32) -> usize
-    requires { n ≤ most_place }
-    ensures wrote { Wrote text.old n (field number) result text.new }
-    ensures bound { result ≤ n + 11 }
+// A blank and a number.
+fn field(text: &mut Writer<u8>, number: u64)
+    requires { text.old.at ≤ most_place }
+    ensures put { Puts text.old (field number) text.new }
+    ensures bound { text.new.at ≤ text.old.at + 21 }
+    ensures short { number < 4294967296 → text.new.at ≤ text.old.at + 11 }
 {
-    let k = put(text, n, b' ');
-    put_decimal(text, k, number as u64)
+    text.put(b' ');
+    put_decimal(text, number);
 }
 
-// "A refusal prints `refused`, number, place on one line".
-fn refused_line(run: RecipeRun, text: &mut [u8]) -> usize
-    ensures wrote { Wrote text.old 0 (refused_line run) result text.new }
-    ensures bound { result ≤ 64 }
+// A line: a name, and numbers after it.
+fn line(text: &mut Writer<u8>, name: &[u8], numbers: &[u64])
+    requires { (length name.now ≤ 7) × (length numbers.now ≤ 7) × (text.old.at ≡ 0) }
+    ensures put { Puts text.old (line name.now numbers.now) text.new }
+    ensures bound { text.new.at ≤ 155 }
 {
-    let a = copy(b"refused", text, 0);
-    let b = field(text, a, run.refusal);
-    let c = field(text, b, run.place);
-    put(text, c, b'\n')
+    text.extend(name);
+    for &number in numbers {
+        field(text, number);
+    }
+    text.put(b'\n');
 }
 
-// "end name", by the number of the end.
-fn end_name(end: u32, text: &mut [u8]) -> usize
-    ensures wrote { Wrote text.old 0 (name_of end) result text.new }
-    ensures bound { result ≤ 5 }
+// "end name".
+fn end_name(end: End) -> &'static [u8]
+    ensures name { result.now ≡ end_name (end_of end) }
+    ensures bound { length result.now ≤ 5 }
 {
-    if end == 0 {
-        return copy(b"value", text, 0);
+    match end {
+        End::Value => b"value",
+        End::Spent => b"spent",
+        End::Error => b"error",
+        End::Full => b"full",
     }
-    if end == 1 {
-        return copy(b"spent", text, 0);
-    }
-    if end == 2 {
-        return copy(b"error", text, 0);
-    }
-    copy(b"full", text, 0)
-}
-
-// "end name, code, steps, words left, words wanted on one line"; "The listing's first line ends with the three": calls, conversions, others.
-fn ended_line(run: RecipeRun, text: &mut [u8]) -> usize
-    ensures wrote { Wrote text.old 0 (ended_line run) result text.new }
-    ensures bound { result ≤ 83 }
-{
-    let a = end_name(run.end, text);
-    let numbers = [
-        run.code,
-        run.steps,
-        run.left,
-        run.wanted,
-        run.calls,
-        run.conversions,
-        run.others,
-    ];
-    let b = more_words(&numbers, text, a);
-    put(text, b, b'\n')
-}
-
-// Words, or other numbers, a blank before each.
-fn more_words(words: &[u32], text: &mut [u8], n: usize) -> usize
-    requires { (length words.now ≤ 4096) × (n ≤ 128) }
-    ensures wrote { Wrote text.old n (fields words.now) result text.new }
-    ensures bound { result ≤ n + 11 * length words.now }
-{
-    let mut i = 0;
-    let mut k = n;
-    while i < words.len() {
-        k = field(text, k, words[i]);
-        i += 1;
-    }
-    k
 }
 
 // "the term's words on the next, or an empty line": a blank between two.
-fn all_words(words: &[u32], text: &mut [u8], n: usize) -> usize
-    requires { (length words.now ≤ 4096) × (n ≤ 83) }
-    ensures wrote { Wrote text.old n (words_line words.now) result text.new }
-    ensures bound { result ≤ n + 11 * length words.now }
+fn words_line(text: &mut Writer<u8>, words: &[u32])
+    requires { (length words.now ≤ 4096) × (text.old.at ≤ 155) }
+    ensures put { Puts text.old (words_line words.now) text.new }
+    ensures bound { text.new.at ≤ 45211 }
 {
-    if words.len() == 0 {
-        return n;
+    if let Some((&first, others)) = words.split_first() {
+        put_decimal(text, u64::from(first));
+        for &word in others {
+            field(text, u64::from(word));
+        }
     }
-    let k = put_decimal(text, n, words[0] as u64);
-    more_words(&words[1..], text, k)
 }
 
-// The lines of a run, by its numbers and the words that it left.
-fn lines(run: RecipeRun, words: &[u32], text: &mut [u8]) -> usize
-    requires { length words.now ≤ 4096 }
-    ensures wrote { Wrote text.old 0 (text_by run words.now) result text.new }
-    ensures bound { result ≤ 45140 }
+// "A refusal prints `refused`, number, place on one line".
+fn refused_line(text: &mut Writer<u8>, why: Numbers)
+    requires { text.old.at ≡ 0 }
+    ensures put { Puts text.old (refused_line why.number why.place) text.new }
+    ensures bound { text.new.at ≤ 155 }
 {
-    if run.refusal != 0 {
-        return refused_line(run, text);
+    let numbers = [u64::from(why.number), why.place as u64];
+    line(text, b"refused", &numbers);
+}
+
+// "end name, code, steps, words left, words wanted on one line"; "The listing's first line ends with the three": calls, conversions, others.
+fn ended_line(text: &mut Writer<u8>, report: Report)
+    requires { text.old.at ≡ 0 }
+    ensures put { Puts text.old (ended_line (told report)) text.new }
+    ensures bound { text.new.at ≤ 155 }
+{
+    let made = report.made;
+    let numbers = [
+        u64::from(report.code),
+        u64::from(made.steps),
+        report.left as u64,
+        report.wanted as u64,
+        u64::from(made.calls),
+        u64::from(made.conversions),
+        u64::from(made.others),
+    ];
+    line(text, end_name(report.end), &numbers);
+}
+
+// The lines of a run, by what it answered and the words in its first buffer.
+fn lines(text: &mut Writer<u8>, answer: Result<Report, Refusal>, first: &[u32])
+    requires { LeftWithin (spoken answer) first.now × (length first.now ≤ 4096) × (text.old.at ≡ 0) }
+    ensures put { Puts text.old (text_by (spoken answer) first.now) text.new }
+    ensures bound { text.new.at ≤ 45212 }
+{
+    match answer {
+        Err(refusal) => refused_line(text, Numbers::from(refusal)),
+        Ok(report) => {
+            ended_line(text, report);
+            words_line(text, &first[..report.left]);
+            text.put(b'\n');
+        }
     }
-    let a = ended_line(run, text);
-    let b = all_words(words, text, a);
-    put(text, b, b'\n')
 }
 
 // The listing of a file, for every file and every buffer, whatever it held: how many bytes its text has, whether they fit or not, and the text in
@@ -120,9 +122,9 @@ pub fn list(file: &[u8], text: &mut [u8]) -> usize
 {
     let mut first = [0u32; 4096];
     let mut second = [0u32; 4096];
-    let run = recipe_run(file, 1000000, &mut first, &mut second);
-    let left = run.left as usize;
-    let n = lines(run, &first[..left], text);
-    text::clear(text, n);
-    n
+    let answer = run(file, 1_000_000, &mut first, &mut second);
+    let mut listing = Writer::new(text);
+    lines(&mut listing, answer, &first);
+    listing.fill_rest(0);
+    listing.at
 }

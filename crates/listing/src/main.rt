@@ -10,6 +10,7 @@ use std::fmt::InlineText;
 use std::io;
 use std::io::Read;
 
+// Reads the file and prints its listing, or says why not.
 fn main(rt: HostRuntime) {
     let mut file = [0u8; 16385];
     match read_full(&mut rt.stdin(), &mut file) {
@@ -18,7 +19,8 @@ fn main(rt: HostRuntime) {
     }
 }
 
-// Reads until the buffer is full or the input ends, and returns how many bytes it put at the buffer's start.
+// Reads until the buffer is full or the input ends, and returns how many bytes it put at the buffer's start. A loop, since std's `read_exact` does
+// not say how many bytes came where the input ends early.
 fn read_full(input: &mut impl Read, buffer: &mut [u8]) -> io::Result<usize>
     ensures { IfOk result (λ n. n ≤ length buffer.new) }
 {

@@ -1,162 +1,188 @@
--- The lambdas around a word, as the buffer holds them: variables and lambdas by the table's shapes, and what noting a lambda changes. Assumes
--- nothing.
-use Prim.Native.Nat.{ℕ, zero, suc, ◌+◌, ◌-◌, ◌/◌, ◌%◌, ◌≤◌, ◌<◌}
-use mathlib.Core.Bool.{Bool, true, false, cond, not}
-use mathlib.Core.List.{List, ◌∷◌}
-use mathlib.Core.Path.{◌≡◌, refl, sym, ap, ◌∙◌}
-use lib.Dec.{eqb, leb}
-use lib.ListN.{length, get_or, set}
-use lib.Seq.{get_or-set_same, get_or-set_other}
-use borrow.Author.Tests.{eq-eqb, ne_eqb, eqb-true, eqb-false, leb-true}
-use native.Mathlib.Numerals.{add-one}
-use native.Mathlib.Omega.{arith}
-use Rattle.calculus.specs.Verdicts.{found}
+-- The lambdas around a word: variables and lambdas by the table's shapes, and what noting a lambda changes. Assumes nothing.
+use Rattle.std.proofs.Common.{ℕ, zero, suc, ◌-◌, ◌%◌, ◌/◌, ◌≤◌, ◌<◌, Bool, true, false, cond, not, List, [], ◌∷◌, ◌++◌, Option, None, Some}
+use Rattle.std.proofs.Common.{◌≡◌, refl, sym}
+use Rattle.std.proofs.Common.{◌∙◌, ap, arith, length, get_or, map}
+use Rattle.std.proofs.lemmas.List.{get_or-reverse, get_or-map, length-reverse, length-map, reverse-append, map-append}
+use lib.Dec.{eqb}
+use borrow.Author.Tests.{ne_eqb}
 use Rattle.calculus.specs.Trees.{Lang, ml, sc}
-use Rattle.calculus.specs.Kinds.{type, term, table, row_in, sort_of_kind}
-use Rattle.calculus.specs.Scope.{same_lang, lambda_at, is_free, inside, part_count}
-use Rattle.nodes.specs.declared.kinds.Row as code
-use Rattle.nodes.specs.Table.{row_of, rows, listed}
-use Rattle.nodes.specs.Walks.{sorts_of}
-use Rattle.nodes.specs.Languages.{lang_of, lambdas_in, WordIn, Entered}
-use Rattle.nodes.proofs.Table.{not_in, past, every_kind, by_rows}
+use Rattle.calculus.specs.Kinds.{Sort, type, term}
+use Rattle.calculus.specs.Scope.{same_lang, lambda_at, is_free, inside}
+use Rattle.nodes.specs.declared.kinds.Language.{Language}
+use Rattle.nodes.specs.declared.kinds.Language.TheVariants.{Ml}
+use Rattle.nodes.specs.declared.kinds.Shape.{Shape}
+use Rattle.nodes.specs.declared.kinds.Shape.TheVariants as s
+use Rattle.nodes.specs.Table.{as_lang, same_sort, Row, row_of, told}
+use Rattle.nodes.specs.Languages.{lambdas}
+use Rattle.nodes.proofs.Table.{past, every_kind, by_rows}
 
--- What hangs on two kinds, ML's and Scheme's, hangs on the shape that they share and the sort.
-module _ {X : Type 0} (a b c : X) where
-  by_kinds : ℕ → ℕ → ℕ → X
-  by_kinds m s k = cond (eqb k m) a (cond (eqb k s) b c)
+-- What hangs on the shapes of variables and of lambdas, and on the language.
+module _ {X : Type 0} (v l d : X) where
+  abbrev pub at_shape : Shape → X
+  at_shape s.Variable = v
+  at_shape s.Number = d
+  at_shape s.Lambda = l
+  at_shape (s.Operator1 o) = d
+  at_shape (s.Operator2 o) = d
+  at_shape s.If0 = d
+  at_shape s.Nil = d
+  at_shape s.Wrong = d
+  at_shape s.Boundary = d
+  at_shape s.Numbers = d
+  at_shape s.Lump = d
+  at_shape s.List = d
+  at_shape s.Function = d
 
-  by_shape : ℕ → code.Row → X
-  by_shape h r = cond (eqb r.shape h) (cond (eqb r.sort 2) a b) c
+abbrev pub of_term : {X : Type 0} → (Lang → X) → X → Sort → X
+of_term f d type = d
+of_term f d (term l) = f l
 
-  agree : (m s h : ℕ) → m < rows → s < rows → (h ≡ 0 → ⊥) → listed (by_kinds m s) 0 rows ≡ listed (λ k. by_shape h (row_of k)) 0 rows
-      → (k : ℕ) → by_kinds m s k ≡ by_shape h (row_of k)
-  unfolding by_kinds by_shape
-  agree m s h hm hs hh e =
-      every_kind (by_kinds m s) (λ k. by_shape h (row_of k)) e
-      (λ k far. rw (past k far, ne_eqb k m (λ p. omega (arith, p)), ne_eqb k s (λ p. omega (arith, p)), ne_eqb 0 h (λ p. hh (sym p))))
+module _ {X : Type 0} (f : Lang → X) (d : X) where
+  abbrev if_variable : Option Row → X
+  if_variable o = told o d (λ r. at_shape (of_term f d r.sort) d d r.shape)
 
-  pub by_variable : (k : ℕ) → cond (eqb k 16) a (cond (eqb k 32) b c) ≡ cond (eqb (row_of k).shape 1) (cond (eqb (row_of k).sort 2) a b) c
-  unfolding by_kinds by_shape row_of
-  by_variable k = agree 16 32 1 (omega arith) (omega arith) (λ p. omega (arith, p)) refl k
+  abbrev if_lambda : Option Row → X
+  if_lambda o = told o d (λ r. at_shape d (of_term f d r.sort) d r.shape)
 
-  pub by_lambda : (k : ℕ) → cond (eqb k 18) a (cond (eqb k 34) b c) ≡ cond (eqb (row_of k).shape 3) (cond (eqb (row_of k).sort 2) a b) c
-  unfolding by_kinds by_shape row_of
-  by_lambda k = agree 18 34 3 (omega arith) (omega arith) (λ p. omega (arith, p)) refl k
+  pub by_variable : (k : ℕ) → cond (eqb k 16) (f ml) (cond (eqb k 32) (f sc) d) ≡ if_variable (row_of k)
+  unfolding row_of
+  by_variable =
+      every_kind (λ k. cond (eqb k 16) (f ml) (cond (eqb k 32) (f sc) d)) (λ k. if_variable (row_of k)) refl
+      (λ k far. rw (past k far, ne_eqb k 16 (λ p. omega (arith, p)), ne_eqb k 32 (λ p. omega (arith, p))))
 
--- How many parts a kind has: by its row, and by the sorts that its parts stand for.
-pub row_count : (w : ℕ) → (row_of (w % 256)).count ≡ part_count w
+  pub by_lambda : (k : ℕ) → cond (eqb k 18) (f ml) (cond (eqb k 34) (f sc) d) ≡ if_lambda (row_of k)
+  unfolding row_of
+  by_lambda =
+      every_kind (λ k. cond (eqb k 18) (f ml) (cond (eqb k 34) (f sc) d)) (λ k. if_lambda (row_of k)) refl
+      (λ k far. rw (past k far, ne_eqb k 18 (λ p. omega (arith, p)), ne_eqb k 34 (λ p. omega (arith, p))))
+
+module _ {X : Type 0} (v d : X) where
+  pub no_variable : (x : Shape) → (x ≡ s.Variable → ⊥) → at_shape v d d x ≡ d
+  no_variable s.Variable h = absurd (h refl)
+  no_variable s.Number h = refl
+  no_variable s.Lambda h = refl
+  no_variable (s.Operator1 o) h = refl
+  no_variable (s.Operator2 o) h = refl
+  no_variable s.If0 h = refl
+  no_variable s.Nil h = refl
+  no_variable s.Wrong h = refl
+  no_variable s.Boundary h = refl
+  no_variable s.Numbers h = refl
+  no_variable s.Lump h = refl
+  no_variable s.List h = refl
+  no_variable s.Function h = refl
+
+  pub no_lambda : (x : Shape) → (x ≡ s.Lambda → ⊥) → at_shape d v d x ≡ d
+  no_lambda s.Variable h = refl
+  no_lambda s.Number h = refl
+  no_lambda s.Lambda h = absurd (h refl)
+  no_lambda (s.Operator1 o) h = refl
+  no_lambda (s.Operator2 o) h = refl
+  no_lambda s.If0 h = refl
+  no_lambda s.Nil h = refl
+  no_lambda s.Wrong h = refl
+  no_lambda s.Boundary h = refl
+  no_lambda s.Numbers h = refl
+  no_lambda s.Lump h = refl
+  no_lambda s.List h = refl
+  no_lambda s.Function h = refl
+
+-- The lambda with n others between.
+lambda_there : (Γ : List Lang) (n : ℕ) (l : Lang) → n < length Γ → lambda_at Γ n l ≡ same_lang (get_or Γ n ml) l
+lambda_there [] n l h = absurd (omega (arith, h))
+lambda_there (m ∷ Γ) zero l h = refl
+lambda_there (m ∷ Γ) (suc n) l h = lambda_there Γ n l (omega (arith, h))
+
+no_lambda_there : (Γ : List Lang) (n : ℕ) (l : Lang) → length Γ ≤ n → lambda_at Γ n l ≡ false
+no_lambda_there [] n l h = refl
+no_lambda_there (m ∷ Γ) zero l h = absurd (omega (arith, h))
+no_lambda_there (m ∷ Γ) (suc n) l h = no_lambda_there Γ n l (omega (arith, h))
+
+as_many_lambdas : (ls : List Language) → length (lambdas ls) ≡ length ls
+as_many_lambdas ls = length-reverse (map as_lang ls) ∙ length-map ls as_lang
+
+lambda_in : (ls : List Language) (n : ℕ) (l : Lang) → n < length ls
+    → lambda_at (lambdas ls) n l ≡ same_lang (as_lang (get_or ls (length ls - 1 - n) Ml)) l
+lambda_in ls n l h =
+    lambda_there (lambdas ls) n l (rw (as_many_lambdas ls) h)
+    ∙ ap (λ (m : Lang). same_lang m l) (get_or-reverse (map as_lang ls) n ml (rw (length-map ls as_lang) h)
+    ∙ rw (length-map ls as_lang) (get_or-map as_lang ls (length ls - 1 - n) Ml ml (omega arith)))
+
+same_sym : (l m : Lang) → same_lang l m ≡ same_lang m l
+same_sym ml ml = refl
+same_sym ml sc = refl
+same_sym sc ml = refl
+same_sym sc sc = refl
+
+variables_are_terms : (k : ℕ) → told (row_of k) true (λ r. at_shape (of_term (λ l. true) false r.sort) true true r.shape) ≡ true
 unfolding row_of
-row_count w =
-    every_kind (λ k. (row_of k).count) (λ k. found (row_in (table (sort_of_kind k)) k) 0 (λ r. length r.parts)) refl
-    (λ k h. rw (past k h, not_in (table type) tt k h, not_in (table (term ml)) tt k h, not_in (table (term sc)) tt k h)) (w % 256)
-
-pub count_few : (k : ℕ) → (row_of k).count ≤ 3
-unfolding row_of
-count_few k = leb-true (row_of k).count 3 (by_rows (λ r. leb r.count 3) (λ r. true) refl refl k)
-
-pub part_count_lem : (w : ℕ) → part_count w ≡ length (sorts_of (row_of (w % 256)).parts)
-unfolding row_of sorts_of
-part_count_lem w =
-    every_kind (λ k. found (row_in (table (sort_of_kind k)) k) 0 (λ r. length r.parts)) (λ k. length (sorts_of (row_of k).parts)) refl
-    (λ k h. rw (past k h, not_in (table type) tt k h, not_in (table (term ml)) tt k h, not_in (table (term sc)) tt k h)) (w % 256)
-
--- The lambda with n others between, in the buffer.
-lambda_there : (d : ℕ) (b : List ℕ) (n : ℕ) (l : Lang) → n < d → lambda_at (lambdas_in d b) n l ≡ same_lang (lang_of (get_or b (d - 1 - n) 0)) l
-lambda_there zero b n l h = absurd (omega (arith, h))
-lambda_there (suc d) b zero l h =
-    let e : d ≡ suc d - 1 - 0 = omega arith in
-    ap (λ (i : ℕ). same_lang (lang_of (get_or b i 0)) l) e
-lambda_there (suc d) b (suc n) l h =
-    let e : d - 1 - n ≡ suc d - 1 - suc n = omega arith in
-    lambda_there d b n l (omega arith) ∙ ap (λ (i : ℕ). same_lang (lang_of (get_or b i 0)) l) e
-
-no_lambda_there : (d : ℕ) (b : List ℕ) (n : ℕ) (l : Lang) → d ≤ n → lambda_at (lambdas_in d b) n l ≡ false
-no_lambda_there zero b n l h = refl
-no_lambda_there (suc d) b zero l h = absurd (omega (arith, h))
-no_lambda_there (suc d) b (suc n) l h = no_lambda_there d b n l (omega arith)
-
-same_ml : (x : ℕ) → same_lang (lang_of x) ml ≡ eqb x 2
-same_ml x = by (eqb x 2)
-  where
-    by : (t : Bool) → same_lang (cond t ml sc) ml ≡ t
-    by true = refl
-    by false = refl
-
-not_sc : (x : ℕ) → not (same_lang (lang_of x) sc) ≡ eqb x 2
-not_sc x = by (eqb x 2)
-  where
-    by : (t : Bool) → not (same_lang (cond t ml sc) sc) ≡ t
-    by true = refl
-    by false = refl
+variables_are_terms = by_rows (λ o. told o true (λ r. at_shape (of_term (λ l. true) false r.sort) true true r.shape)) (λ o. true) refl refl
 
 -- The ways out of the test of a variable.
-module _ {row : code.Row} {w : ℕ} {b : List ℕ} {d : ℕ} (W : WordIn row w b d) where
-  free_by : is_free (lambdas_in d b) w
-      ≡ cond (eqb row.shape 1)
-      (cond (eqb row.sort 2) (not (lambda_at (lambdas_in d b) (w / 256) ml)) (not (lambda_at (lambdas_in d b) (w / 256) sc))) false
-  free_by = by_variable _ _ false (w % 256) ∙ rw W.known
+module _ (ls : List Language) (w : ℕ) where
+  abbrev free_in : Lang → Bool
+  free_in l = not (lambda_at (lambdas ls) (w / 256) l)
 
-  pub no_variable : (row.shape ≡ 1 → ⊥) → false ≡ is_free (lambdas_in d b) w
-  no_variable h = sym (free_by ∙ rw (ne_eqb row.shape 1 h))
+  free_by : is_free (lambdas ls) w ≡ told (row_of (w % 256)) false (λ r. at_shape (of_term free_in false r.sort) false false r.shape)
+  free_by = by_variable free_in false (w % 256)
 
-  module _ (h : row.shape ≡ 1) where
-    pub too_far : d ≤ w / 256 → true ≡ is_free (lambdas_in d b) w
-    too_far g =
-        let none = no_lambda_there d b (w / 256) in
-        sym (free_by ∙ rw (eq-eqb row.shape 1 h, none ml g, none sc g) (both (eqb row.sort 2)))
+  pub no_kind_free : None ≡ row_of (w % 256) → false ≡ is_free (lambdas ls) w
+  no_kind_free e = sym (free_by ∙ rw (sym e))
+
+  module _ (x : Row) (known : Some x ≡ row_of (w % 256)) where
+    pub another_shape : (x.shape ≡ s.Variable → ⊥) → false ≡ is_free (lambdas ls) w
+    another_shape h = sym (free_by ∙ rw (sym known) (no_variable _ false x.shape h))
+
+    variable_by : x.shape ≡ s.Variable → is_free (lambdas ls) w ≡ of_term free_in false x.sort
+    variable_by h = free_by ∙ rw (sym known, h)
+
+    is_term : x.shape ≡ s.Variable → of_term (λ l. true) false x.sort ≡ true
+    is_term h =
+        ap (λ (y : Shape). at_shape (of_term (λ l. true) false x.sort) true true y) (sym h)
+        ∙ ap (λ (o : Option Row). told o true (λ r. at_shape (of_term (λ l. true) false r.sort) true true r.shape)) known
+        ∙ variables_are_terms (w % 256)
+
+    pub too_far : x.shape ≡ s.Variable → length ls ≤ w / 256 → true ≡ is_free (lambdas ls) w
+    too_far h g = by x.sort (is_term h) ∙ sym (variable_by h)
       where
-        both : (t : Bool) → cond t true true ≡ true
-        both true = refl
-        both false = refl
+        by : (y : Sort) → of_term (λ l. true) false y ≡ true → true ≡ of_term free_in false y
+        by type e = sym e
+        by (term l) e = rw (no_lambda_there (lambdas ls) (w / 256) l (rw (as_many_lambdas ls) g))
 
-    pub ml_variable : w / 256 < d → row.sort ≡ 2 → not (eqb (get_or b (d - 1 - w / 256) 0) 2) ≡ is_free (lambdas_in d b) w
-    ml_variable g s =
-        let there = lambda_there d b (w / 256) ml g ∙ same_ml (get_or b (d - 1 - w / 256) 0) in
-        sym (free_by ∙ rw (eq-eqb row.shape 1 h, eq-eqb row.sort 2 s, there))
+    pub of_lambda : x.shape ≡ s.Variable → w / 256 < length ls → (b : Bool)
+        → b ≡ same_sort x.sort (term (as_lang (get_or ls (length ls - 1 - w / 256) Ml))) → not b ≡ is_free (lambdas ls) w
+    of_lambda h g b q = ap not q ∙ by x.sort (is_term h) ∙ sym (variable_by h)
+      where
+        there : Lang
+        there = as_lang (get_or ls (length ls - 1 - w / 256) Ml)
 
-    pub scheme_variable_lem : w / 256 < d → (row.sort ≡ 2 → ⊥) → eqb (get_or b (d - 1 - w / 256) 0) 2 ≡ is_free (lambdas_in d b) w
-    scheme_variable_lem g s =
-        let there = lambda_there d b (w / 256) sc g in
-        sym (free_by ∙ rw (eq-eqb row.shape 1 h, ne_eqb row.sort 2 s, there) (not_sc (get_or b (d - 1 - w / 256) 0)))
-
--- A store from the depth on changes no lambda around.
-lambdas_set : (d e : ℕ) (b : List ℕ) (v : ℕ) → d ≤ e → lambdas_in d (set b e v) ≡ lambdas_in d b
-lambdas_set zero e b v h = refl
-lambdas_set (suc d) e b v h = rw (get_or-set_other b e d v 0 (λ p. omega (arith, p)), lambdas_set d e b v (omega arith))
-
--- What stays around a word's parts stays around the word.
-pub kept_outside : {b b' : List ℕ} {d w r : ℕ} → Entered b b' d w r → (c : List ℕ) → lambdas_in r c ≡ lambdas_in r b' → lambdas_in d c ≡ lambdas_in
-    d b
-kept_outside {b} {b'} {d} {w} {r} h c e = by (eqb r d) refl ∙ h.kept
-  where
-    by : (t : Bool) → eqb r d ≡ t → lambdas_in d c ≡ lambdas_in d b'
-    by true g = rw (eqb-true r d g) at e
-    by false g =
-        let n = eqb-false r d g in
-        let z : r ≡ suc d = omega (arith, h.least, h.most, n) in
-        let k : lambdas_in (suc d) c ≡ lambdas_in (suc d) b' = rw z at e in
-        cc
+        by : (y : Sort) → of_term (λ l. true) false y ≡ true → not (same_sort y (term there)) ≡ of_term free_in false y
+        by type e = sym e
+        by (term l) e = ap not (same_sym l there ∙ sym (lambda_in ls (w / 256) l g))
 
 -- The ways out of noting a lambda.
-module _ {row : code.Row} {w : ℕ} {b : List ℕ} {d : ℕ} (W : WordIn row w b d) where
-  inside_by : inside (lambdas_in d b) w
-      ≡ cond (eqb row.shape 3) (cond (eqb row.sort 2) (ml ∷ lambdas_in d b) (sc ∷ lambdas_in d b)) (lambdas_in d b)
-  inside_by = by_lambda _ _ (lambdas_in d b) (w % 256) ∙ rw W.known
+module _ (ls : List Language) (w : ℕ) where
+  inside_by : inside (lambdas ls) w
+      ≡ told (row_of (w % 256)) (lambdas ls) (λ r. at_shape (lambdas ls) (of_term (λ l. l ∷ lambdas ls) (lambdas ls) r.sort)
+      (lambdas ls) r.shape)
+  inside_by = by_lambda (λ l. l ∷ lambdas ls) (lambdas ls) (w % 256)
 
-  pub no_lambda : (row.shape ≡ 3 → ⊥) → Entered b b d w d
-  no_lambda h = record { parts = sym (inside_by ∙ rw (ne_eqb row.shape 3 h)); kept = refl; least = omega arith; most = omega arith }
+  pub no_kind_noted : None ≡ row_of (w % 256) → lambdas ls ≡ inside (lambdas ls) w
+  no_kind_noted e = sym (inside_by ∙ rw (sym e))
 
-  noted : (v : ℕ) → inside (lambdas_in d b) w ≡ lang_of v ∷ lambdas_in d b → Entered b (set b d v) d w (d + 1)
-  noted v e =
-      record {
-        parts = rw (add-one d, get_or-set_same b d v 0 W.room, lambdas_set d d b v (omega arith)) (sym e);
-        kept = lambdas_set d d b v (omega arith);
-        least = omega arith;
-        most = omega arith;
-      }
+  module _ (x : Row) (known : Some x ≡ row_of (w % 256)) where
+    pub none_noted : (x.shape ≡ s.Lambda → ⊥) → lambdas ls ≡ inside (lambdas ls) w
+    none_noted h = sym (inside_by ∙ rw (sym known) (no_lambda _ (lambdas ls) x.shape h))
 
-  pub ml_lambda : row.shape ≡ 3 → row.sort ≡ 2 → Entered b (set b d 2) d w (d + 1)
-  ml_lambda g s = noted 2 (inside_by ∙ rw (eq-eqb row.shape 3 g, eq-eqb row.sort 2 s))
+    module _ (h : x.shape ≡ s.Lambda) where
+      noted_by : of_term (λ l. l ∷ lambdas ls) (lambdas ls) x.sort ≡ inside (lambdas ls) w
+      noted_by = sym (inside_by ∙ rw (sym known, h))
 
-  pub scheme_lambda : row.shape ≡ 3 → (row.sort ≡ 2 → ⊥) → Entered b (set b d 3) d w (d + 1)
-  scheme_lambda g s = noted 3 (inside_by ∙ rw (eq-eqb row.shape 3 g, ne_eqb row.sort 2 s))
+      pub of_a_type : x.sort ≡ type → lambdas ls ≡ inside (lambdas ls) w
+      of_a_type e = ap (of_term (λ l. l ∷ lambdas ls) (lambdas ls)) (sym e) ∙ noted_by
+
+      pub noted : (l : Lang) → x.sort ≡ term l → l ∷ lambdas ls ≡ inside (lambdas ls) w
+      noted l e = ap (of_term (λ l. l ∷ lambdas ls) (lambdas ls)) (sym e) ∙ noted_by
+
+pub pushed : (ls : List Language) (l : Language) → lambdas (ls ++ l ∷ []) ≡ as_lang l ∷ lambdas ls
+pushed ls l = rw (map-append as_lang ls (l ∷ []), reverse-append (map as_lang ls) (as_lang l ∷ []))

@@ -1,4 +1,5 @@
 pub mod Table
+pub mod Rows
 pub mod Dues
 pub mod Ways
 pub mod Nested

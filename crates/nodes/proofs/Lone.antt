@@ -1,103 +1,64 @@
--- The short way: the kinds without parts, and that a word stands alone by the range in its row. Assumes nothing.
-use Prim.Native.Nat.{ℕ, zero, suc, ◌/◌, ◌%◌, ◌≤◌, ◌<◌}
-use mathlib.Core.Bool.{Bool, true, false, cond, ◌&&◌, ◌||◌}
-use mathlib.Core.Option.{Option, none, some}
-use mathlib.Core.Path.{◌≡◌, refl, sym, ap, ◌∙◌}
-use lib.Dec.{eqb, leb}
-use lib.ListN.{length}
-use native.Mathlib.Omega.{arith}
-use borrow.Author.Tests.{ne_eqb, le-leb, lt-leb}
+-- The short way: that a word stands alone is told by its row. Assumes nothing.
+use Rattle.std.proofs.Common.{ℕ, ◌%◌, ◌/◌, Bool, true, false, cond, ◌&&◌, Option, None, Some, ◌≡◌, refl, sym, ◌∙◌, ap, length}
+use Rattle.std.proofs.Math.Option.{none, some}
+use Rattle.std.proofs.Math.Option as math
+use lib.Dec.{eqb}
 use Rattle.calculus.specs.Verdicts.{found}
 use Rattle.calculus.specs.Trees.{ml, sc}
-use Rattle.calculus.specs.Kinds.{Sort, type, term, Row, table, row_in, row_for, sort_of}
+use Rattle.calculus.specs.Kinds.{Sort, type, term, row_for, sort_of}
+use Rattle.calculus.specs.Kinds as calculus
 use Rattle.calculus.specs.Nodes.{alone}
-use Rattle.nodes.specs.declared.kinds.Row as code
-use Rattle.nodes.specs.Table.{sort_number, entry, no_entry, row_of, no_range, lone_range, rows}
-use Rattle.nodes.proofs.Table.{past, every_kind, by_rows}
+use Rattle.nodes.specs.declared.kinds.Row as code_row
+use Rattle.nodes.specs.Table.{as_sort, as_sorts, same_sort, Row, read, entry, row_of, told, in_range, row_due}
+use Rattle.nodes.proofs.Dues.{sort_told, no_kind, due_told}
+use Rattle.nodes.proofs.Rows.{as_many}
 
--- The kinds without parts. A kind that is none of them, told by a fact for each as a `match` tells it, has no range.
-abbrev is_lone : ℕ → Bool
-is_lone k = eqb k 1 || (eqb k 2 || (eqb k 16 || (eqb k 17 || (eqb k 32 || (eqb k 33 || (eqb k 39 || eqb k 44))))))
-
-abbrev NoneOf : ℕ → Type 0
-NoneOf k =
-    (((((((Unit {0} × ¬ (k ≡ 1)) × ¬ (k ≡ 2)) × ¬ (k ≡ 16)) × ¬ (k ≡ 17)) × ¬ (k ≡ 32)) × ¬ (k ≡ 33)) × ¬ (k ≡ 39)) × ¬ (k ≡ 44)
-
-not_lone : (k : ℕ) → NoneOf k → is_lone k ≡ false
-not_lone k n =
-    rw (
-      ne_eqb k 1 n.0.0.0.0.0.0.0.1,
-      ne_eqb k 2 n.0.0.0.0.0.0.1,
-      ne_eqb k 16 n.0.0.0.0.0.1,
-      ne_eqb k 17 n.0.0.0.0.1,
-      ne_eqb k 32 n.0.0.0.1,
-      ne_eqb k 33 n.0.0.1,
-      ne_eqb k 39 n.0.1,
-      ne_eqb k 44 n.1,
-    )
-
-pub no_other : (k : ℕ) → NoneOf k → no_range ≡ lone_range (row_of k)
-unfolding row_of
-no_other k n =
-    sym (every_kind (λ j. cond (is_lone j) no_range (lone_range (row_of j))) (λ j. no_range) refl far k)
-    ∙ ap (λ (t : Bool). cond t no_range (lone_range (row_of k))) (not_lone k n)
+alone_due : (w : ℕ) → alone w ≡ told (row_due (sort_of w) w) false (λ r. eqb (length r.parts) 0)
+unfolding alone
+alone_due w = by (row_for (sort_of w) w)
   where
-    same : (t : Bool) (n : ℕ) → cond t n n ≡ n
-    same true n = refl
-    same false n = refl
+    by : (o : math.Option (calculus.Row (sort_of w)))
+        → found o false (λ r. eqb (length r.parts) 0) ≡ told (found o None (λ r. Some (entry r))) false (λ r. eqb (length r.parts) 0)
+    by none = refl
+    by (some r) = refl
 
-    far : (j : ℕ) → rows ≤ j → cond (is_lone j) no_range (lone_range (row_of j)) ≡ no_range
-    far j h = ap (λ (r : code.Row). cond (is_lone j) no_range (lone_range r)) (past j h) ∙ same (is_lone j) no_range
+same_itself : (s : Sort) → same_sort s s ≡ true
+same_itself type = refl
+same_itself (term ml) = refl
+same_itself (term sc) = refl
 
--- An operand is in a range; and in the row's, if the row has no parts.
-abbrev pub in_range : ℕ → ℕ → Bool
-in_range n o = leb (n % 2) o && leb o (n / 2)
+pub not_alone : (w : ℕ) → None ≡ row_of (w % 256) → false ≡ alone w
+not_alone w e = sym (alone_due w ∙ ap (λ (o : Option Row). told o false (λ r. eqb (length r.parts) 0)) (sym (no_kind (sort_of w) w e)))
 
-abbrev by_row : code.Row → ℕ → Bool
-by_row r o = cond (eqb r.sort 0) (in_range no_range o) (cond (eqb r.count 0) (leb r.low o && leb o r.high) (in_range no_range o))
+module _ (w : ℕ) (r : code_row.Row) (known : read (Some r) ≡ row_of (w % 256)) where
+  abbrev row : Row
+  row = record { sort = as_sort r.sort; shape = r.shape; parts = as_sorts r.parts.now; low = r.low; high = r.high }
 
-none_in : (o : ℕ) → in_range no_range o ≡ false
-none_in zero = refl
-none_in (suc o) = rw (le-leb 1 (suc o) (omega arith), lt-leb (suc o) 0 (omega arith))
+  ranged : (b : Bool) → told (cond b (Some row) None) false (λ x. eqb (length x.parts) 0) ≡ cond b (eqb (length row.parts) 0) false
+  ranged true = refl
+  ranged false = refl
 
-alone_row : (w : ℕ) → alone w ≡ by_row (row_of (w % 256)) (w / 256)
-unfolding alone row_for row_of
-alone_row w = by (sort_of w) (row_in (table (sort_of w)) (w % 256))
-  where
-    both : (t u : Bool) → cond t u false ≡ cond u t (in_range no_range (w / 256))
-    both true true = refl
-    both true false = sym (none_in (w / 256))
-    both false true = refl
-    both false false = sym (none_in (w / 256))
+  of_its_sort : same_sort row.sort (sort_of w) ≡ true
+  of_its_sort = rw (sort_told (w % 256) row known) (same_itself (sort_of w))
 
-    ranged : {s : Sort} (r : Row s) (t : Bool) (f : Row s → Bool) → found (cond t (some r) none) false f ≡ cond t (f r) false
-    ranged r true f = refl
-    ranged r false f = refl
+  alone_is : alone w ≡ cond (in_range r.low r.high (w / 256)) (eqb (length r.parts.now) 0) false
+  alone_is =
+      alone_due w
+      ∙ ap (λ (o : Option Row). told o false (λ x. eqb (length x.parts) 0)) (due_told (sort_of w) w row known)
+      ∙ ap (λ (b : Bool). told (cond (b && in_range r.low r.high (w / 256)) (Some row) None) false (λ x. eqb (length x.parts) 0)) of_its_sort
+      ∙ ranged (in_range r.low r.high (w / 256))
+      ∙ ap (λ (n : ℕ). cond (in_range r.low r.high (w / 256)) (eqb n 0) false) (as_many r.parts.now)
 
-    some_sort : (s : Sort) (t : Bool) → t ≡ cond (eqb (sort_number s) 0) (in_range no_range (w / 256)) t
-    some_sort type t = refl
-    some_sort (term ml) t = refl
-    some_sort (term sc) t = refl
+  pub in_its_range : true ≡ eqb (length r.parts.now) 0 → in_range r.low r.high (w / 256) ≡ alone w
+  in_its_range e = sym (alone_is ∙ ap (λ (b : Bool). cond (in_range r.low r.high (w / 256)) b false) (sym e) ∙ by (in_range r.low r.high (w / 256)))
+    where
+      by : (b : Bool) → cond b true false ≡ b
+      by true = refl
+      by false = refl
 
-    by : (s : Sort) (o : Option (Row s))
-        → found (found o none (λ r. cond (leb r.low (w / 256) && leb (w / 256) r.high) (some r) none)) false (λ r. eqb (length r.parts) 0)
-        ≡ by_row (found o no_entry (λ r. entry r)) (w / 256)
-    by s none = sym (none_in (w / 256))
-    by s (some r) =
-        let due = leb r.low (w / 256) && leb (w / 256) r.high in
-        let lone = eqb (length r.parts) 0 in
-        ranged r due (λ x. eqb (length x.parts) 0) ∙ both due lone ∙ some_sort s (cond lone due (in_range no_range (w / 256)))
-
--- So the range alone tells that a word stands alone.
-pub alone_range : (w : ℕ) → alone w ≡ in_range (lone_range (row_of (w % 256))) (w / 256)
-unfolding row_of
-alone_range w =
-    alone_row w ∙ ap (λ (f : ℕ → Bool). f (w / 256)) (by_rows (λ r. by_row r) (λ r. in_range (lone_range r)) refl refl (w % 256))
-
--- An operand below a range; and where it is not, the range's end decides.
-module _ (n o : ℕ) where
-  pub below : o < n % 2 → false ≡ in_range n o
-  below h = rw (lt-leb (n % 2) o h)
-
-  pub not_below : n % 2 ≤ o → leb o (n / 2) ≡ in_range n o
-  not_below h = rw (le-leb (n % 2) o h)
+  pub has_parts : false ≡ eqb (length r.parts.now) 0 → false ≡ alone w
+  has_parts e = sym (alone_is ∙ ap (λ (b : Bool). cond (in_range r.low r.high (w / 256)) b false) (sym e) ∙ by (in_range r.low r.high (w / 256)))
+    where
+      by : (b : Bool) → cond b false false ≡ false
+      by true = refl
+      by false = refl

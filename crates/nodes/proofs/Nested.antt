@@ -1,60 +1,57 @@
--- The ways out of the walk with levels: `ws` are the words left, `at` are gone by, `due` and `room` say what is due. Assumes nothing.
-use Prim.Native.Nat.{ℕ, ◌+◌, ◌-◌, ◌/◌, ◌%◌}
-use mathlib.Core.Bool.{true, false, cond}
-use mathlib.Core.List.{List, ◌∷◌}
-use mathlib.Core.Path.{◌≡◌, sym, ap, ◌∙◌, subst}
+-- The ways out of the walk with levels: w and `rest` are the words left, `at` are gone by, a node of the sort s is due, and then others. Assumes
+-- nothing.
+use Rattle.std.proofs.Common.{ℕ, ◌+◌, ◌-◌, List, [], ◌∷◌, length, drop, arith, None, Some, cond, ◌≡◌, refl, sym, ◌∙◌}
 use lib.Dec.{eqb}
-use lib.ListN.{length, get_or, take, drop}
 use borrow.Author.Tests.{eq-eqb, ne_eqb}
-use Rattle.calculus.specs.Verdicts.{Verdict, refused, passed}
-use Rattle.calculus.specs.Kinds.{Sort}
+use Rattle.std.proofs.Math.Option.{none, some}
+use Rattle.std.proofs.Math.Option as math
+use Rattle.calculus.specs.Verdicts.{found, Verdict, refused, passed}
+use Rattle.calculus.specs.Kinds.{Sort, row_for}
+use Rattle.calculus.specs.Kinds as calculus
 use Rattle.calculus.specs.Reading.{opens, refuses, later, walk, levelled, nested_due}
-use Rattle.nodes.specs.declared.kinds.Row as code
-use Rattle.nodes.specs.declared.walks.Walked.{Walked}
-use Rattle.nodes.specs.Table.{row_of}
-use Rattle.nodes.specs.Walks.{walked, sorts_of, SortDigits, is_due}
-use Rattle.nodes.proofs.Dues.{row_due, none_due, FirstDue, first_due}
-use Rattle.nodes.proofs.Ways.{Inner}
+use Rattle.nodes.specs.Table.{as_sorts, Row, entry, told, row_due}
+use Rattle.nodes.specs.declared.kinds.Sort as code
+use Rattle.nodes.specs.declared.refusals.Refusal.{Refusal}
+use Rattle.nodes.specs.Refusals.{refusal}
 use Rattle.nodes.proofs.Ways as ways
 
--- What the walk is to find.
-abbrev pub nested_at : List ℕ → ℕ → ℕ → ℕ → Verdict ℕ
-nested_at ws at due room = later at (walk nested_due ws (levelled room (sorts_of due)))
+-- What is due at a word's parts, by the code's row.
+due_is : (s : Sort) (room w : ℕ)
+    → nested_due (s, room) w ≡ told (row_due s w) (refuses 3) (λ r. cond (eqb room 0) (refuses 4) (opens (levelled (room - 1) r.parts)))
+due_is s room w = by (row_for s w)
+  where
+    by : (o : math.Option (calculus.Row s))
+        → found o (refuses 3) (λ r. cond (eqb room 0) (refuses 4) (opens (levelled (room - 1) r.parts)))
+        ≡ told (found o None (λ r. Some (entry r))) (refuses 3) (λ r. cond (eqb room 0) (refuses 4) (opens (levelled (room - 1) r.parts)))
+    by none = refl
+    by (some r) = refl
 
-pub nothing_due : (ws : List ℕ) (at due room : ℕ) → due % 5 ≡ 0 → passed at ≡ nested_at ws at due room
-nothing_due ws at due room h = rw (none_due due h) (ways.done nested_due ws at)
+module _ (s : Sort) (others : List Sort) (room at w : ℕ) (rest : List ℕ) where
+  pub undue : None ≡ row_due s w → refused 3 at ≡ later at (walk nested_due (w ∷ rest) (levelled room (s ∷ others)))
+  undue h = ways.stopped nested_due w rest at (s, room) (levelled room others) 3 (due_is s room w ∙ rw (sym h))
 
-module _ (ws : List ℕ) (at due room : ℕ) (small : SortDigits due) (some : due % 5 ≡ 0 → ⊥) where
-  abbrev d : FirstDue due
-  d = first_due due small some
+  module _ (r : Row) (h : Some r ≡ row_due s w) where
+    here : nested_due (s, room) w ≡ cond (eqb room 0) (refuses 4) (opens (levelled (room - 1) r.parts))
+    here = due_is s room w ∙ rw (sym h)
 
-  abbrev rest : List (Sort × ℕ)
-  rest = levelled room (sorts_of (due / 5))
+    pub too_deep : room ≡ 0 → refused 4 at ≡ later at (walk nested_due (w ∷ rest) (levelled room (s ∷ others)))
+    too_deep z = ways.stopped nested_due w rest at (s, room) (levelled room others) 4 (here ∙ rw (eq-eqb room 0 z))
 
-  answer_is : later at (walk nested_due ws ((d.sort, room) ∷ rest)) ≡ nested_at ws at due room
-  answer_is = ap (λ (ss : List Sort). later at (walk nested_due ws (levelled room ss))) (sym d.sorts)
+    -- The walk over the parts: a refusal there is its own; or the parts' words are there, and it goes on behind them.
+    module _ (left : room ≡ 0 → ⊥) where
+      here_parts : nested_due (s, room) w ≡ opens (levelled (room - 1) r.parts)
+      here_parts = here ∙ rw (ne_eqb room 0 left)
 
-  pub run_out : length ws ≡ 0 → refused 3 at ≡ nested_at ws at due room
-  run_out h = ways.run_out nested_due ws at (d.sort, room) rest h ∙ answer_is
+      pub refused_there : (x : Refusal) → refusal x ≡ later (at + 1) (walk nested_due rest (levelled (room - 1) r.parts))
+          → refusal x ≡ later at (walk nested_due (w ∷ rest) (levelled room (s ∷ others)))
+      refused_there x e = ways.refused_there nested_due w rest at (s, room) (levelled room others) (levelled (room - 1) r.parts) here_parts x e
 
-  module _ (more : length ws ≡ 0 → ⊥) (row : code.Row) (is : row ≡ row_of (get_or ws 0 0 % 256)) where
-    due_is : nested_due (d.sort, room) (get_or ws 0 0)
-        ≡ cond (is_due row (due % 5) (get_or ws 0 0 / 256))
-        (cond (eqb room 0) (refuses 4) (opens (levelled (room - 1) (sorts_of row.parts)))) (refuses 3)
-    due_is =
-        row_due (refuses 3) (λ ps. cond (eqb room 0) (refuses 4) (opens (levelled (room - 1) ps))) d.sort (get_or ws 0 0)
-        ∙ rw (is, d.number)
+      pub goes_on : (n : ℕ) → passed n ≡ later (at + 1) (walk nested_due rest (levelled (room - 1) r.parts)) → (v : Verdict ℕ)
+          → v ≡ later n (walk nested_due (drop (n - at) (w ∷ rest)) (levelled room others))
+          → v ≡ later at (walk nested_due (w ∷ rest) (levelled room (s ∷ others)))
+      goes_on n e v g = ways.goes_on nested_due w rest at (s, room) (levelled room others) (levelled (room - 1) r.parts) here_parts n e v g
 
-    pub undue : is_due row (due % 5) (get_or ws 0 0 / 256) ≡ false → refused 3 at ≡ nested_at ws at due room
-    undue h = ways.stopped nested_due ws at (d.sort, room) rest more 3 (due_is ∙ rw h) ∙ answer_is
-
-    module _ (h : is_due row (due % 5) (get_or ws 0 0 / 256) ≡ true) where
-      pub too_deep : room ≡ 0 → refused 4 at ≡ nested_at ws at due room
-      too_deep z = ways.stopped nested_due ws at (d.sort, room) rest more 4 (due_is ∙ rw (h, eq-eqb room 0 z)) ∙ answer_is
-
-      pub inner : (room ≡ 0 → ⊥) → (x : Walked) → walked x ≡ nested_at (take (length ws - 1) (drop 1 ws)) (at + 1) row.parts (room - 1)
-          → Inner nested_due ws at rest (nested_at ws at due room) x
-      inner left x e =
-          let ps = levelled (room - 1) (sorts_of row.parts) in
-          let o : nested_due (d.sort, room) (get_or ws 0 0) ≡ opens ps = due_is ∙ rw (h, ne_eqb room 0 left) in
-          subst (λ (v : Verdict ℕ). Inner nested_due ws at rest v x) answer_is (ways.inner nested_due ws at (d.sort, room) rest more ps o x e)
+pub nothing_due : (ss : List code.Sort) (room at : ℕ) (ws : List ℕ) → length ss ≡ 0
+    → passed at ≡ later at (walk nested_due ws (levelled room (as_sorts ss)))
+nothing_due [] room at ws h = ways.done nested_due ws at
+nothing_due (s ∷ ss) room at ws h = absurd (omega (arith, h))

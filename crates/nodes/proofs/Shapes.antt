@@ -9,12 +9,13 @@ use lib.ListN.{get_or}
 use Rattle.calculus.specs.Trees.{ml, sc}
 use Rattle.calculus.specs.Kinds.{Sort, type, term, Tree, Trees, put_tree, Row, table, row_in}
 use Rattle.calculus.proofs.Views.{View, view, kind_of}
-use Rattle.nodes.specs.declared.kinds.Row as code
-use Rattle.nodes.specs.Table.{sort_number, shape_number, entry, row_of}
+use Rattle.std.proofs.Common.{Option, None, Some}
+use Rattle.nodes.specs.Table as nodes
+use Rattle.nodes.specs.Table.{shape, entry, row_of, told, shape_of}
 
 -- The shape of what a row makes is that of the row, whatever the operand and the parts.
 abbrev Steady : {s : Sort} → Row s → Type 0
-Steady {s} r = (o : ℕ) (ts : Trees r.parts) → (entry r).shape ≡ shape_number s (r.make o ts)
+Steady {s} r = (o : ℕ) (ts : Trees r.parts) → (entry r).shape ≡ shape s (r.make o ts)
 
 abbrev AllSteady : {s : Sort} → List (Row s) → Type 0
 AllSteady [] = Unit {0}
@@ -79,20 +80,24 @@ steady_at (x ∷ rs) hs k r q = by (λ p. steady_at rs hs.1 k r p) (eqb k x.kind
     by others false p = others p
 
 -- The code's row of a tree's first word.
-row_is : {s : Sort} {t : Tree s} (v : View s t) → row_of v.row.kind ≡ entry v.row
+row_is : {s : Sort} {t : Tree s} (v : View s t) → row_of v.row.kind ≡ Some (entry v.row)
 unfolding row_of
 row_is v = rw (v.home, v.listed)
 
-first_row : (s : Sort) (t : Tree s) (k : List ℕ) → row_of (get_or (put_tree s t k) 0 0 % 256) ≡ entry (view s t).row
+pub first_row : (s : Sort) (t : Tree s) (k : List ℕ) → row_of (get_or (put_tree s t k) 0 0 % 256) ≡ Some (entry (view s t).row)
 first_row s t k =
     let v = view s t in
     ap (λ (ws : List ℕ). row_of (get_or ws 0 0 % 256)) (v.spelt k) ∙ ap row_of (kind_of v) ∙ row_is v
 
-pub sort_first : (s : Sort) (t : Tree s) (k : List ℕ) → (row_of (get_or (put_tree s t k) 0 0 % 256)).sort ≡ sort_number s
-sort_first s t k = ap (λ (r : code.Row). r.sort) (first_row s t k)
+pub sort_first : (s : Sort) (t : Tree s) (k : List ℕ) → told (row_of (get_or (put_tree s t k) 0 0 % 256)) None (λ r. Some r.sort) ≡ Some s
+sort_first s t k = ap (λ (o : Option nodes.Row). told o None (λ r. Some r.sort)) (first_row s t k)
 
-pub shape_first : (s : Sort) (t : Tree s) (k : List ℕ) → (row_of (get_or (put_tree s t k) 0 0 % 256)).shape ≡ shape_number s t
+pub parts_first : (s : Sort) (t : Tree s) (k : List ℕ)
+    → told (row_of (get_or (put_tree s t k) 0 0 % 256)) None (λ r. Some r.parts) ≡ Some (view s t).row.parts
+parts_first s t k = ap (λ (o : Option nodes.Row). told o None (λ r. Some r.parts)) (first_row s t k)
+
+pub shape_first : (s : Sort) (t : Tree s) (k : List ℕ) → shape_of (get_or (put_tree s t k) 0 0 % 256) ≡ Some (shape s t)
 shape_first s t k =
     let v = view s t in
-    ap (λ (r : code.Row). r.shape) (first_row s t k) ∙ steady_at (table s) (steady s) v.row.kind v.row v.listed v.operand v.parts
-    ∙ ap (shape_number s) v.makes
+    ap (λ (o : Option nodes.Row). told o None (λ r. Some r.shape)) (first_row s t k)
+    ∙ ap Some (steady_at (table s) (steady s) v.row.kind v.row v.listed v.operand v.parts ∙ ap (shape s) v.makes)

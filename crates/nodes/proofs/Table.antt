@@ -1,18 +1,31 @@
--- The const table of the code is the specification's, by one computed test, and a law that reads it at a kind. Assumes nothing.
-use Prim.Native.Nat.{ℕ, zero, suc, ◌+◌, ◌/◌, ◌%◌, ◌<◌, ◌≤◌}
-use mathlib.Core.Bool.{Bool, true, false}
-use mathlib.Core.List.{List, [], ◌∷◌}
-use mathlib.Core.Option.{none}
-use mathlib.Core.Path.{◌≡◌, refl, sym, ◌∙◌, ap}
-use lib.Dec.{ltb, when}
+-- The table of the code is the specification's, by one computed test, and a law that reads it at a kind. Assumes nothing.
+use Rattle.std.proofs.Common.{ℕ, zero, suc, ◌+◌, ◌%◌, ◌<◌, ◌≤◌, Bool, true, false, List, [], ◌∷◌, Option, None, ◌≡◌, refl, sym, ◌∙◌, ap}
+use Rattle.std.proofs.Common.{arith, slice_index_or, map, length, drop}
+use Rattle.std.proofs.Math.Option.{none}
+use lib.Dec.{leb, ltb, when}
 use lib.ListN.{get_or}
-use borrow.Author.Tests.{ne_eqb, ltb-true, ltb-false}
+use borrow.Author.Tests.{ne_eqb, ltb-true, ltb-false, leb-true}
 use native.Mathlib.Nat.{add-zero, zero-add, add-suc, suc-add, le_of_suc-le-suc, not-suc-le-zero}
-use native.Mathlib.Omega.{arith}
-use Rattle.calculus.specs.Kinds.{Sort, type, term, Row, table, row_in}
+use Rattle.calculus.specs.Verdicts.{found}
+use Rattle.calculus.specs.Scope.{part_count}
+use Rattle.calculus.specs.Kinds.{Sort, type, term, Row, table, row_in, sort_of_kind}
 use Rattle.calculus.specs.Trees.{ml, sc}
 use Rattle.nodes.specs.declared.kinds.Row as code
-use Rattle.nodes.specs.Table.{no_entry, row_of, rows, packed, listed, kinds}
+use Rattle.nodes.specs.Table.{read, row_of, told, rows, listed}
+use Rattle.nodes.specs.Table as nodes
+
+-- A list whose items read as the rows from a kind on: its k-th item reads as the row that many kinds on.
+read_in : (xs : List (Option code.Row)) (i n : ℕ) → map read xs ≡ listed row_of i n → (k : ℕ) → k < n → (d : Option code.Row)
+    → read (slice_index_or xs k d) ≡ row_of (i + k)
+read_in xs i zero e k h d = absurd (not-suc-le-zero h)
+read_in [] i (suc n) e k h d = absurd (omega (arith, ap length e))
+read_in (x ∷ xs) i (suc n) e zero h d = rw add-zero (ap (λ (l : List (Option nodes.Row)). get_or l 0 None) e)
+read_in (x ∷ xs) i (suc n) e (suc k) h d =
+    read_in xs (suc i) n (ap (λ (l : List (Option nodes.Row)). drop 1 l) e) k (le_of_suc-le-suc h) d ∙ ap row_of (suc-add i k ∙ sym (add-suc i k))
+
+pub read_at : (xs : List (Option code.Row)) (n : ℕ) → map read xs ≡ listed row_of 0 n → (k : ℕ) → k < n → (d : Option code.Row)
+    → read (slice_index_or xs k d) ≡ row_of k
+read_at xs n e k h d = read_in xs 0 n e k h d ∙ ap row_of (zero-add k)
 
 module _ {A : Type 0} (f : ℕ → A) (d : A) where
   from_at : (n i k : ℕ) → k < n → get_or (listed f i n) k d ≡ f (i + k)
@@ -27,22 +40,6 @@ module _ {A : Type 0} (f : ℕ → A) (d : A) where
 pub same_list : {A : Type 0} (f g : ℕ → A) (n : ℕ) → listed f 0 n ≡ listed g 0 n → (k : ℕ) → k < n → f k ≡ g k
 same_list f g n e k h = sym (listed_at f (f 0) n k h) ∙ ap (λ (l : List _). get_or l k (f 0)) e ∙ listed_at g (f 0) n k h
 
--- A row from its number.
-abbrev pub unpacked : ℕ → code.Row
-unpacked r =
-    record {
-      sort = r % 8;
-      parts = r / 8 % 128;
-      shape = r / 1024 % 64;
-      count = r / 65536 % 4;
-      low = r / 262144 % 2;
-      high = r / 524288;
-    }
-
-pub unpacked_at : (k : ℕ) → k < rows → unpacked (get_or kinds k 0) ≡ row_of k
-unfolding kinds row_of
-unpacked_at k h = ap unpacked (listed_at (λ j. packed (row_of j)) 0 rows k h) ∙ same_list (λ j. unpacked (packed (row_of j))) row_of rows refl k h
-
 -- No kind past the last row is in a table.
 abbrev pub Below : {s : Sort} → List (Row s) → Type 0
 Below [] = Unit {0}
@@ -56,11 +53,11 @@ not_in (r ∷ rs) b k h = by (ltb r.kind rows) refl b (λ t. not_in rs t k h)
     by true e u more = rw (ne_eqb k r.kind (λ p. omega (arith, ltb-true r.kind rows e))) (more u)
     by false e u more = absurd u
 
-pub past : (k : ℕ) → rows ≤ k → row_of k ≡ no_entry
+pub past : (k : ℕ) → rows ≤ k → row_of k ≡ None
 unfolding row_of
 past k h = rw (not_in (table type) tt k h, not_in (table (term ml)) tt k h, not_in (table (term sc)) tt k h)
 
--- The one law of the table: what is computed alike at each row, and alike past the last, is alike at every kind.
+-- The one law of the table: what is computed alike at each kind, and alike past the last, is alike at every number.
 pub every_kind : {X : Type 0} (f g : ℕ → X) → listed f 0 rows ≡ listed g 0 rows → ((k : ℕ) → rows ≤ k → f k ≡ g k) → (k : ℕ) → f k ≡ g k
 every_kind f g e far k = by (ltb k rows) refl
   where
@@ -69,6 +66,19 @@ every_kind f g e far k = by (ltb k rows) refl
     by false h = far k (ltb-false k rows h)
 
 -- What hangs on a kind's row alone.
-pub by_rows : {X : Type 0} (f g : code.Row → X) → listed (λ k. f (row_of k)) 0 rows ≡ listed (λ k. g (row_of k)) 0 rows → f no_entry ≡ g no_entry
-    → (k : ℕ) → f (row_of k) ≡ g (row_of k)
+pub by_rows : {X : Type 0} (f g : Option nodes.Row → X) → listed (λ k. f (row_of k)) 0 rows ≡ listed (λ k. g (row_of k)) 0 rows
+    → f None ≡ g None → (k : ℕ) → f (row_of k) ≡ g (row_of k)
 by_rows f g e z = every_kind (λ k. f (row_of k)) (λ k. g (row_of k)) e (λ k h. rw (past k h) z)
+
+-- How many parts a kind has, by its row.
+pub row_count : (w : ℕ) → told (row_of (w % 256)) 0 (λ r. length r.parts) ≡ part_count w
+unfolding row_of
+row_count w =
+    every_kind (λ k. told (row_of k) 0 (λ r. length r.parts)) (λ k. found (row_in (table (sort_of_kind k)) k) 0 (λ r. length r.parts)) refl
+    (λ k h. rw (past k h, not_in (table type) tt k h, not_in (table (term ml)) tt k h, not_in (table (term sc)) tt k h)) (w % 256)
+
+pub count_few : (w : ℕ) → part_count w ≤ 3
+unfolding row_of
+count_few w =
+    rw (sym (row_count w)) (leb-true (told (row_of (w % 256)) 0 (λ r. length r.parts)) 3
+    (by_rows (λ o. leb (told o 0 (λ r. length r.parts)) 3) (λ o. true) refl refl (w % 256)))

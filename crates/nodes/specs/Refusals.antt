@@ -5,7 +5,7 @@ use Rattle.nodes.specs.declared.refusals.Numbers.{Numbers}
 use Rattle.nodes.specs.declared.refusals.Refusal.{Refusal}
 use Rattle.nodes.specs.declared.refusals.Refusal.TheVariants.{Bytes, Header, Word, Nesting, Variable, Untyped, Mistyped, Capacity}
 
-abbrev at : ℕ → ℕ → Numbers
+abbrev pub at : ℕ → ℕ → Numbers
 at n p = record { number = n; place = p }
 
 -- Without a place.

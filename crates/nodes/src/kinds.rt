@@ -2,194 +2,203 @@
 
 ghost use Rattle.std.specs.Prelude.{◌≡◌, ◌%◌, ◌≤◌};
 ghost use Rattle.calculus.specs.Scope.{part_count};
-ghost use Rattle.nodes.specs.Table.{row_of, kinds};
+ghost use Rattle.nodes.specs.Table.{as_sort, same_sort, in_range, read, row_of, shape_of};
 
-// The sorts of nodes are digits. 0 is none, and 4 is free.
-pub const BASE: u64 = 5;
+// The two languages of a recipe. The default is what the unused places of a stack of languages hold.
+#[derive(Clone, Copy, Default, PartialEq, Eq)]
+pub enum Language {
+    #[default]
+    Ml,
+    Scheme,
+}
 
-pub const TYPE: u64 = 1;
+// The sorts of nodes: what may be due at a word.
+#[derive(Clone, Copy, PartialEq, Eq)]
+pub enum Sort {
+    Type,
+    Term(Language),
+}
 
-pub const ML: u64 = 2;
+// The operators of one part, and of two.
+#[derive(Clone, Copy, PartialEq, Eq)]
+pub enum Operator1 {
+    Hd,
+    Tl,
+    Fix,
+    Null,
+    Test,
+}
 
-pub const SCHEME: u64 = 3;
+#[derive(Clone, Copy, PartialEq, Eq)]
+pub enum Operator2 {
+    Apply,
+    Add,
+    Subtract,
+    Cons,
+}
 
-// The shapes of terms, and of types.
-pub const VARIABLE: u64 = 1;
+// The shapes of terms, ms and sm as one, and those of types.
+#[derive(Clone, Copy, PartialEq, Eq)]
+pub enum Shape {
+    Variable,
+    Number,
+    Lambda,
+    Operator1(Operator1),
+    Operator2(Operator2),
+    If0,
+    Nil,
+    Wrong,
+    Boundary,
+    Numbers,
+    Lump,
+    List,
+    Function,
+}
 
-pub const NUMBER: u64 = 2;
-
-pub const LAMBDA: u64 = 3;
-
-pub const OPERATOR_1: u64 = 4;
-
-pub const OPERATOR_2: u64 = 5;
-
-pub const IF0: u64 = 6;
-
-pub const NIL: u64 = 7;
-
-pub const WRONG: u64 = 8;
-
-pub const BOUNDARY: u64 = 9;
-
-pub const NUMBERS: u64 = 10;
-
-pub const LUMP: u64 = 11;
-
-pub const LIST: u64 = 12;
-
-pub const FUNCTION: u64 = 13;
-
-// The places of a row's columns: its sort; its parts' sorts, as digits in base 5; its shape; how many parts it has; and its operand's range. They
-// are powers of two, so that a column is read by a shift and a mask.
-const SORTS: u64 = 8;
-
-const FIRST: u64 = SORTS;
-
-const SECOND: u64 = BASE * FIRST;
-
-const THIRD: u64 = BASE * SECOND;
-
-const PARTS: u64 = 128;
-
-const SHAPE: u64 = PARTS * FIRST;
-
-const SHAPES: u64 = 64;
-
-const ONE: u64 = SHAPES * SHAPE;
-
-const TWO: u64 = 2 * ONE;
-
-const THREE: u64 = 3 * ONE;
-
-pub const FROM_ONE: u64 = 4 * ONE;
-
-const UP_TO: u64 = 2 * FROM_ONE;
-
-const LARGEST: u64 = 16777215;
-
-const LAST_CODE: u64 = 65535;
-
-const LAST_OWNER: u64 = 255;
-
-// A row of the table is one number, because a const array is copied to the stack where it is used. A kind that is none has the row 0.
-// How many kinds have a row, and the table.
-pub const ROWS: usize = 64;
-
-pub type Kinds = [u64; ROWS];
-
-pub const KINDS: Kinds = [
-    0,
-    TYPE + SHAPE * NUMBERS, // 1 N
-    TYPE + SHAPE * LUMP + UP_TO * LAST_OWNER, // 2 L
-    TYPE + ONE + FIRST * TYPE + SHAPE * LIST, // 3 list
-    TYPE + TWO + FIRST * TYPE + SECOND * TYPE + SHAPE * FUNCTION, // 4 function
-    0,
-    0,
-    0,
-    0,
-    0,
-    0,
-    0,
-    0,
-    0,
-    0,
-    0,
-    ML + SHAPE * VARIABLE + UP_TO * LARGEST, // 16 variable
-    ML + SHAPE * NUMBER + UP_TO * LARGEST, // 17 number
-    ML + TWO + FIRST * TYPE + SECOND * ML + SHAPE * LAMBDA, // 18 lambda
-    ML + TWO + FIRST * ML + SECOND * ML + SHAPE * OPERATOR_2, // 19 application
-    ML + ONE + FIRST * ML + SHAPE * OPERATOR_1, // 20 fix
-    ML + TWO + FIRST * ML + SECOND * ML + SHAPE * OPERATOR_2, // 21 add
-    ML + TWO + FIRST * ML + SECOND * ML + SHAPE * OPERATOR_2, // 22 subtract
-    ML + THREE + FIRST * ML + SECOND * ML + THIRD * ML + SHAPE * IF0, // 23 if0
-    ML + ONE + FIRST * TYPE + SHAPE * NIL, // 24 nil
-    ML + TWO + FIRST * ML + SECOND * ML + SHAPE * OPERATOR_2, // 25 cons
-    ML + ONE + FIRST * ML + SHAPE * OPERATOR_1, // 26 hd
-    ML + ONE + FIRST * ML + SHAPE * OPERATOR_1, // 27 tl
-    ML + ONE + FIRST * ML + SHAPE * OPERATOR_1, // 28 null?
-    ML + ONE + FIRST * TYPE + SHAPE * WRONG + FROM_ONE + UP_TO * LAST_CODE, // 29 wrong
-    ML + TWO + FIRST * TYPE + SECOND * SCHEME + SHAPE * BOUNDARY, // 30 ms
-    0,
-    SCHEME + SHAPE * VARIABLE + UP_TO * LARGEST, // 32 variable
-    SCHEME + SHAPE * NUMBER + UP_TO * LARGEST, // 33 number
-    SCHEME + ONE + FIRST * SCHEME + SHAPE * LAMBDA, // 34 lambda
-    SCHEME + TWO + FIRST * SCHEME + SECOND * SCHEME + SHAPE * OPERATOR_2, // 35 application
-    SCHEME + TWO + FIRST * SCHEME + SECOND * SCHEME + SHAPE * OPERATOR_2, // 36 add
-    SCHEME + TWO + FIRST * SCHEME + SECOND * SCHEME + SHAPE * OPERATOR_2, // 37 subtract
-    SCHEME + THREE + FIRST * SCHEME + SECOND * SCHEME + THIRD * SCHEME + SHAPE * IF0, // 38 if0
-    SCHEME + SHAPE * NIL, // 39 nil
-    SCHEME + TWO + FIRST * SCHEME + SECOND * SCHEME + SHAPE * OPERATOR_2, // 40 cons
-    SCHEME + ONE + FIRST * SCHEME + SHAPE * OPERATOR_1, // 41 hd
-    SCHEME + ONE + FIRST * SCHEME + SHAPE * OPERATOR_1, // 42 tl
-    SCHEME + ONE + FIRST * SCHEME + SHAPE * OPERATOR_1 + UP_TO * 3, // 43 test
-    SCHEME + SHAPE * WRONG + FROM_ONE + UP_TO * LAST_CODE, // 44 wrong
-    SCHEME + TWO + FIRST * TYPE + SECOND * ML + SHAPE * BOUNDARY, // 45 sm
-    0,
-    0,
-    0,
-    0,
-    0,
-    0,
-    0,
-    0,
-    0,
-    0,
-    0,
-    0,
-    0,
-    0,
-    0,
-    0,
-    0,
-    0,
-];
-
-// What the table says of a kind: its sort, its parts' sorts (the first in the lowest digit, in base 5; 0 ends them), its shape, how many parts it
-// has, and the least and the greatest operand.
+// What the table says of a kind: its sort, its shape, its parts' sorts in order, and the least and the greatest operand.
 #[derive(Clone, Copy)]
 pub struct Row {
-    pub sort: u64,
-    pub parts: u64,
-    pub shape: u64,
-    pub count: usize,
-    pub low: u64,
-    pub high: u64,
+    pub sort: Sort,
+    pub shape: Shape,
+    pub parts: &'static [Sort],
+    pub low: u32,
+    pub high: u32,
+}
+
+const TYPE: Sort = Sort::Type;
+
+const ML: Sort = Sort::Term(Language::Ml);
+
+const SCHEME: Sort = Sort::Term(Language::Scheme);
+
+// The greatest number, and the last of the variables, codes, owners and tests.
+pub const LARGEST: u32 = 16777215;
+
+const LAST_CODE: u32 = 65535;
+
+const LAST_OWNER: u32 = 255;
+
+const LAST_TEST: u32 = 3;
+
+// A row whose operand is 0, and one whose operand has a range.
+macro_rules! row {
+    ($sort:ident, $shape:expr, $parts:expr) => {
+        row!($sort, $shape, $parts, 0, 0)
+    };
+    ($sort:ident, $shape:expr, $parts:expr, $low:expr, $high:expr) => {
+        Some(Row {
+            sort: $sort,
+            shape: $shape,
+            parts: &$parts,
+            low: $low,
+            high: $high,
+        })
+    };
+}
+
+// The table: a row for each kind, none for a number that is no kind.
+pub static KINDS: [Option<Row>; 46] = [
+    None,
+    row!(TYPE, Shape::Numbers, []), // 1 N
+    row!(TYPE, Shape::Lump, [], 0, LAST_OWNER), // 2 L
+    row!(TYPE, Shape::List, [TYPE]), // 3 list
+    row!(TYPE, Shape::Function, [TYPE, TYPE]), // 4 function
+    None,
+    None,
+    None,
+    None,
+    None,
+    None,
+    None,
+    None,
+    None,
+    None,
+    None,
+    row!(ML, Shape::Variable, [], 0, LARGEST), // 16 variable
+    row!(ML, Shape::Number, [], 0, LARGEST), // 17 number
+    row!(ML, Shape::Lambda, [TYPE, ML]), // 18 lambda
+    row!(ML, Shape::Operator2(Operator2::Apply), [ML, ML]), // 19 application
+    row!(ML, Shape::Operator1(Operator1::Fix), [ML]), // 20 fix
+    row!(ML, Shape::Operator2(Operator2::Add), [ML, ML]), // 21 add
+    row!(ML, Shape::Operator2(Operator2::Subtract), [ML, ML]), // 22 subtract
+    row!(ML, Shape::If0, [ML, ML, ML]), // 23 if0
+    row!(ML, Shape::Nil, [TYPE]), // 24 nil
+    row!(ML, Shape::Operator2(Operator2::Cons), [ML, ML]), // 25 cons
+    row!(ML, Shape::Operator1(Operator1::Hd), [ML]), // 26 hd
+    row!(ML, Shape::Operator1(Operator1::Tl), [ML]), // 27 tl
+    row!(ML, Shape::Operator1(Operator1::Null), [ML]), // 28 null?
+    row!(ML, Shape::Wrong, [TYPE], 1, LAST_CODE), // 29 wrong
+    row!(ML, Shape::Boundary, [TYPE, SCHEME]), // 30 ms
+    None,
+    row!(SCHEME, Shape::Variable, [], 0, LARGEST), // 32 variable
+    row!(SCHEME, Shape::Number, [], 0, LARGEST), // 33 number
+    row!(SCHEME, Shape::Lambda, [SCHEME]), // 34 lambda
+    row!(SCHEME, Shape::Operator2(Operator2::Apply), [SCHEME, SCHEME]), // 35 application
+    row!(SCHEME, Shape::Operator2(Operator2::Add), [SCHEME, SCHEME]), // 36 add
+    row!(
+        SCHEME,
+        Shape::Operator2(Operator2::Subtract),
+        [SCHEME, SCHEME]
+    ), // 37 subtract
+    row!(SCHEME, Shape::If0, [SCHEME, SCHEME, SCHEME]), // 38 if0
+    row!(SCHEME, Shape::Nil, []), // 39 nil
+    row!(SCHEME, Shape::Operator2(Operator2::Cons), [SCHEME, SCHEME]), // 40 cons
+    row!(SCHEME, Shape::Operator1(Operator1::Hd), [SCHEME]), // 41 hd
+    row!(SCHEME, Shape::Operator1(Operator1::Tl), [SCHEME]), // 42 tl
+    row!(
+        SCHEME,
+        Shape::Operator1(Operator1::Test),
+        [SCHEME],
+        0,
+        LAST_TEST
+    ), // 43 test
+    row!(SCHEME, Shape::Wrong, [], 1, LAST_CODE), // 44 wrong
+    row!(SCHEME, Shape::Boundary, [TYPE, ML]), // 45 sm
+];
+
+impl Row {
+    // Whether the kind is of a sort.
+    pub fn is_of(&self, sort: Sort) -> bool
+        ensures { result ≡ same_sort (as_sort self.now.sort) (as_sort sort) }
+    {
+        self.sort == sort
+    }
+
+    // Whether an operand is in the kind's range.
+    pub fn takes(&self, operand: u32) -> bool
+        ensures { result ≡ in_range self.now.low self.now.high operand }
+    {
+        (self.low..=self.high).contains(&operand)
+    }
 }
 
 // The row of a word's kind.
-pub fn row_at(table: &Kinds, w: u32) -> Row
-    requires { table.now ≡ kinds }
-    ensures { result ≡ row_of (w % 256) }
+pub fn row_at(w: u32) -> Option<Row>
+    ensures { read result ≡ row_of (w % 256) }
 {
-    let k = (w % 256) as usize;
-    if ROWS <= k {
-        return Row {
-            sort: 0,
-            parts: 0,
-            shape: 0,
-            count: 0,
-            low: 0,
-            high: 0,
-        };
-    }
-    let r = table[k];
-    Row {
-        sort: r % SORTS,
-        parts: r / FIRST % PARTS,
-        shape: r / SHAPE % SHAPES,
-        count: (r / ONE % 4) as usize,
-        low: r / FROM_ONE % 2,
-        high: r / UP_TO,
+    let kind = (w % 256) as usize;
+    if kind < KINDS.len() {
+        KINDS[kind]
+    } else {
+        None
     }
 }
 
+// The shape of a word's kind.
+pub fn shape_of(w: u32) -> Option<Shape>
+    ensures { result ≡ shape_of (w % 256) }
+{
+    let row = row_at(w)?;
+    Some(row.shape)
+}
+
 // How many parts the node of a word has.
-pub fn part_count(table: &Kinds, w: u32) -> usize
-    requires { table.now ≡ kinds }
+pub fn part_count(w: u32) -> usize
     ensures value { result ≡ part_count w }
     ensures most { result ≤ 3 }
 {
-    let row = row_at(table, w);
-    row.count
+    match row_at(w) {
+        Some(row) => row.parts.len(),
+        None => 0,
+    }
 }

@@ -1,8 +1,10 @@
-ghost use Rattle.std.specs.Prelude.{◌≡◌};
-ghost use Rattle.nodes.specs.Refusals.{plain, numbered, number_of, place_of};
+// The refusals of a recipe, and their numbers.
 
-// Why a recipe is refused, in the order of document 01's table; specs/Refusals.antt gives each its number and its place in the file.
-#[derive(Clone, Copy)]
+ghost use Rattle.std.specs.Prelude.{◌≡◌};
+ghost use Rattle.nodes.specs.Refusals.{at, plain, numbered};
+
+// Why a recipe is refused, in the order of the table of refusals; specs/Refusals.antt gives each its number and its place in the file.
+#[derive(Clone, Copy, PartialEq, Eq)]
 pub enum Refusal {
     Bytes,
     Header,
@@ -15,57 +17,39 @@ pub enum Refusal {
 }
 
 // A refusal's number, and its place in the file.
-#[derive(Clone, Copy)]
+#[derive(Clone, Copy, PartialEq, Eq)]
 pub struct Numbers {
     pub number: u32,
     pub place: usize,
 }
 
-// A refusal that points at nothing: its place is 0. For the operations that have refusals of their own.
+// A refusal that points at a place.
+fn at(number: u32, place: usize) -> Numbers
+    ensures { result ≡ at number place }
+{
+    Numbers { number, place }
+}
+
+// A refusal that points at nothing: its place is 0. For the operations that have refusals of their own, too.
 pub fn plain(number: u32) -> Numbers
     ensures { result ≡ plain number }
 {
-    Numbers {
-        number: number,
-        place: 0,
-    }
+    at(number, 0)
 }
 
-fn number(r: Refusal) -> u32
-    ensures { result ≡ number_of r }
-{
-    match r {
-        Refusal::Bytes => 1,
-        Refusal::Header => 2,
-        Refusal::Word(_) => 3,
-        Refusal::Nesting(_) => 4,
-        Refusal::Variable(_) => 5,
-        Refusal::Untyped(_) => 6,
-        Refusal::Mistyped(_) => 7,
-        Refusal::Capacity => 8,
-    }
-}
+impl From<Refusal> for Numbers {
+    ghost from_gives = { λ r n. n ≡ numbered r };
 
-fn place(r: Refusal) -> usize
-    ensures { result ≡ place_of r }
-{
-    match r {
-        Refusal::Bytes => 0,
-        Refusal::Header => 0,
-        Refusal::Word(p) => p,
-        Refusal::Nesting(p) => p,
-        Refusal::Variable(p) => p,
-        Refusal::Untyped(p) => p,
-        Refusal::Mistyped(p) => p,
-        Refusal::Capacity => 0,
-    }
-}
-
-pub fn numbered(r: Refusal) -> Numbers
-    ensures { result ≡ numbered r }
-{
-    Numbers {
-        number: number(r),
-        place: place(r),
+    fn from(r: Refusal) -> Numbers {
+        match r {
+            Refusal::Bytes => plain(1),
+            Refusal::Header => plain(2),
+            Refusal::Word(place) => at(3, place),
+            Refusal::Nesting(place) => at(4, place),
+            Refusal::Variable(place) => at(5, place),
+            Refusal::Untyped(place) => at(6, place),
+            Refusal::Mistyped(place) => at(7, place),
+            Refusal::Capacity => plain(8),
+        }
     }
 }

@@ -1,4 +1,4 @@
-pub mod ByForm
-pub mod Parts
 pub mod Looks
+pub mod Parts
+pub mod Showing
 pub mod Written

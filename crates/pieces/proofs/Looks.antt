@@ -1,80 +1,72 @@
--- What a rule's look at a value's form comes to: the other way, where the value has another form. Assumes nothing.
-use Prim.Native.Nat.{ℕ, ◌/◌, ◌≤◌}
-use lib.ListN.{get_or}
-use mathlib.Core.Bool.{Bool, true, false}
-use mathlib.Core.List.{List}
-use mathlib.Core.Path.{◌≡◌, refl, ap, ◌∙◌}
-use native.Mathlib.Omega.{arith}
-use Rattle.calculus.specs.Trees.{Lang, ml, sc, Static, Term, num}
-use Rattle.calculus.specs.Words.{put}
-use Rattle.calculus.specs.Reduction.{form, Became, becomes, amiss, on_number, on_lambda, on_list, on_lump}
-use Rattle.pieces.specs.Forms.{is_scheme}
-use Rattle.pieces.specs.Pieces.{Tells, PartIn, BecameIn, amiss_in, number_in}
-use Rattle.pieces.proofs.ByForm.{Formed, is_number, is_function, is_nil, is_cons_lem, is_lump_lem, is_other}
+-- What a rule's look at a value comes to, by what the value shows. Assumes nothing.
+use Prim.Native.Nat.{ℕ}
+use mathlib.Core.List.{List, []}
+use mathlib.Core.Path.{◌≡◌, refl}
+use denote.Bor.{Bor}
+use Rattle.calculus.specs.Trees.{Lang, ml, sc, Static, Term}
+use Rattle.calculus.specs.Words.{word, words, put_static}
+use Rattle.calculus.specs.Reduction.{Form, lambda, nil_form, cons_form, sealed, Became, on_number, on_lambda, on_list, on_lump}
+use Rattle.pieces.specs.declared.values.Value.{Value}
+use Rattle.pieces.specs.declared.values.Value.TheVariants.{Number, Lambda, Nil, Cons, Lump}
+use Rattle.pieces.specs.Values.{Shows, a_number, a_lambda, a_nil, a_cons, a_lump, no_value}
 
-module _ {m : Lang} (o : Became m) where
-  pub no_number : {l : Lang} {v : Term l} {n : ℕ} (k : ℕ → Became m) → Formed l n v → (n ≡ 1 → ⊥) → on_number (form v) o k ≡ o
-  unfolding on_number form
-  no_number k (is_number n) h = absurd (h refl)
-  no_number k (is_function t b) h = refl
-  no_number k (is_nil t) h = refl
-  no_number k (is_cons_lem v w) h = refl
-  no_number k (is_lump_lem u v) h = refl
-  no_number k (is_other q) h = ap (λ f. on_number f o k) q
+-- The form that is shown.
+pub lambda_shown : {l : Lang} {p : Bor (List ℕ)} {f : Form l} → Shows l (Lambda p) f
+    → (t : Static l) × (b : Term l) × (f ≡ lambda t b) × (p.now ≡ words b)
+lambda_shown (a_lambda p t b h) = (t, b, refl, h)
 
-  pub no_lambda : {l : Lang} {v : Term l} {n : ℕ} (k : Static l → Term l → Became m) → Formed l n v → (n ≡ 2 → ⊥) → on_lambda (form v) o k ≡ o
-  unfolding on_lambda form
-  no_lambda k (is_number n) h = refl
-  no_lambda k (is_function t b) h = absurd (h refl)
-  no_lambda k (is_nil t) h = refl
-  no_lambda k (is_cons_lem v w) h = refl
-  no_lambda k (is_lump_lem u v) h = refl
-  no_lambda k (is_other q) h = ap (λ f. on_lambda f o k) q
+pub nil_shown : {l : Lang} {p : Bor (List ℕ)} {f : Form l} → Shows l (Nil p) f → (t : Static l) × (f ≡ nil_form t) × (p.now ≡ put_static l t [])
+nil_shown (a_nil p t h) = (t, refl, h)
 
-  pub no_list : {l : Lang} {v : Term l} {n : ℕ} (e : Static l → Became m) (k : Term l → Term l → Became m) → Formed l n v → (n ≡ 3 → ⊥) → (n ≡ 4 → ⊥)
-      → on_list (form v) o e k ≡ o
-  unfolding on_list form
-  no_list e k (is_number n) h g = refl
-  no_list e k (is_function t b) h g = refl
-  no_list e k (is_nil t) h g = absurd (h refl)
-  no_list e k (is_cons_lem v w) h g = absurd (g refl)
-  no_list e k (is_lump_lem u v) h g = refl
-  no_list e k (is_other q) h g = ap (λ f. on_list f o e k) q
+pub cons_shown : {l : Lang} {p q : Bor (List ℕ)} {f : Form l} → Shows l (Cons p q) f
+    → (v : Term l) × (w : Term l) × (f ≡ cons_form v w) × (p.now ≡ words v) × (q.now ≡ words w)
+cons_shown (a_cons p q v w h g) = (v, w, refl, h, g)
 
-pub no_lump : {m : Lang} (o : Became m) {v : Term ml} {n : ℕ} (k : ℕ → Term _ → Became m) → Formed ml n v → (n ≡ 5 → ⊥) → on_lump (form v) o k ≡ o
-unfolding on_lump form
-no_lump o k (is_number n) h = refl
-no_lump o k (is_function t b) h = refl
-no_lump o k (is_nil t) h = refl
-no_lump o k (is_cons_lem v w) h = refl
-no_lump o k (is_lump_lem u v) h = absurd (h refl)
-no_lump o k (is_other q) h = ap (λ f. on_lump f o k) q
+pub lump_shown : {o : ℕ} {p : Bor (List ℕ)} {f : Form ml} → Shows ml (Lump o p) f
+    → (u : ℕ) × (v : Term sc) × (f ≡ sealed u v) × (o ≡ word 2 u) × (p.now ≡ words v)
+lump_shown (a_lump u p v h) = (u, v, refl, refl, h)
 
--- A value that no rule takes.
-pub amiss_told : (ws : List ℕ) (l : Lang) (c : ℕ) → Tells ws (amiss_in (is_scheme l) c) (amiss l c)
-unfolding amiss put
-amiss_told ws ml c = refl
-amiss_told ws sc c = (_, refl, refl)
+-- A number; and the other way, where another form is shown.
+pub on_shown : {l m : Lang} {n : ℕ} {f : Form l} (o : Became m) (k : ℕ → Became m) → Shows l (Number n) f → on_number f o k ≡ k n
+unfolding on_number
+on_shown o k (a_number n) = refl
 
--- No words of the node.
-pub no_part : (n : ℕ) → PartIn n 0 0
-no_part n = record { order = omega arith; most = omega arith }
+pub no_number : {l m : Lang} {r : Value} {f : Form l} (o : Became m) (k : ℕ → Became m) → Shows l r f → ((n : ℕ) → r ≡ Number n → ⊥)
+    → on_number f o k ≡ o
+unfolding on_number
+no_number o k (a_number n) h = absurd (h n refl)
+no_number o k (a_lambda p t b g) h = refl
+no_number o k (a_nil p t g) h = refl
+no_number o k (a_cons p q v w g i) h = refl
+no_number o k (a_lump u p v g) h = refl
+no_number o k no_value h = refl
 
-pub amiss_placed : (n : ℕ) (s : Bool) (c : ℕ) → BecameIn n (amiss_in s c)
-amiss_placed n true c = no_part n
-amiss_placed n false c = tt
+pub no_lambda : {l m : Lang} {r : Value} {f : Form l} (o : Became m) (k : Static l → Term l → Became m) → Shows l r f
+    → ((p : Bor (List ℕ)) → r ≡ Lambda p → ⊥) → on_lambda f o k ≡ o
+unfolding on_lambda
+no_lambda o k (a_number n) h = refl
+no_lambda o k (a_lambda p t b g) h = absurd (h p refl)
+no_lambda o k (a_nil p t g) h = refl
+no_lambda o k (a_cons p q v w g i) h = refl
+no_lambda o k (a_lump u p v g) h = refl
+no_lambda o k no_value h = refl
 
--- A number of a language, as a rule and as a word.
-pub number_told : (ws : List ℕ) (l : Lang) (n : ℕ) → Tells {l = l} ws (number_in (is_scheme l) n) (becomes (num n))
-unfolding put
-number_told ws ml n = (_, refl, refl)
-number_told ws sc n = (_, refl, refl)
+pub no_list : {l m : Lang} {r : Value} {f : Form l} (o : Became m) (e : Static l → Became m) (k : Term l → Term l → Became m) → Shows l r f
+    → ((p : Bor (List ℕ)) → r ≡ Nil p → ⊥) → ((p q : Bor (List ℕ)) → r ≡ Cons p q → ⊥) → on_list f o e k ≡ o
+unfolding on_list
+no_list o e k (a_number n) h i = refl
+no_list o e k (a_lambda p t b g) h i = refl
+no_list o e k (a_nil p t g) h i = absurd (h p refl)
+no_list o e k (a_cons p q v w g j) h i = absurd (i p q refl)
+no_list o e k (a_lump u p v g) h i = refl
+no_list o e k no_value h i = refl
 
-pub number_of : (l : Lang) (n : ℕ) (k ws : List ℕ) → ws ≡ put (num {l = l} n) k → get_or ws 0 0 / 256 ≡ n
-unfolding put
-number_of ml n k ws q = ap (λ (v : List ℕ). get_or v 0 0 / 256) q ∙ omega arith
-number_of sc n k ws q = ap (λ (v : List ℕ). get_or v 0 0 / 256) q ∙ omega arith
-
-pub number_placed : (n : ℕ) (s : Bool) (m : ℕ) → m ≤ 16777215 → BecameIn n (number_in s m)
-number_placed n true m h = record { kind = omega arith; small = h }
-number_placed n false m h = record { kind = omega arith; small = h }
+pub no_lump : {m : Lang} {r : Value} {f : Form ml} (o : Became m) (k : ℕ → Term sc → Became m) → Shows ml r f
+    → ((u : ℕ) (p : Bor (List ℕ)) → r ≡ Lump u p → ⊥) → on_lump f o k ≡ o
+unfolding on_lump
+no_lump o k (a_number n) h = refl
+no_lump o k (a_lambda p t b g) h = refl
+no_lump o k (a_nil p t g) h = refl
+no_lump o k (a_cons p q v w g i) h = refl
+no_lump o k (a_lump u p v g) h = absurd (h (word 2 u) p refl)
+no_lump o k no_value h = refl

@@ -1,3 +1,4 @@
-pub mod Forms
+pub mod Codes
+pub mod Languages
 pub mod Pieces
-pub mod Parts
+pub mod Values

@@ -1,104 +1,84 @@
 -- What a piece writes, and that the code's answer tells what a node becomes.
-use Rattle.std.specs.Prelude.{ℕ, ◌+◌, ◌≤◌, Bool, true, false, List, [], ◌∷◌, ◌++◌, ◌≡◌, drop, length}
+use Rattle.std.specs.Prelude.{ℕ, ◌≤◌, List, [], ◌∷◌, ◌++◌, ◌≡◌, length}
 use Rattle.calculus.specs.Trees.{Lang, Term}
-use Rattle.calculus.specs.Words.{word, by, put, words}
+use Rattle.calculus.specs.Words.{word, by, largest, words}
 use Rattle.calculus.specs.Reduction as calculus
 use Rattle.calculus.specs.Reduction.{becomes, raises, nothing, substitute}
-use Rattle.writing.specs.Stretches.{stretch}
+use Rattle.nodes.specs.declared.kinds.Language.{Language}
+use Rattle.nodes.specs.declared.kinds.Language.TheVariants.{Ml, Scheme}
+use Rattle.nodes.specs.Table.{as_lang}
 use Rattle.pieces.specs.declared.became.Became.{Became}
 use Rattle.pieces.specs.declared.became.Became.TheVariants.{Nothing, Raises, Becomes}
 use Rattle.pieces.specs.declared.became.Piece.{Piece}
-use Rattle.pieces.specs.declared.became.Piece.TheVariants.{Number, Part, Led, Led2, Cons, IntoML, IntoScheme, Substituted}
+use Rattle.pieces.specs.declared.became.Piece.TheVariants.{Word, Number, Part, Led, Led2, Cons, Function, Substituted}
+use Rattle.pieces.specs.Languages.{other}
 use Rattle.writing.specs.Given.{most_words}
-use Rattle.writing.specs.Wrote.{Wrote}
+use Rattle.writing.specs.declared.Writer.{Writer}
+use Rattle.writing.specs.Puts.{Puts}
 
--- The words of a cons and of a lambda brought over, from where they stand.
-abbrev pub cons_words : ℕ → ℕ → ℕ → ℕ → ℕ → List ℕ → List ℕ
-cons_words c m v t e ws = c ∷ ((m ∷ stretch 2 v ws) ++ (stretch (v + 1) t ws ++ ((m ∷ stretch 1 v ws) ++ stretch t e ws)))
+-- The words of a cons brought into a language, from its element's type, its head and its tail.
+abbrev pub cons_words : Language → List ℕ → List ℕ → List ℕ → List ℕ
+cons_words i t h e =
+    let c = by (as_lang i) 25 40 in let m = by (as_lang i) 30 45 in
+    c ∷ ((m ∷ t) ++ (h ++ ((m ∷ 3 ∷ t) ++ e)))
 
-abbrev pub into_ml_words : ℕ → ℕ → ℕ → List ℕ → List ℕ
-into_ml_words s v e ws = (18 ∷ stretch 2 s ws) ++ ((30 ∷ stretch s v ws) ++ ((35 ∷ stretch v e ws) ++ ((45 ∷ stretch 2 s ws) ++ (16 ∷ []))))
+-- What stands before a lambda's body: its word, and in ML the type of its variable.
+abbrev pub lambda_words : Language → List ℕ → List ℕ
+lambda_words Ml t = 18 ∷ t
+lambda_words Scheme t = 34 ∷ []
 
-abbrev pub into_scheme_words : ℕ → ℕ → ℕ → List ℕ → List ℕ
-into_scheme_words s v e ws = 34 ∷ ((45 ∷ stretch s v ws) ++ ((19 ∷ stretch v e ws) ++ ((30 ∷ stretch 2 s ws) ++ (32 ∷ []))))
+-- The lambda that stands for a lambda f brought into a language.
+abbrev pub function_words : Language → List ℕ → List ℕ → List ℕ → List ℕ
+function_words i t u f =
+    lambda_words i t
+    ++ ((by (as_lang i) 30 45 ∷ u)
+    ++ ((by (as_lang (other i)) 19 35 ∷ f) ++ ((by (as_lang (other i)) 30 45 ∷ t) ++ (by (as_lang i) 16 32 ∷ []))))
 
--- The piece writes the words of u, where ws are the words from the node on.
-abbrev pub Gives : {l : Lang} → List ℕ → Piece → Term l → Type 0
-Gives ws (Number k n) u = words u ≡ word k n ∷ []
-Gives ws (Part a e) u = words u ≡ stretch a e ws
-Gives ws (Led w a e) u = words u ≡ w ∷ stretch a e ws
-Gives ws (Led2 w v a e) u = words u ≡ w ∷ v ∷ stretch a e ws
-Gives ws (Cons c m v t e) u = words u ≡ cons_words c m v t e ws
-Gives ws (IntoML s v e) u = words u ≡ into_ml_words s v e ws
-Gives ws (IntoScheme s v e) u = words u ≡ into_scheme_words s v e ws
-Gives {l} ws (Substituted x b a e) u =
-    (v : Term l) × (body : Term l) × (k : List ℕ) × (x ≡ by l 16 32) × (drop b ws ≡ put body k)
-    × (stretch a e ws ≡ words v) × (u ≡ substitute v 0 body)
+-- The piece writes the words of u.
+abbrev pub Gives : {l : Lang} → Piece → Term l → Type 0
+Gives (Word w) u = words u ≡ w ∷ []
+Gives (Number i n) u = words u ≡ word (by (as_lang i) 17 33) n ∷ []
+Gives (Part p) u = words u ≡ p.now
+Gives (Led w p) u = words u ≡ w ∷ p.now
+Gives (Led2 w v p) u = words u ≡ w ∷ v ∷ p.now
+Gives (Cons i t h e) u = words u ≡ cons_words i t.now h.now e.now
+Gives (Function i t v f) u = words u ≡ function_words i t.now v.now f.now
+Gives {l} (Substituted i b a) u =
+    (v : Term l) × (body : Term l) × (as_lang i ≡ l) × (b.now ≡ words body) × (a.now ≡ words v) × (u ≡ substitute v 0 body)
 
-abbrev pub Tells : {l : Lang} → List ℕ → Became → calculus.Became l → Type 0
-Tells ws r (becomes u) = (p : Piece) × (r ≡ Becomes p) × Gives ws p u
-Tells ws r (raises c) = r ≡ Raises c
-Tells ws r nothing = r ≡ Nothing
+-- The code's answer tells what the node becomes.
+abbrev pub Tells : {l : Lang} → Became → calculus.Became l → Type 0
+Tells r (becomes u) = (p : Piece) × (r ≡ Becomes p) × Gives p u
+Tells r (raises c) = r ≡ Raises c
+Tells r nothing = r ≡ Nothing
 
--- A number of a kind.
-pub record NumberOf (k m : ℕ) : Type 0 where
-  pub kind : k ≤ 33
-  pub small : m ≤ 16777215
+-- Words that are not too many. Each contract asks it of its own parts: they are plain slices, of which no type could say it.
+abbrev pub Few : List ℕ → Type 0
+Few ws = length ws ≤ most_words
 
--- The places of a part of n words; of a cons in them, behind its type; of a lambda, behind its two types; of a body and a value.
-pub record PartIn (n a e : ℕ) : Type 0 where
-  pub order : a ≤ e
-  pub most : e ≤ n
+-- A piece's parts are not too long, and its number is no greater than the greatest.
+abbrev pub Placed : Piece → Type 0
+Placed (Word w) = Unit {0}
+Placed (Number i n) = n ≤ largest
+Placed (Part p) = Few p.now
+Placed (Led w p) = Few p.now
+Placed (Led2 w v p) = Few p.now
+Placed (Cons i t h e) = Few t.now × Few h.now × Few e.now
+Placed (Function i t v f) = Few t.now × Few v.now × Few f.now
+Placed (Substituted i b a) = Few b.now × Few a.now
 
-pub record ConsIn (n v t e : ℕ) : Type 0 where
-  pub type : 2 ≤ v
-  pub head : v + 1 ≤ t
-  pub tail : t ≤ e
-  pub most : e ≤ n
+-- A piece that a node becomes is so; the other answers have none.
+abbrev pub BecameIn : Became → Type 0
+BecameIn Nothing = Unit {0}
+BecameIn (Raises c) = Unit {0}
+BecameIn (Becomes p) = Placed p
 
-pub record LambdaIn (n s v e : ℕ) : Type 0 where
-  pub first : 2 ≤ s
-  pub second : s ≤ v
-  pub lambda : v ≤ e
-  pub most : e ≤ n
+-- Both, of an answer that takes no part of the node.
+pub record Becoming {l : Lang} (r : Became) (b : calculus.Became l) : Type 0 where
+  pub placed : BecameIn r
+  pub told : Tells r b
 
-pub record BodyIn (n x b a e : ℕ) : Type 0 where
-  pub variable : x ≤ 32
-  pub body : b ≤ n
-  pub order : a ≤ e
-  pub most : e ≤ n
-
--- A piece's places are within n words, and its numbers are small.
-abbrev pub Placed : ℕ → Piece → Type 0
-Placed n (Number k m) = NumberOf k m
-Placed n (Part a e) = PartIn n a e
-Placed n (Led w a e) = PartIn n a e
-Placed n (Led2 w v a e) = PartIn n a e
-Placed n (Cons c m v t e) = ConsIn n v t e
-Placed n (IntoML s v e) = LambdaIn n s v e
-Placed n (IntoScheme s v e) = LambdaIn n s v e
-Placed n (Substituted x b a e) = BodyIn n x b a e
-
-abbrev pub BecameIn : ℕ → Became → Type 0
-BecameIn n Nothing = Unit {0}
-BecameIn n (Raises c) = Unit {0}
-BecameIn n (Becomes p) = Placed n p
-
--- What hangs on numbers alone, as code computes it, for Scheme or for ML: a value that no rule takes,
-abbrev pub amiss_in : Bool → ℕ → Became
-amiss_in true c = Becomes (Led (word 44 c) 0 0)
-amiss_in false c = Nothing
-
--- and a number.
-abbrev pub number_in : Bool → ℕ → Became
-number_in true n = Becomes (Number 33 n)
-number_in false n = Becomes (Number 17 n)
-
--- Words that are not too many, to be written from a place that is not too far.
-pub record Near (ws : List ℕ) (n most : ℕ) : Type 0 where
-  pub few : length ws ≤ most_words
-  pub place : n ≤ most
-
--- What is written of a piece: the words of what it gives.
-pub record Writes (ws : List ℕ) (p : Piece) (b : List ℕ) (n k : ℕ) (b' : List ℕ) : Type 0 where
-  pub of : (l : Lang) (u : Term l) → Gives ws p u → Wrote b n (words u) k b'
+-- What is put of a piece, from the writer w to r: the words of what it gives.
+pub record Writes (p : Piece) (w r : Writer ℕ) : Type 0 where
+  pub same : r.buffer.ghost_name ≡ w.buffer.ghost_name
+  pub of : (l : Lang) (u : Term l) → Gives p u → Puts w (words u) r

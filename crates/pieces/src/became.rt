@@ -1,95 +1,69 @@
 // What a node becomes whose turn it is, as words: nothing, if no rule fits; an error, by its code; or a piece to write.
 
-ghost use Rattle.std.specs.Prelude.{◌≡◌, ◌≤◌};
-ghost use Rattle.pieces.specs.Pieces.{amiss_in, number_in};
+ghost use Rattle.std.specs.Prelude.{◌≤◌};
+ghost use Rattle.calculus.specs.Trees.{num};
+ghost use Rattle.calculus.specs.Words.{largest};
+ghost use Rattle.calculus.specs.Reduction.{becomes, amiss};
+ghost use Rattle.nodes.specs.Table.{as_lang};
+ghost use Rattle.pieces.specs.Codes.{code};
+ghost use Rattle.pieces.specs.Pieces.{BecameIn, Becoming, Tells};
 
-use nodes::words::scheme_wrong;
+use crate::codes::Wrong;
+use nodes::kinds::Language;
 
+// Three outcomes, as the calculus has them: nothing and a raise are answers there, and no failures.
 #[derive(Clone, Copy)]
-pub enum Became {
+pub enum Became<'a> {
     Nothing,
     Raises(u32),
-    Becomes(Piece),
+    Becomes(Piece<'a>),
 }
 
-// The words to write. Some stand in the node already, `from` a place `to` another; places are counted from the node's word on.
+// The words to write. Some are parts of the node.
 #[derive(Clone, Copy)]
-pub enum Piece {
-    Number {
-        kind: u32,
-        number: u32,
-    },
-    Part {
-        from: usize,
-        to: usize,
-    },
-    // one word or two, and a part after them
-    Led {
-        word: u32,
-        from: usize,
-        to: usize,
-    },
-    Led2 {
-        word: u32,
-        next: u32,
-        from: usize,
-        to: usize,
-    },
-    // a cons brought over, by the words of a cons and of a boundary: where it starts, where its tail does, and where it ends
+pub enum Piece<'a> {
+    Word(u32),
+    Number(Language, u32),
+    Part(&'a [u32]),
+    // one word or two, and a part after them: two variants, since a slice of the leading words would need a buffer to stand in
+    Led(u32, &'a [u32]),
+    Led2(u32, u32, &'a [u32]),
+    // a cons brought into a language, whose elements have a type
     Cons {
-        cons: u32,
-        boundary: u32,
-        value: usize,
-        tail: usize,
-        end: usize,
+        into: Language,
+        element: &'a [u32],
+        head: &'a [u32],
+        tail: &'a [u32],
     },
-    // a lambda brought over: where the second type starts, where the lambda does, and where it ends
-    IntoML {
-        second: usize,
-        lambda: usize,
-        end: usize,
+    // a lambda brought into a language, a function from a type to another
+    Function {
+        into: Language,
+        from: &'a [u32],
+        to: &'a [u32],
+        lambda: &'a [u32],
     },
-    IntoScheme {
-        second: usize,
-        lambda: usize,
-        end: usize,
-    },
-    // a body with a value for its variable: the variable's word, where the body starts, and where the value stands
+    // a body with a value for the language's variable
     Substituted {
-        variable: u32,
-        body: usize,
-        from: usize,
-        to: usize,
+        language: Language,
+        body: &'a [u32],
+        value: &'a [u32],
     },
 }
 
 // A value that no rule takes: a wrong in Scheme.
-pub fn amiss(scheme: bool, code: u32) -> Became
-    requires { code ≤ 9 }
-    ensures { result ≡ amiss_in scheme code }
+pub fn amiss<'a>(language: Language, wrong: Wrong) -> Became<'a>
+    ensures { Becoming result (amiss (as_lang language) (code wrong)) }
 {
-    if scheme {
-        return Became::Becomes(Piece::Led {
-            word: scheme_wrong(code),
-            from: 0,
-            to: 0,
-        });
+    match language {
+        Language::Ml => Became::Nothing,
+        Language::Scheme => Became::Becomes(Piece::Word(wrong.word(language))),
     }
-    Became::Nothing
 }
 
-// A number of Scheme, or of ML.
-pub fn number_in(scheme: bool, n: u32) -> Became
-    ensures { result ≡ number_in scheme n }
+// A number of a language.
+pub fn number_in<'a>(language: Language, n: u32) -> Became<'a>
+    ensures placed { n ≤ largest → BecameIn result }
+    ensures told { Tells result (becomes (num {l = as_lang language} n)) }
 {
-    if scheme {
-        return Became::Becomes(Piece::Number {
-            kind: nodes::words::SCHEME_NUMBER,
-            number: n,
-        });
-    }
-    Became::Becomes(Piece::Number {
-        kind: nodes::words::ML_NUMBER,
-        number: n,
-    })
+    Became::Becomes(Piece::Number(language, n))
 }

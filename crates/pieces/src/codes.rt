@@ -1,15 +1,36 @@
-// The codes of the wrongs that the rules make, and the greatest number.
+// The wrongs that the rules make.
+
+ghost use Rattle.std.specs.Prelude.{◌≡◌, ◌≤◌};
+ghost use Rattle.calculus.specs.Words.{by, word};
+ghost use Rattle.nodes.specs.Table.{as_lang};
+ghost use Rattle.pieces.specs.Codes.{code};
+
+use nodes::kinds::Language;
+use nodes::words::wrong;
 
 // Not a number, not a function, not a list; hd or tl of nil; a sum over the greatest number.
-pub const NO_NUMBER: u32 = 1;
+#[derive(Clone, Copy, PartialEq, Eq)]
+pub enum Wrong {
+    NoNumber = 1,
+    NoFunction = 2,
+    NoList = 3,
+    OfNil = 4,
+    Over = 5,
+}
 
-pub const NO_FUNCTION: u32 = 2;
+impl Wrong {
+    // The code that a run ends with.
+    pub fn code(self) -> u32
+        ensures value { result ≡ code self }
+        ensures small { result ≤ 5 }
+    {
+        self as u32
+    }
 
-pub const NO_LIST: u32 = 3;
-
-pub const OF_NIL: u32 = 4;
-
-pub const OVER: u32 = 5;
-
-// The greatest number.
-pub const LARGEST: u32 = 16777215;
+    // Its word in a language. In ML a type stands after it.
+    pub fn word(self, language: Language) -> u32
+        ensures { result ≡ word (by (as_lang language) 29 44) (code self) }
+    {
+        wrong(language, self.code())
+    }
+}

@@ -1,182 +1,121 @@
-// What a node becomes, written from the place n on. Words past the end are only counted.
+// What a node becomes, put on a writer.
 
 #![tactic(auto)]
 
-ghost use Rattle.std.specs.Prelude.{◌∷◌, ◌+◌, ◌*◌, ◌≤◌, length};
-ghost use Rattle.writing.specs.Given.{most_words, most_piece, most_place, Given};
-ghost use Rattle.writing.specs.Wrote.{Wrote};
-ghost use Rattle.pieces.specs.Pieces.{PartIn, ConsIn, LambdaIn, Placed, cons_words, into_ml_words, into_scheme_words, Near, Writes};
-ghost use Rattle.writing.specs.Stretches.{stretch};
+ghost use Rattle.std.specs.Prelude.{[], ◌∷◌, ◌++◌, ◌+◌, ◌*◌, ◌<◌, ◌≤◌, length};
 ghost use Rattle.pieces.specs.declared.became.Piece.TheVariants.{Substituted};
+ghost use Rattle.pieces.specs.Pieces.{Few, Placed, cons_words, lambda_words, function_words, Writes};
+ghost use Rattle.writing.specs.Given.{most_words, most_piece, most_place};
+ghost use Rattle.writing.specs.Puts.{Puts};
 
 use crate::became::Piece;
-use crate::numbers::put_number;
-use nodes::kinds::Kinds;
+use nodes::kinds::Language;
+use nodes::words::{LIST, ML_LAMBDA, SCHEME_LAMBDA};
+use words::{application, boundary, cons, number, other, variable};
+use writing::Writer;
 use writing::substitution::substitute;
-use writing::{copy, put};
 
 pub mod became;
 pub mod codes;
-pub mod forms;
 pub mod numbers;
+pub mod values;
+pub mod words;
 
-// A word, and after it the words from a place to another.
-fn lead(w: u32, words: &[u32], a: usize, e: usize, target: &mut [u32], n: usize) -> usize
-    requires { Near words.now n (2 * most_place) × PartIn (length words.now) a e }
-    ensures wrote { Wrote target.old n (w ∷ stretch a e words.now) result target.new }
-    ensures bound { (n ≤ result) × (result ≤ n + 1 + most_words) }
+// A word, and after it a part.
+fn lead(w: u32, part: &[u32], target: &mut Writer<u32>)
+    requires { Few part.now × (target.old.at ≤ 2 * most_place) }
+    ensures put { Puts target.old (w ∷ part.now) target.new }
+    ensures bound { (target.old.at ≤ target.new.at) × (target.new.at ≤ target.old.at + 1 + most_words) }
 {
-    let m = put(target, n, w);
-    copy(&words[a..e], target, m)
+    target.put(w);
+    target.extend(part);
 }
 
-// The cons of a head and a tail, each brought over at its type.
-fn put_cons(
-    cons: u32,
-    boundary: u32,
-    words: &[u32],
-    value: usize,
-    tail: usize,
-    end: usize,
-    target: &mut [u32],
-    n: usize,
-) -> usize
-    requires { Near words.now n most_place × ConsIn (length words.now) value tail end }
-    ensures wrote { Wrote target.old n (cons_words cons boundary value tail end words.now) result target.new }
-    ensures bound { (n ≤ result) × (result ≤ n + 8 * most_words) }
+// Two words, and after them a part.
+fn lead_two(w: u32, v: u32, part: &[u32], target: &mut Writer<u32>)
+    requires { Few part.now × (target.old.at < 2 * most_place) }
+    ensures put { Puts target.old (w ∷ v ∷ part.now) target.new }
+    ensures bound { (target.old.at ≤ target.new.at) × (target.new.at ≤ target.old.at + 2 + most_words) }
 {
-    let head = value + 1;
-    let a = put(target, n, cons);
-    let b = lead(boundary, words, 2, value, target, a);
-    let c = copy(&words[head..tail], target, b);
-    let d = lead(boundary, words, 1, value, target, c);
-    copy(&words[tail..end], target, d)
+    target.put(w);
+    lead(v, part, target);
 }
 
-// The ML lambda that stands for a Scheme lambda.
-fn into_ml(
-    words: &[u32],
-    second: usize,
-    lambda: usize,
-    end: usize,
-    target: &mut [u32],
-    n: usize,
-) -> usize
-    requires { Near words.now n most_place × LambdaIn (length words.now) second lambda end }
-    ensures wrote { Wrote target.old n (into_ml_words second lambda end words.now) result target.new }
-    ensures bound { (n ≤ result) × (result ≤ n + 8 * most_words) }
+// The cons of a head and a tail, each brought into the language at its type.
+fn put_cons(into: Language, element: &[u32], head: &[u32], tail: &[u32], target: &mut Writer<u32>)
+    requires { Few element.now × Few head.now × Few tail.now × (target.old.at ≤ most_place) }
+    ensures put { Puts target.old (cons_words into element.now head.now tail.now) target.new }
+    ensures bound { (target.old.at ≤ target.new.at) × (target.new.at ≤ target.old.at + 8 * most_words) }
 {
-    let a = lead(nodes::words::ML_LAMBDA, words, 2, second, target, n);
-    let b = lead(nodes::words::MS, words, second, lambda, target, a);
-    let c = lead(
-        nodes::words::SCHEME_APPLICATION,
-        words,
-        lambda,
-        end,
-        target,
-        b,
-    );
-    let d = lead(nodes::words::SM, words, 2, second, target, c);
-    put(target, d, nodes::words::ML_VARIABLE)
+    target.put(cons(into));
+    lead(boundary(into), element, target);
+    target.extend(head);
+    lead_two(boundary(into), LIST, element, target);
+    target.extend(tail);
 }
 
-// The Scheme lambda that stands for an ML lambda.
-fn into_scheme(
-    words: &[u32],
-    second: usize,
-    lambda: usize,
-    end: usize,
-    target: &mut [u32],
-    n: usize,
-) -> usize
-    requires { Near words.now n most_place × LambdaIn (length words.now) second lambda end }
-    ensures wrote { Wrote target.old n (into_scheme_words second lambda end words.now) result target.new }
-    ensures bound { (n ≤ result) × (result ≤ n + 8 * most_words) }
+// A lambda, up to its body: in ML the type of its variable stands there.
+fn put_lambda(language: Language, from: &[u32], target: &mut Writer<u32>)
+    requires { Few from.now × (target.old.at ≤ most_place) }
+    ensures put { Puts target.old (lambda_words language from.now) target.new }
+    ensures bound { (target.old.at ≤ target.new.at) × (target.new.at ≤ target.old.at + 1 + most_words) }
 {
-    let a = put(target, n, nodes::words::SCHEME_LAMBDA);
-    let b = lead(nodes::words::SM, words, second, lambda, target, a);
-    let c = lead(nodes::words::ML_APPLICATION, words, lambda, end, target, b);
-    let d = lead(nodes::words::MS, words, 2, second, target, c);
-    put(target, d, nodes::words::SCHEME_VARIABLE)
+    match language {
+        Language::Ml => lead(ML_LAMBDA, from, target),
+        Language::Scheme => target.put(SCHEME_LAMBDA),
+    }
 }
 
-// Two words, and after them the words from a place to another.
-fn lead_two(
-    w: u32,
-    v: u32,
-    words: &[u32],
-    a: usize,
-    e: usize,
-    target: &mut [u32],
-    n: usize,
-) -> usize
-    requires { Near words.now n most_place × PartIn (length words.now) a e }
-    ensures wrote { Wrote target.old n (w ∷ v ∷ stretch a e words.now) result target.new }
-    ensures bound { (n ≤ result) × (result ≤ n + 8 * most_words) }
+// The lambda that stands for another language's lambda.
+fn put_function(into: Language, from: &[u32], to: &[u32], lambda: &[u32], target: &mut Writer<u32>)
+    requires { Few from.now × Few to.now × Few lambda.now × (target.old.at ≤ most_place) }
+    ensures put { Puts target.old (function_words into from.now to.now lambda.now) target.new }
+    ensures bound { (target.old.at ≤ target.new.at) × (target.new.at ≤ target.old.at + 8 * most_words) }
 {
-    let m = put(target, n, w);
-    lead(v, words, a, e, target, m)
+    put_lambda(into, from, target);
+    lead(boundary(into), to, target);
+    lead(application(other(into)), lambda, target);
+    lead(boundary(other(into)), from, target);
+    target.put(variable(into));
 }
 
-// A body with a value for its variable.
-fn substituted(
-    table: &Kinds,
-    words: &[u32],
-    x: u32,
-    body: usize,
-    a: usize,
-    e: usize,
-    target: &mut [u32],
-    n: usize,
-) -> usize
-    requires given { Given table.now words.now × (n ≤ most_place) }
-    requires placed { Placed (length words.now) (Substituted x body a e) }
-    ensures writes { Writes words.now (Substituted x body a e) target.old n result target.new }
-    ensures bound { (n ≤ result) × (result ≤ n + most_piece) }
+// A body with a value for the language's variable.
+fn substituted(language: Language, body: &[u32], value: &[u32], target: &mut Writer<u32>)
+    requires { Few body.now × Few value.now × (target.old.at ≤ most_place) }
+    ensures writes { Writes (Substituted language body.entry value.entry) target.old target.new }
+    ensures bound { (target.old.at ≤ target.new.at) × (target.new.at ≤ target.old.at + most_piece) }
 {
-    let r = substitute(table, &words[body..], body, 1, x, &words[a..e], target, n);
-    r.at
+    substitute(body, 1, variable(language), value, target);
 }
 
-// The piece that the node becomes that the words start with. Returns the place after it.
-pub fn write(table: &Kinds, words: &[u32], piece: Piece, target: &mut [u32], n: usize) -> usize
-    requires given { Given table.now words.now × (n ≤ most_place) }
-    requires placed { Placed (length words.now) piece }
-    ensures writes { Writes words.now piece target.old n result target.new }
-    ensures bound { (n ≤ result) × (result ≤ n + most_piece) }
+// The piece that a node becomes.
+pub fn write(piece: Piece, target: &mut Writer<u32>)
+    requires { Placed piece × (target.old.at ≤ most_place) }
+    ensures writes { Writes piece.entry target.old target.new }
+    ensures bound { (target.old.at ≤ target.new.at) × (target.new.at ≤ target.old.at + most_piece) }
 {
     match piece {
-        Piece::Number { kind, number } => put_number(kind, number, target, n),
-        Piece::Part { from, to } => copy(&words[from..to], target, n),
-        Piece::Led { word, from, to } => lead(word, words, from, to, target, n),
-        Piece::Led2 {
-            word,
-            next,
-            from,
-            to,
-        } => lead_two(word, next, words, from, to, target, n),
+        Piece::Word(word) => target.put(word),
+        Piece::Number(language, n) => target.put(number(language, n)),
+        Piece::Part(part) => target.extend(part),
+        Piece::Led(word, part) => lead(word, part, target),
+        Piece::Led2(word, next, part) => lead_two(word, next, part, target),
         Piece::Cons {
-            cons,
-            boundary,
-            value,
+            into,
+            element,
+            head,
             tail,
-            end,
-        } => put_cons(cons, boundary, words, value, tail, end, target, n),
-        Piece::IntoML {
-            second,
-            lambda,
-            end,
-        } => into_ml(words, second, lambda, end, target, n),
-        Piece::IntoScheme {
-            second,
-            lambda,
-            end,
-        } => into_scheme(words, second, lambda, end, target, n),
-        Piece::Substituted {
-            variable,
-            body,
+        } => put_cons(into, element, head, tail, target),
+        Piece::Function {
+            into,
             from,
             to,
-        } => substituted(table, words, variable, body, from, to, target, n),
+            lambda,
+        } => put_function(into, from, to, lambda, target),
+        Piece::Substituted {
+            language,
+            body,
+            value,
+        } => substituted(language, body, value, target),
     }
 }

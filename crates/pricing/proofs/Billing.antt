@@ -4,45 +4,50 @@ use mathlib.Core.Bool.{Bool, true, false, false≢true}
 use mathlib.Core.List.{List, [], ◌∷◌, ◌++◌}
 use mathlib.Core.Path.{◌≡◌, refl, sym, ap, ◌∙◌, subst}
 use native.Mathlib.Omega.{arith}
-use lib.Dec.{eqb, leb}
-use lib.ListN.{length, get_or, take, drop, replicate, length-drop}
+use lib.Dec.{leb}
+use lib.ListN.{length, take, drop, replicate, length-drop}
 use lib.Seq.{take_all, length-take-le}
-use borrow.Author.Tests.{le-leb, lt-leb, leb-true, eqb-true}
+use borrow.Author.Rules.{rules, part_to_end}
+use borrow.Author.Tests.{le-leb, lt-leb, leb-true}
 use Rattle.calculus.specs.Trees.{Ty, N, list, ml, Term}
-use Rattle.calculus.specs.Words.{put_ty, words, words_ty, size}
+use Rattle.calculus.specs.Words.{put_ty, words_ty, size}
+use Rattle.std.specs.Prelude.{Result, Ok, Err}
+use Rattle.std.specs.Array.{AllOfLen}
+use Rattle.std.specs.Result.{is_err}
 use Rattle.calculus.specs.Verdicts.{Verdict, refused, passed, and_then}
 use Rattle.calculus.specs.Inference.{same_type}
-use Rattle.calculus.specs.Run.{End, valued, uncounted, Result, run, capacity}
-use Rattle.calculus.specs.File.{words_of, check, run_in, padded, first_after, second_after}
+use Rattle.calculus.specs.Run as runs
+use Rattle.calculus.specs.Run.{valued, spent, error, full, uncounted, run, capacity}
+use Rattle.calculus.specs.File.{words_of, check, run_in, padded, left_by}
 use Rattle.calculus.proofs.Checks.{passes_in_order}
 use Rattle.calculus.proofs.Inference.{same_iff}
 use Rattle.calculus.proofs.Comparison.{equal_by_words}
 use Rattle.calculus.proofs.Verdicts.{not_both, unless_iff, passed_injective}
 use Rattle.calculus.proofs.Padding.{padded_take}
 use Rattle.checker.proofs.Admitting.{Admits}
+use Rattle.std.proofs.lemmas.List.FromFn.{fill_by_all}
 use Rattle.nodes.specs.declared.refusals.Refusal.{Refusal}
 use Rattle.nodes.specs.Refusals as nodes
 use Rattle.ends.specs.declared.Report.{Report}
-use Rattle.engine.specs.declared.runs.Answer.{Answer}
-use Rattle.engine.specs.declared.runs.Answer.TheVariants as a
+use Rattle.engine.specs.Lent.{Lent, room}
 use Rattle.engine.specs.Answered.{Begun}
 use Rattle.engine.specs.Ran.{Good}
 use Rattle.ends.specs.Results.{Line, line_of, end_of, told}
 use Rattle.engine.proofs.Answering.{passed_by, refused_by_lem, term_within}
 use Rattle.charges.specs.Prices.{Prices, charges, all_within}
 use Rattle.charges.specs.Charged.{charged}
+use Rattle.charges.specs.declared.Charges.{Charges}
 use Rattle.charges.proofs.Pricing.{charges_zeros}
-use Rattle.pricing.specs.Items.{list_of, items_in}
+use Rattle.pricing.specs.Items.{items_in}
 use Rattle.pricing.specs.Pricing.{Bill, charged_for, uncharged, bill, billed, pricing}
 use Rattle.pricing.specs.Refusals.{refusal}
 use Rattle.pricing.specs.Answered as spec
-use Rattle.pricing.specs.Answered.{Answered}
-use Rattle.pricing.specs.Parts.{Declares, Short, Left, Reads, AtValue, AtEnd, TermOf, OfNumbers, RecipeIn, Recipes, Runs, Bills}
+use Rattle.pricing.specs.Answered.{Answered, priced}
+use Rattle.pricing.specs.Parts.{Declares, Says, Billed, Left, Costs, Reads, TermOf, RecipeOf, Recipes, Bills, PricingButBuffers}
 use Rattle.pricing.specs.declared.items.Items.{Items}
 use Rattle.pricing.specs.declared.Priced.{Priced}
+use Rattle.pricing.specs.declared.Unpriced.{Unpriced}
 use Rattle.pricing.specs.declared.Unpriced.TheVariants as u
-use Rattle.pricing.specs.declared.Outcome.{Outcome}
-use Rattle.pricing.specs.declared.Outcome.TheVariants as o
 use Rattle.pricing.proofs.Listing.{items_in_lem}
 use Rattle.pricing.proofs.Valued.{Listed, run_listed, run_few}
 
@@ -59,32 +64,9 @@ declares {ws} {r} f g = record { of = λ τ e. by τ e r (same_type ml τ (list 
     by τ e false false p q = p ∙ sym q
     by τ e false true p q = absurd (false≢true (sym p ∙ g (e ∙ (equal_by_words.same τ (list N)).0 q ∙ words_are)))
 
-two : (ws : List ℕ) → length ws ≡ 2 → get_or ws 0 0 ≡ 3 → get_or ws 1 0 ≡ 1 → ws ≡ 3 ∷ 1 ∷ []
-two [] l p q = absurd (omega (arith, l))
-two (x ∷ []) l p q = absurd (omega (arith, l))
-two (x ∷ y ∷ []) l p q = rw (p, q)
-two (x ∷ y ∷ z ∷ ws) l p q = absurd (omega (arith, l))
-
-module _ (ws : List ℕ) where
-  pub other_length : (length ws ≡ 2 → ⊥) → Declares ws false
-  other_length h = declares (λ e. absurd (false≢true e)) (λ e. absurd (h (ap length e)))
-
-  pub other_kind : (get_or ws 0 0 ≡ 3 → ⊥) → Declares ws false
-  other_kind h = declares (λ e. absurd (false≢true e)) (λ e. absurd (h (ap (λ (l : List ℕ). get_or l 0 0) e)))
-
-  pub by_element : length ws ≡ 2 → get_or ws 0 0 ≡ 3 → Declares ws (eqb (get_or ws 1 0) 1)
-  by_element l p = declares (λ e. two ws l p (eqb-true (get_or ws 1 0) 1 e)) (λ e. ap (λ (l : List ℕ). eqb (get_or l 1 0) 1) e)
-
--- The same verdict, said in another way; buffers of the same lengths.
-answered_as : {v w : Verdict Bill} {x : Priced} {first second first' second' : List ℕ} → v ≡ w → Answered v x first second first' second'
-    → Answered w x first second first' second'
-answered_as {x = x} {first = first} {second = second} {first' = first'} {second' = second'} e h =
-    subst (λ (y : Verdict Bill). Answered y x first second first' second') e h
-
-answered_for : {v : Verdict Bill} {x : Priced} {first second first₁ second₁ first' second' : List ℕ} → length first₁ ≡ length first
-    → length second₁ ≡ length second → Answered v x first₁ second₁ first' second' → Answered v x first second first' second'
-answered_for f s h =
-    record { answer_is = h.answer_is; charges_are = h.charges_are; first_is = h.first_is ∙ rw f; second_is = h.second_is ∙ rw s }
+-- The same verdict, said in another way.
+says_as : {v w : Verdict Bill} {x : Result Priced Unpriced} → v ≡ w → Says v x → Says w x
+says_as {x = x} e h = subst (λ (y : Verdict Bill). Says y x) e h
 
 -- Where the outcome is an end there is a bill, and its run's result is that end's.
 pub billed_by : (v : Verdict Bill) (x : Report) → passed (told x) ≡ and_then (spec.ran v) (λ r. passed (line_of r))
@@ -92,84 +74,91 @@ pub billed_by : (v : Verdict Bill) (x : Report) → passed (told x) ≡ and_then
 billed_by (refused n p) x q = absurd (not_both n p (told x) (sym q))
 billed_by (passed b) x q = (b, refl, passed_injective (told x) (line_of b.run) q)
 
--- An outcome without a charge, where both buffers hold what the run left.
-pub answered_uncharged : {v : Verdict Bill} {p : Priced} (x : Outcome) {first second first' second' : List ℕ} → p ≡ spec.uncharged x
-    → spec.spoken x ≡ and_then (spec.ran v) (λ r. passed (line_of r)) → spec.no_charges ≡ spec.charges_of v
-    → first' ≡ first_after (length first) (spec.ran v) → second' ≡ second_after (length second) (spec.ran v)
-    → Answered v p first second first' second'
-answered_uncharged x h t n f s =
+-- A refusal, whatever the buffers hold.
+refused_billed : {v : Verdict Bill} {why : Unpriced} {first second first' second' : List ℕ} → v ≡ refusal why
+    → Billed v (Err why) first second first' second'
+refused_billed {why = why} e =
     record {
-      answer_is = ap (λ (z : Priced). spec.spoken z.outcome) h ∙ t;
-      charges_are = ap (λ (z : Priced). z.charges) h ∙ n;
-      first_is = f;
-      second_is = s;
+      says = says_as (sym e) record { answer_is = refl; charges_are = refl };
+      first_is = λ p q. absurd (no_price p q);
+      second_is = λ p q. absurd (no_price p q);
     }
+  where
+    no_price : (p : Priced) → ◌≡◌ {A = Result Priced Unpriced} (Err why) (Ok p) → ⊥
+    no_price p q = false≢true (sym (ap is_err q))
 
 padded_charges : (prices : Prices) (ns : List ℕ) → length ns ≤ 9 → charges prices (padded 9 ns) ≡ charges prices ns
 unfolding padded
 padded_charges prices ns few =
     ap (λ (l : List ℕ). charges prices (l ++ replicate (9 - length ns) 0)) (take_all 9 ns few) ∙ charges_zeros prices ns (9 - length ns)
 
--- At a value, with the items that were read.
-module _ {x : Report} {first second : List ℕ} {found : Items} (short : Short x first)
-    (reads : Reads (take x.left first) found) where
-  read_is : (r : Result) → Left x first second r → r.end ≡ valued
-      → (ns : List ℕ) × (items_in r.left ≡ ns) × (found.count ≡ length ns) × (found.pulses ≡ padded 9 ns)
-  read_is r l v =
-      let y = l.value_is v in
-      let n : x.left ≡ length r.left = ap (λ (z : Line). z.left) l.told_is in
-      let front : take x.left first ≡ words (list_of y.0) =
-      ap (take x.left) l.first_is ∙ padded_take (length first) x.left r.left (omega (arith, n, short.within)) n ∙ y.1 in
-      let g = reads.of y.0 front in
-      (y.0, ap items_in y.1 ∙ items_in_lem y.0 y.2, g.0, g.1)
-
-  pub too_many : {prices : Prices} {p : Priced} {first' second' : List ℕ} → 9 < found.count
-      → Answered (refusal u.Items) p first second first' second' → AtValue prices x first second p first' second'
-  too_many {prices} h a =
-      record {
-        of = λ r l v.
-            let y = read_is r l v in
-            answered_as (sym (rw (y.1, lt-leb (length y.0) 9 (omega (arith, h, y.2))))) a;
-      }
-
-  pub in_full : {prices : Prices} {p : Priced} → p ≡ record { outcome = o.Ended x; charges = charged prices found.pulses } → found.count ≤ 9
-      → AtValue prices x first second p first second
-  in_full {prices} {p} e h =
-      record {
-        of = λ r l v.
-            let y = read_is r l v in
-            let ns = y.0 in
-            let few : length ns ≤ 9 = omega (arith, h, y.2) in
-            let verdict : passed (charged_for prices r ns) ≡ bill prices r valued = rw (y.1, le-leb (length ns) 9 few) in
-            let same : charges prices found.pulses ≡ charges prices ns = ap (charges prices) y.3 ∙ padded_charges prices ns few in
-            answered_as verdict
-            (record {
-              answer_is = ap (λ (z : Priced). spec.spoken z.outcome) e ∙ ap passed l.told_is;
-              charges_are = ap (λ (z : Priced). z.charges) e ∙ rw same;
-              first_is = l.first_is;
-              second_is = l.second_is;
-            });
-      }
-
--- At an end, by which it is.
-end_is : {x : Report} {first second : List ℕ} {r : Result} → Left x first second r → end_of x.end ≡ r.end
+-- A report's end is its run's.
+end_is : {x : Report} {left : List ℕ} {r : runs.Result} → Left x left r → end_of x.end ≡ r.end
 end_is l = ap (λ (z : Line). z.end) l.told_is
 
-module _ (prices : Prices) {x : Report} {first second : List ℕ} where
-  pub at_value : {p : Priced} {first' second' : List ℕ} → end_of x.end ≡ valued → AtValue prices x first second p first' second'
-      → AtEnd prices x first second p first' second'
-  at_value q a = record { of = λ r l. let v = sym (end_is l) ∙ q in answered_as (ap (bill prices r) (sym v)) (a.of r l v) }
+-- At a value, with the items that were read.
+module _ {x : Report} {left : List ℕ} {found : Items} (reads : Reads left found) (v : end_of x.end ≡ valued) where
+  read_is : (r : runs.Result) → Left x left r → (ns : List ℕ) × (items_in r.left ≡ ns) × (found.count ≡ length ns) × (found.pulses ≡ padded 9 ns)
+  read_is r l =
+      let y = l.value_is (sym (end_is l) ∙ v) in
+      let g = reads.of y.0 (l.left_is ∙ y.1) in
+      (y.0, ap items_in y.1 ∙ items_in_lem y.0 y.2, g.0, g.1)
 
-  pub no_value : {p : Priced} (e : End) → p ≡ spec.uncharged (o.Ended x) → end_of x.end ≡ e
-      → ((r : Result) → bill prices r e ≡ passed (uncharged r)) → AtEnd prices x first second p first second
-  no_value e h q n =
+  pub too_many : {prices : Prices} → 9 < found.count → Costs prices x left (Err u.Items)
+  too_many {prices} h =
       record {
-        of = λ r l. answered_as (sym (n r) ∙ ap (bill prices r) (sym q ∙ end_is l))
-            (answered_uncharged (o.Ended x) h (ap passed l.told_is) refl l.first_is l.second_is);
+        of = λ r l.
+            let y = read_is r l in
+            let ten : bill prices r valued ≡ refused 10 0 = rw (y.1, lt-leb (length y.0) 9 (omega (arith, h, y.2))) in
+            says_as (sym (ap (bill prices r) (sym (end_is l) ∙ v) ∙ ten)) record { answer_is = refl; charges_are = refl };
       }
 
+  pub in_full : {prices : Prices} {c : Charges} → c ≡ charged prices found.pulses → found.count ≤ 9
+      → Costs prices x left (Ok (record { report = x; charges = c }))
+  in_full {prices} e h =
+      record {
+        of = λ r l.
+            let y = read_is r l in
+            let ns = y.0 in
+            let few : length ns ≤ 9 = omega (arith, h, y.2) in
+            let verdict : bill prices r valued ≡ passed (charged_for prices r ns) = rw (y.1, le-leb (length ns) 9 few) in
+            let same : charges prices found.pulses ≡ charges prices ns = ap (charges prices) y.3 ∙ padded_charges prices ns few in
+            says_as (sym (ap (bill prices r) (sym (end_is l) ∙ v) ∙ verdict))
+            record { answer_is = ap passed l.told_is; charges_are = e ∙ rw same };
+      }
+
+-- The default charges are those of a run without a bill.
+pub default_charges : (x : Charges) → AllOfLen (λ (n : ℕ). n ≡ 0) x.charge 9 × (x.total ≡ 0) → x ≡ spec.no_charges
+default_charges x e =
+    let zeros : x.charge ≡ replicate 9 0 = fill_by_all (λ i. 0) x.charge 9 0 e.0.long (λ k h. e.0.at k 0 h) in
+    search rules
+
+-- At another end.
+no_bill : (prices : Prices) (r : runs.Result) (e : runs.End) → ¬ (e ≡ valued) → bill prices r e ≡ passed (uncharged r)
+no_bill prices r valued n = absurd (n refl)
+no_bill prices r spent n = refl
+no_bill prices r error n = refl
+no_bill prices r full n = refl
+
+pub no_value : {prices : Prices} {x : Report} {left : List ℕ} → ¬ (end_of x.end ≡ valued)
+    → Costs prices x left (Ok (record { report = x; charges = spec.no_charges }))
+no_value {prices} n =
+    record {
+      of = λ r l. says_as (sym (no_bill prices r r.end (λ h. n (end_is l ∙ h)))) record { answer_is = ap passed l.told_is; charges_are = refl };
+    }
+
+-- What a bill tells of the run is the run's own.
+own : (prices : Prices) (r : runs.Result) (e : runs.End) (b : Bill) → bill prices r e ≡ passed b → b.run ≡ r
+own prices r valued b q =
+    sym
+    (ap (λ (y : Bill). y.run)
+    (passed_injective _ b ((unless_iff (leb (length (items_in r.left)) 9) 10 0 (passed (charged_for prices r (items_in r.left))) b).0 q).1))
+own prices r spent b q = sym (ap (λ (y : Bill). y.run) (passed_injective _ b q))
+own prices r error b q = sym (ap (λ (y : Bill). y.run) (passed_injective _ b q))
+own prices r full b q = sym (ap (λ (y : Bill). y.run) (passed_injective _ b q))
+
 -- A run that begins: refused, or ended with a result.
-fits : (limit cap : ℕ) (e : Term ml) (r : Result) → run_in limit cap (list N, e) ≡ passed r → (size e ≤ cap) × (run limit cap uncounted e ≡ r)
+fits : (limit cap : ℕ) (e : Term ml) (r : runs.Result) → run_in limit cap (list N, e) ≡ passed r → (size e ≤ cap) × (run limit cap uncounted e ≡ r)
 unfolding run_in
 fits limit cap e r q =
     let y = (unless_iff (leb (size e) cap) 8 0 (passed (run limit cap uncounted e)) r).0 q in
@@ -178,126 +167,158 @@ fits limit cap e r q =
 good : {ws : List ℕ} {e : Term ml} → TermOf (list N) ws e → Good e
 good t = record { ranged = t.ranged; type = list N; typed = t.typed }
 
-pub begun_as : {limit : ℕ} {ws first second first₁ second₁ : List ℕ} {x y : Answer} → x ≡ y → Begun limit ws x first second first₁ second₁
-    → Begun limit ws y first second first₁ second₁
-begun_as {limit} {ws} {first} {second} {first₁} {second₁} e b = subst (λ (z : Answer). Begun limit ws z first second first₁ second₁) e b
-
 module _ (limit : ℕ) (ws first second : List ℕ) {first₁ second₁ : List ℕ} {x : Report}
-    (b : Begun limit ws (a.Ended x) first second first₁ second₁) (f : length first₁ ≡ length first) (s : length second₁ ≡ length second) where
+    (b : Begun limit ws (Ok x) first second first₁ second₁) (f : length first₁ ≡ length first) (s : length second₁ ≡ length second) where
   abbrev cap : ℕ
   cap = capacity (length first) (length second)
 
-  result : {e : Term ml} → TermOf (list N) ws e → (r : Result) × (run_in limit cap (list N, e) ≡ passed r) × (told x ≡ line_of r)
+  result : {e : Term ml} → TermOf (list N) ws e → (r : runs.Result) × (run_in limit cap (list N, e) ≡ passed r) × (told x ≡ line_of r)
   result {e} t = passed_by (run_in limit cap (list N, e)) x (b.of e (list N) t.words_are (good t)).answer_is
 
-  pub short : OfNumbers ws → Short x first₁
-  short n =
-      let r = result n.is in
-      let y = fits limit cap n.term r.0 r.1 in
-      let k : x.left ≡ length (run limit cap uncounted n.term).left =
-      ap (λ (z : Line). z.left) r.2 ∙ ap (λ (z : Result). length z.left) (sym y.1) in
-      let few = run_few limit cap n.term y.0 in
-      record { few = omega (arith, k, few); within = omega (arith, k, few, f) }
+  -- The words left stand in the first buffer.
+  ran_in : {e : Term ml} (t : TermOf (list N) ws e) → (first₁ ≡ padded (length first) (result t).0.left) × (second₁ ≡ padded (length second) [])
+  ran_in {e} t = let y = b.of e (list N) t.words_are (good t) in (y.first_is ∙ rw (result t).1, y.second_is)
 
-  left : {e : Term ml} (t : TermOf (list N) ws e) → Left x first₁ second₁ (result t).0
+  few : {e : Term ml} (t : TermOf (list N) ws e) → (x.left ≡ length (result t).0.left) × (length (result t).0.left ≤ cap)
+  few {e} t =
+      let r = result t in
+      let y = fits limit cap e r.0 r.1 in
+      (ap (λ (z : Line). z.left) r.2, subst (λ (z : runs.Result). length z.left ≤ cap) y.1 (run_few limit cap e y.0))
+
+  pub short : {e : Term ml} → TermOf (list N) ws e → (x.left ≤ 16384) × (x.left ≤ length first₁)
+  short t = let n = few t in (omega (arith, n), omega (arith, n, f))
+
+  left : {e : Term ml} (t : TermOf (list N) ws e) → Left x (take x.left first₁) (result t).0
   left {e} t =
       let r = result t in
-      let y = b.of e (list N) t.words_are (good t) in
       let same = (fits limit cap e r.0 r.1).1 in
+      let n = few t in
       record {
         told_is = r.2;
-        first_is = y.first_is ∙ rw (r.1, f);
-        second_is = y.second_is ∙ rw s;
-        value_is = λ v. subst (λ (z : Result). Listed z.left) same
-            (run_listed limit cap e t.ranged t.typed (ap (λ (z : Result). z.end) same ∙ v));
+        left_is = ap (take x.left) (ran_in t).0 ∙ padded_take (length first) x.left r.0.left (omega (arith, n)) n.0;
+        value_is = λ v. subst (λ (z : runs.Result). Listed z.left) same
+            (run_listed limit cap e t.ranged t.typed (ap (λ (z : runs.Result). z.end) same ∙ v));
       }
 
-  pub run_ended : (prices : Prices) {p : Priced} {first' second' : List ℕ} → AtEnd prices x first₁ second₁ p first' second'
-      → Runs prices limit ws first second p first' second'
-  run_ended prices g =
-      record {
-        of = λ e t. answered_as (sym (ap (λ (v : Verdict Result). and_then v (λ r. bill prices r r.end)) (result t).1))
-            (answered_for f s (g.of (result t).0 (left t)));
-      }
+  ran_billed : (prices : Prices) {p : Result Priced Unpriced} → Costs prices x (take x.left first₁) p → (e : Term ml) → TermOf (list N) ws e
+      → Billed (and_then (run_in limit cap (list N, e)) (λ r. bill prices r r.end)) p first second first₁ second₁
+  ran_billed prices {p} g e t =
+      let r = (result t).0 in
+      let v : Verdict Bill = bill prices r r.end in
+      let is : and_then (run_in limit cap (list N, e)) (λ r. bill prices r r.end) ≡ v =
+      ap (λ (w : Verdict runs.Result). and_then w (λ r. bill prices r r.end)) (result t).1 in
+      let s = g.of r (left t) in
+      subst (λ (w : Verdict Bill). Billed w p first second first₁ second₁) (sym is)
+      record { says = s; first_is = λ y q. (ran_in t).0 ∙ ap (padded (length first)) (left_own r s y q); second_is = λ y q. (ran_in t).1 }
+    where
+      left_own : (r : runs.Result) → Says (bill prices r r.end) p → (y : Priced) → p ≡ Ok y → r.left ≡ left_by (spec.ran (bill prices r r.end))
+      left_own r s y q =
+          let spoken = ap (λ (z : Result Priced Unpriced). spec.spoken (spec.outcome z)) q in
+          let b = billed_by (bill prices r r.end) y.report (sym spoken ∙ s.answer_is) in
+          ap (λ (z : runs.Result). z.left) (sym (own prices r r.end b.0 b.1)) ∙ ap (λ (w : Verdict Bill). left_by (spec.ran w)) (sym b.1)
 
-pub run_refused : (prices : Prices) (limit : ℕ) (ws first second : List ℕ) {first₁ second₁ : List ℕ} {r : Refusal} {p : Priced}
-    → Begun limit ws (a.Refused r) first second first₁ second₁ → p ≡ spec.uncharged (o.Refused (u.Recipe r))
-    → Runs prices limit ws first second p first₁ second₁
-run_refused prices limit ws first second {r = r} b h =
-    record {
-      of = λ e t.
-          let y = b.of e (list N) t.words_are (good t) in
-          let v = refused_by_lem (run_in limit (capacity (length first) (length second)) (list N, e)) r y.answer_is in
-          answered_as (sym (ap (λ (w : Verdict Result). and_then w (λ r. bill prices r r.end)) v))
-          (answered_uncharged (o.Refused (u.Recipe r)) h refl refl (y.first_is ∙ rw v) y.second_is);
-    }
+-- Refusal 8.
+run_refused : (prices : Prices) (limit : ℕ) (ws first second : List ℕ) {first₁ second₁ : List ℕ} {r : Refusal}
+    → Begun limit ws (Err r) first second first₁ second₁ → (e : Term ml) → TermOf (list N) ws e
+    → Billed (and_then (run_in limit (capacity (length first) (length second)) (list N, e)) (λ r. bill prices r r.end)) (Err (u.Recipe r))
+    first second first₁ second₁
+run_refused prices limit ws first second {r = r} b e t =
+    let y = b.of e (list N) t.words_are (good t) in
+    refused_billed
+    (ap (λ (w : Verdict runs.Result). and_then w (λ r. bill prices r r.end))
+    (refused_by_lem (run_in limit (capacity (length first) (length second)) (list N, e)) r y.answer_is))
 
 -- Refusal 9, or the run: by the declared type.
-module _ (prices : Prices) (limit : ℕ) (ws : List ℕ) (n : ℕ) (first second : List ℕ) {p : Priced} {first' second' : List ℕ} where
-  pub bill_other : {r : Bool} → Declares (take n (drop 4 ws)) r → r ≡ false → Answered (refusal u.Declared) p first second first' second'
-      → Bills prices limit ws n first second p first' second'
-  unfolding billed
-  bill_other d f a = record { of = λ τ e i. answered_as (sym (rw (← (d.of τ i.types_are), f))) a }
+module _ (prices : Prices) (limit : ℕ) (types terms first second : List ℕ) where
+  abbrev of_term : Ty → Term ml → Verdict Bill
+  of_term τ e = and_then (run_in limit (capacity (length first) (length second)) (τ, e)) (λ r. bill prices r r.end)
 
-  pub bill_run : {r : Bool} → Declares (take n (drop 4 ws)) r → r ≡ true → Runs prices limit (drop (4 + n) ws) first second p first' second'
-      → Bills prices limit ws n first second p first' second'
+  pub bill_other : {r : Bool} → Declares types r → r ≡ false → Bills prices limit types terms first second (Err u.Declared) first second
   unfolding billed
-  bill_run d f a =
+  bill_other d f = record { of = λ τ e i. refused_billed (rw (← (d.of τ i.types_are), f)) }
+
+  module _ {r : Bool} (d : Declares types r) (f : r ≡ true) {p : Result Priced Unpriced} {first' second' : List ℕ} where
+    bill_as : ((e : Term ml) → TermOf (list N) terms e → Billed (of_term (list N) e) p first second first' second')
+        → Bills prices limit types terms first second p first' second'
+    unfolding billed
+    bill_as a =
+        record {
+          of = λ τ e i.
+              let t = sym (d.of τ i.types_are) ∙ f in
+              let q = (same_iff ml τ (list N)).0 t in
+              let is : of_term (list N) e ≡ billed prices limit (capacity (length first) (length second)) (τ, e) =
+              sym (rw t (ap (λ (σ : Ty). of_term σ e) q)) in
+              subst (λ (w : Verdict Bill). Billed w p first second first' second') is
+              (a e (subst (λ (σ : Ty). TermOf σ terms e) q i.term_is));
+        }
+
+    pub bill_run : {x : Report} → Begun limit terms (Ok x) first second first' second' → length first' ≡ length first
+        → length second' ≡ length second → Costs prices x (take x.left first') p → Bills prices limit types terms first second p first' second'
+    bill_run b k l g = bill_as (ran_billed limit terms first second b k l prices g)
+
+    pub bill_refused : {x : Refusal} → Begun limit terms (Err x) first second first' second' → p ≡ Err (u.Recipe x)
+        → Bills prices limit types terms first second p first' second'
+    bill_refused {x} b q =
+        bill_as
+        (λ e t. subst (λ (y : Result Priced Unpriced). Billed (of_term (list N) e) y first second first' second') (sym q)
+        (run_refused prices limit terms first second b e t))
+
+-- A recipe of type {N}.
+pub of_numbers : {types terms : List ℕ} {r : Bool} (m : Recipes types terms) → Declares types r → r ≡ true → TermOf (list N) terms m.term
+of_numbers {terms = terms} m d f =
+    let q = (same_iff ml m.declared (list N)).0 (sym (d.of m.declared m.is.types_are) ∙ f) in
+    subst (λ (σ : Ty). TermOf σ terms m.term) q m.is.term_is
+
+-- The recipe of a file that was accepted: the words of its type and of its term, as the code cuts them out.
+module _ {bytes all : List ℕ} {types n : ℕ} (m : Admits bytes all types n) where
+  abbrev types_in : List ℕ
+  types_in = take (4 + types - 4) (drop 4 (take n all))
+
+  abbrev terms_in : List ℕ
+  terms_in = take (length (take n all) - (4 + types)) (drop (4 + types) (take n all))
+
+  pub recipe_in : RecipeOf types_in terms_in m.recipe.0 m.recipe.1
+  recipe_in =
+      let o = m.opened in
+      let i = passes_in_order (words_of bytes) m.recipe (sym o.check_is ∙ m.accepted) in
+      let own : 4 + types - 4 ≡ types = omega arith in
       record {
-        of = λ τ e i.
-            let t = sym (d.of τ i.types_are) ∙ f in
-            let q = (same_iff ml τ (list N)).0 t in
-            answered_as
-            (sym (rw t (ap (λ (σ : Ty). and_then (run_in limit (capacity (length first) (length second)) (σ, e)) (λ r. bill prices r r.end)) q)))
-            (a.of e (subst (λ (σ : Ty). TermOf σ (drop (4 + n) ws) e) q i.term_is));
+        types_are = rw (own, o.words_are, o.types_are) i.1.types_are;
+        term_is =
+            record {
+              words_are = part_to_end (take n all) (4 + types) ∙ rw (o.words_are, o.types_are) i.1.terms_are;
+              ranged = i.1.order.ranged;
+              typed = i.2;
+            };
       }
 
-pub of_numbers : {ws : List ℕ} {n : ℕ} {r : Bool} → Recipes ws n → Declares (take n (drop 4 ws)) r → r ≡ true → OfNumbers (drop (4 + n) ws)
-of_numbers {ws} {n} m d f =
-    let q = (same_iff ml m.declared (list N)).0 (sym (d.of m.declared m.is.types_are) ∙ f) in
-    record {
-      few = omega (arith, m.few, length-drop (4 + n) ws);
-      term = m.term;
-      is = subst (λ (σ : Ty). TermOf σ (drop (4 + n) ws) m.term) q m.is.term_is;
-    }
-
--- The recipe of a file that was accepted.
-pub recipe_in : {bytes all : List ℕ} {types n : ℕ} (m : Admits bytes all types n) → RecipeIn (take n all) types m.recipe.0 m.recipe.1
-recipe_in {bytes} {all} {types} {n} m =
-    let o = m.opened in
-    let i = passes_in_order (words_of bytes) m.recipe (sym o.check_is ∙ m.accepted) in
-    record {
-      types_are = rw (o.words_are, o.types_are) i.1.types_are;
-      term_is = record { words_are = rw (o.words_are, o.types_are) i.1.terms_are; ranged = i.1.order.ranged; typed = i.2 };
-    }
-
-pub recipes : {bytes all : List ℕ} {types n : ℕ} → Admits bytes all types n → Recipes (take n all) types
-recipes {all = all} {n = n} m =
-    let w = term_within m in
-    let l = length-take-le n all (omega (arith, w)) in
-    record {
-      few = omega (arith, w, l);
-      within = omega (arith, w, l);
-      declared = m.recipe.0;
-      term = m.recipe.1;
-      is = recipe_in m;
-    }
+  pub recipes : Recipes types_in terms_in
+  recipes =
+      let w = term_within m in
+      let l = length-take-le n all (omega (arith, w)) in
+      let rest = part_to_end (take n all) (4 + types) in
+      record {
+        few = omega (arith, w, l, ap length rest, length-drop (4 + types) (take n all));
+        declared = m.recipe.0;
+        term = m.recipe.1;
+        is = recipe_in;
+      }
 
 -- The whole operation: refused by the prices or by the check, or billed.
-module _ (prices : Prices) (bytes : List ℕ) (limit : ℕ) (first second : List ℕ) {p : Priced} {first' second' : List ℕ} where
-  pub priced_over : all_within prices ≡ false → Answered (refusal u.Prices) p first second first' second'
-      → Answered (pricing prices bytes limit (length first) (length second)) p first second first' second'
+module _ (prices : Prices) (l : Lent) where
+  pub priced_over : all_within prices ≡ false → PricingButBuffers prices l (spec.returned (Err u.Prices) l.first l.second)
   unfolding pricing
-  priced_over w a = answered_as (sym (rw w)) a
+  priced_over w = refused_billed (rw w)
 
-  pub priced_refused : (r : Refusal) → all_within prices ≡ true → check bytes ≡ nodes.refusal r
-      → Answered (refusal (u.Recipe r)) p first second first' second'
-      → Answered (pricing prices bytes limit (length first) (length second)) p first second first' second'
+  pub priced_refused : (r : Refusal) → all_within prices ≡ true → check l.bytes ≡ nodes.refusal r
+      → PricingButBuffers prices l (spec.returned (Err (u.Recipe r)) l.first l.second)
   unfolding pricing
-  priced_refused r w q a = answered_as (sym (rw (w, q))) a
+  priced_refused r w q = refused_billed (rw (w, q))
 
-  pub priced_billed : {all : List ℕ} {types n : ℕ} → all_within prices ≡ true → Admits bytes all types n
-      → Bills prices limit (take n all) types first second p first' second'
-      → Answered (pricing prices bytes limit (length first) (length second)) p first second first' second'
+  pub priced_billed : {all : List ℕ} {types n : ℕ} {p : Result Priced Unpriced} {first' second' : List ℕ} → all_within prices ≡ true
+      → (m : Admits l.bytes all types n) → Bills prices l.limit (types_in m) (terms_in m) l.first l.second p first' second'
+      → PricingButBuffers prices l (spec.returned p first' second')
   unfolding pricing
-  priced_billed w m b = answered_as (sym (rw (w, m.accepted))) (b.of m.recipe.0 m.recipe.1 (recipe_in m))
+  priced_billed {p = p} {first' = first'} {second' = second'} w m b =
+      let is : billed prices l.limit (room l) m.recipe ≡ priced prices l = sym (rw (w, m.accepted)) in
+      subst (λ (v : Verdict Bill). Billed v p l.first l.second first' second') is (b.of m.recipe.0 m.recipe.1 (recipe_in m))

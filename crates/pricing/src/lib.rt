@@ -4,19 +4,18 @@
 
 pub mod items;
 
-ghost use Rattle.std.specs.Prelude.{◌≡◌};
+ghost use Rattle.std.specs.Prelude.{◌≡◌, ◌≤◌, length};
 ghost use Rattle.engine.specs.Lent.{lent};
-ghost use Rattle.pricing.specs.Refusals.{numbered, refusal};
-ghost use Rattle.pricing.specs.Answered.{no_charges, uncharged, Answered, Pricing, returned};
-ghost use Rattle.pricing.specs.Parts.{Declares, Short, AtValue, AtEnd, OfNumbers, Runs, Recipes, Bills};
+ghost use Rattle.pricing.specs.Answered.{Pricing, returned};
+ghost use Rattle.pricing.specs.Parts.{Declares, Bills, Recipes, Costs, PricingButBuffers};
 
 use charges::{Charges, Prices, charged, within};
 use checker::admit;
 use ends::{End, Report};
 use engine::buffers::keep;
-use engine::runs::{Answer, begin};
-use file::Opened;
+use engine::runs::begin;
 use nodes::refusals::{Numbers, Refusal, plain};
+use nodes::words::{LIST, N};
 
 // Why a can has no price: a price is over 1,000,000, the recipe is refused, its declared type is not {N}, or it has more than nine items.
 #[derive(Clone, Copy)]
@@ -27,152 +26,136 @@ pub enum Unpriced {
     Items,
 }
 
-#[derive(Clone, Copy)]
-pub enum Outcome {
-    Refused(Unpriced),
-    Ended(Report),
-}
+// A recipe that is refused has no price.
+impl From<Refusal> for Unpriced {
+    ghost use Rattle.std.specs.Prelude.{◌≡◌};
+    ghost use Rattle.pricing.specs.declared.Unpriced.TheVariants.{Recipe};
 
-// What pricing answers. The charges are 0 where there are none.
-#[derive(Clone, Copy)]
-pub struct Priced {
-    pub outcome: Outcome,
-    pub charges: Charges,
+    ghost from_gives = { λ r u. u ≡ Recipe r };
+
+    fn from(r: Refusal) -> Unpriced {
+        Unpriced::Recipe(r)
+    }
 }
 
 // A refusal's number, and its place in the file.
-pub fn numbered(u: Unpriced) -> Numbers
-    ensures { result ≡ numbered u }
-{
-    match u {
-        Unpriced::Prices => plain(11),
-        Unpriced::Recipe(r) => nodes::refusals::numbered(r),
-        Unpriced::Declared => plain(9),
-        Unpriced::Items => plain(10),
+impl From<Unpriced> for Numbers {
+    ghost use Rattle.std.specs.Prelude.{◌≡◌};
+    ghost use Rattle.pricing.specs.Refusals.{numbered};
+
+    ghost from_gives = { λ u n. n ≡ numbered u };
+
+    fn from(u: Unpriced) -> Numbers {
+        match u {
+            Unpriced::Prices => plain(11),
+            Unpriced::Recipe(r) => r.into(),
+            Unpriced::Declared => plain(9),
+            Unpriced::Items => plain(10),
+        }
     }
 }
 
-// No charge.
-pub fn none() -> Charges
-    ensures { result ≡ no_charges }
-{
-    Charges {
-        charge: [0u64; 9],
-        total: 0,
-    }
-}
-
-// An outcome without a charge.
-fn uncharged(o: Outcome) -> Priced
-    ensures { result ≡ uncharged o }
-{
-    Priced {
-        outcome: o,
-        charges: none(),
-    }
-}
-
-// A refusal of pricing's own, or of what comes before the run: both buffers all zero.
-fn refused(u: Unpriced, first: &mut [u32], second: &mut [u32]) -> Priced
-    ensures { Answered (refusal u) result first.old second.old first.new second.new }
-{
-    keep(first, second, 0);
-    uncharged(Outcome::Refused(u))
+// The report of a run, and what it costs. The charges are 0 where it ends otherwise than as a value, and no Option: the bill of such a run has nine
+// charges, too, as C gets them.
+#[derive(Clone, Copy)]
+pub struct Priced {
+    pub report: Report,
+    pub charges: Charges,
 }
 
 // Whether the words of a declared type are those of {N}.
 fn is_numbers(types: &[u32]) -> bool
     ensures { Declares types.now result }
 {
-    if types.len() != 2 {
-        return false;
-    }
-    if types[0] != nodes::words::LIST {
-        return false;
-    }
-    types[1] == nodes::words::N
+    types == [LIST, N].as_slice()
 }
 
-// At a value: refusal 10, or each charge and the total.
-fn at_value(prices: Prices, x: Report, first: &mut [u32], second: &mut [u32]) -> Priced
-    requires { Short x first.old }
-    ensures { AtValue prices x first.old second.old result first.new second.new }
+// What a run costs that left these words: at a value refusal 10, or each charge and the total.
+fn cost(prices: Prices, report: Report, left: &[u32]) -> Result<Priced, Unpriced>
+    requires { length left.now ≤ 16384 }
+    ensures { Costs prices report left.now result }
 {
-    let found = items::read(&first[..x.left]);
-    if 9 < found.count {
-        return refused(Unpriced::Items, first, second);
-    }
-    let pulses = found.pulses;
-    Priced {
-        outcome: Outcome::Ended(x),
-        charges: charged(prices, pulses),
-    }
-}
-
-// A run that ended, with what it costs.
-fn ended(prices: Prices, x: Report, first: &mut [u32], second: &mut [u32]) -> Priced
-    requires { Short x first.old }
-    ensures { AtEnd prices x first.old second.old result first.new second.new }
-{
-    let e = x.end;
-    match e {
-        End::Value => at_value(prices, x, first, second),
-        End::Spent => uncharged(Outcome::Ended(x)),
-        End::Error => uncharged(Outcome::Ended(x)),
-        End::Full => uncharged(Outcome::Ended(x)),
+    match report.end {
+        End::Value => {
+            let found = items::read(left);
+            if 9 < found.count {
+                return Err(Unpriced::Items);
+            }
+            Ok(Priced {
+                report,
+                charges: charged(prices, found.pulses),
+            })
+        }
+        End::Spent | End::Error | End::Full => Ok(Priced {
+            report,
+            charges: Charges::default(),
+        }),
     }
 }
 
-// Refusal 8, or the run of a term of type {N}, with what it costs.
-fn run(prices: Prices, terms: &[u32], limit: u32, first: &mut [u32], second: &mut [u32]) -> Priced
-    requires { OfNumbers terms.now }
-    ensures { Runs prices limit terms.now first.old second.old result first.new second.new }
-{
-    match begin(terms, limit, first, second) {
-        Answer::Refused(r) => uncharged(Outcome::Refused(Unpriced::Recipe(r))),
-        Answer::Ended(x) => ended(prices, x, first, second),
-    }
-}
-
-// Refusal 9, or the run of an accepted recipe, with what it costs. Its declared type, of n words, stands at 4, and its term behind it.
+// Refusal 9 or 8, or the run of an accepted recipe, with what it costs: by the words of its declared type and of its term.
 fn bill(
     prices: Prices,
-    words: &[u32],
-    n: usize,
+    types: &[u32],
+    terms: &[u32],
     limit: u32,
     first: &mut [u32],
     second: &mut [u32],
-) -> Priced
-    requires { Recipes words.now n }
-    ensures { Bills prices limit words.now n first.old second.old result first.new second.new }
+) -> Result<Priced, Unpriced>
+    requires { Recipes types.now terms.now }
+    ensures { Bills prices limit types.now terms.now first.old second.old result first.new second.new }
 {
-    let start = 4 + n;
-    if !is_numbers(&words[4..start]) {
-        return refused(Unpriced::Declared, first, second);
+    if !is_numbers(types) {
+        return Err(Unpriced::Declared);
     }
-    run(prices, &words[start..], limit, first, second)
+    let report = begin(terms, limit, first, second)?;
+    cost(prices, report, &first[..report.left])
 }
 
-// The price of a can: for every table, every file, every limit and every pair of buffers, whatever they held.
+// The price of a can, but for the buffers of a can that has none.
+fn find_price(
+    prices: Prices,
+    file: &[u8],
+    limit: u32,
+    first: &mut [u32],
+    second: &mut [u32],
+) -> Result<Priced, Unpriced>
+    ensures { PricingButBuffers prices
+        (lent file.now limit first.old second.old)
+        (returned result first.new second.new) }
+{
+    if !within(prices) {
+        return Err(Unpriced::Prices);
+    }
+    let mut all = [0; 4096];
+    let recipe = admit(file, &mut all)?;
+    let words = &all[..recipe.count];
+    let start = 4 + recipe.type_count;
+    bill(
+        prices,
+        &words[4..start],
+        &words[start..],
+        limit,
+        first,
+        second,
+    )
+}
+
+// The price of a can: for every table, every file, every limit and every pair of buffers, whatever they held. Where there is none, the buffers are 0.
 pub fn price(
     prices: Prices,
     file: &[u8],
     limit: u32,
     first: &mut [u32],
     second: &mut [u32],
-) -> Priced
+) -> Result<Priced, Unpriced>
     ensures { Pricing prices
         (lent file.now limit first.old second.old)
         (returned result first.new second.new) }
 {
-    if !within(prices) {
-        return refused(Unpriced::Prices, first, second);
+    let answer = find_price(prices, file, limit, first, second);
+    if answer.is_err() {
+        keep(first, second, 0);
     }
-    let mut all = [0u32; 4096];
-    match admit(file, &mut all) {
-        Opened::Refused(r) => refused(Unpriced::Recipe(r), first, second),
-        Opened::Recipe { type_count, count } => {
-            bill(prices, &all[..count], type_count, limit, first, second)
-        }
-    }
+    answer
 }

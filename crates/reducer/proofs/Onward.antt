@@ -19,7 +19,7 @@ use Rattle.calculus.proofs.Sizes.{tree_length}
 use Rattle.calculus.proofs.Splices.{put_fill}
 use Rattle.calculus.specs.Splices.{words_before, words_after}
 use Rattle.calculus.proofs.Turns.{turn_filled}
-use Rattle.reducer.specs.declared.turns.From.{From}
+use Rattle.reducer.specs.declared.turns.Waiting.{Waiting}
 use Rattle.reducer.specs.Standing.{Frames, root, inside, whole, Reached, length_before, length_frames, waits_for, follows, pending, Standing, Ripe}
 
 -- The frames around a place as a context, from the root inwards.
@@ -78,27 +78,27 @@ ripe_turn {e} r =
     let t = turn_filled (context_at s) s.part (context_evaluated s.around s.reached here tt) r.ready in
     subst (λ (x : Term ml). turn x ≡ calculus.at s.lang (context_at s) s.part) (context_is s s.part ∙ s.is) t
 
--- What holds of the nearest node around that waits: it stands at a place, where so many parts are due, and whatever it is, a walk may begin at
--- `back`.
-pub record Owner {m : Lang} (A : Frames m) (node back : From) : Type 0 where
-  pub place : node.place ≡ length_frames A
-  pub due : node.due ≡ 1 + pending A
-  pub resumes : (x : Term m) → Standing (whole A x) back.place back.due
+-- What holds of the nearest node around that waits: it stands at a place, where so many parts are due, and whatever it is, the next walk may begin
+-- where it is said to.
+pub record Owner {m : Lang} (A : Frames m) (w : Waiting) : Type 0 where
+  pub place : w.node.place ≡ length_frames A
+  pub due : w.node.due ≡ 1 + pending A
+  pub resumes : (x : Term m) → Standing (whole A x) w.back.place w.back.due
 
-abbrev pub Owns : {m : Lang} → Frames m → From → From → Type 0
-Owns root node back = ⊥
-Owns (inside f A) node back = (waits_for f ≡ true → Owner A node back) × (waits_for f ≡ false → Owns A node back)
+abbrev pub Owns : {m : Lang} → Frames m → Waiting → Type 0
+Owns root w = ⊥
+Owns (inside f A) w = (waits_for f ≡ true → Owner A w) × (waits_for f ≡ false → Owns A w)
 
 -- A walk may begin at that node, whatever stands in it.
-pub owner_standing : {m : Lang} (A : Frames m) (node back : From) → Reached A → Owns A node back
-    → (x : Term m) → Standing (whole A x) node.place node.due
-owner_standing root node back r o x = absurd o
-owner_standing {m} (inside {k = k} f A) node back r o x = by (λ w. owner_standing A node back r.1 (o.1 w) (plug f x)) (waits_for f) refl
+pub owner_standing : {m : Lang} (A : Frames m) (w : Waiting) → Reached A → Owns A w
+    → (x : Term m) → Standing (whole A x) w.node.place w.node.due
+owner_standing root w r o x = absurd o
+owner_standing {m} (inside {k = k} f A) w r o x = by (λ h. owner_standing A w r.1 (o.1 h) (plug f x)) (waits_for f) refl
   where
-    by : (waits_for f ≡ false → Standing (whole A (plug f x)) node.place node.due) → (b : Bool) → waits_for f ≡ b
-        → Standing (whole A (plug f x)) node.place node.due
-    by outer true w = let a = o.0 w in record { lang = k; around = A; part = plug f x; is = refl; reached = r.1; place = a.place; due_is = a.due }
-    by outer false w = outer w
+    by : (waits_for f ≡ false → Standing (whole A (plug f x)) w.node.place w.node.due) → (b : Bool) → waits_for f ≡ b
+        → Standing (whole A (plug f x)) w.node.place w.node.due
+    by outer true h = let a = o.0 h in record { lang = k; around = A; part = plug f x; is = refl; reached = r.1; place = a.place; due_is = a.due }
+    by outer false h = outer h
 
 -- No node around waits.
 abbrev pub Free : {m : Lang} → Frames m → Type 0
@@ -126,13 +126,13 @@ pub record Further {m : Lang} (A : Frames m) (x : Term m) : Type 0 where
   pub reached : Reached around
   pub place : length_frames around ≡ length_frames A + size x
   pub left : pending A ≡ 1 + pending around
-  pub owns : (node back : From) → Owns A node back → Owns around node back
+  pub owns : (w : Waiting) → Owns A w → Owns around w
   pub free : Free A → Free around
 
 -- or the end of the node that waits, whose turn it is; or of the term, which is a value.
 pub record Over {m : Lang} (A : Frames m) (x : Term m) : Type 0 where
   pub none : pending A ≡ 0
-  pub ripe : (node back : From) → Owns A node back → Ripe (whole A x) node.place back.place back.due
+  pub ripe : (w : Waiting) → Owns A w → Ripe (whole A x) w.node.place w.back.place w.back.due
   pub value : Free A → Value ml (whole A x)
 
 -- A node that waits has its turn.
@@ -141,10 +141,10 @@ ripe_over : {m k : Lang} (f : Frame m k) (A : Frames k) (x : Term m) → waits_f
 ripe_over {m} {k} f A x w z r h =
     record {
       none = rw w (omega (arith, z));
-      ripe = λ node back o.
+      ripe = λ u o.
           let a = o.0 w in
           record {
-            here = node.due;
+            here = u.node.due;
             standing = record { lang = k; around = A; part = plug f x; is = refl; reached = r; place = a.place; due_is = a.due };
             ready = h;
             resumes = a.resumes;
@@ -169,10 +169,10 @@ module _ {m k : Lang} (f : Frame m k) (A : Frames k) (x : Term m) (w : waits_for
         reached = g.reached;
         place = g.place ∙ s;
         left = pending_is ∙ g.left;
-        owns = λ n b o. g.owns n b (o.1 w);
+        owns = λ u o. g.owns u (o.1 w);
         free = λ h. g.free h.1;
       })
-  value_on (inr g) = inr (record { none = pending_is ∙ g.none; ripe = λ n b o. g.ripe n b (o.1 w); value = λ h. g.value h.1 })
+  value_on (inr g) = inr (record { none = pending_is ∙ g.none; ripe = λ u o. g.ripe u (o.1 w); value = λ h. g.value h.1 })
 
 -- Past the first of two parts: the second.
 to_second : {l : Lang} (o : Op2) (b : Term l) (A : Frames l) (x : Term l) → Reached A → Value l x → Further (inside (first o b) A) x
@@ -185,13 +185,13 @@ to_second {l} o b A x r v =
       reached = (v, r);
       place = omega arith;
       left = omega arith;
-      owns = λ n b h. h;
+      owns = λ _ h. h;
       free = λ h. h;
     }
 
 pub onward : (m : Lang) (A : Frames m) (x : Term m) → Reached A → Value m x → Further A x ⊎ Over A x
 unfolding size
-onward m root x r v = inr (record { none = refl; ripe = λ n b o. absurd o; value = λ _. v })
+onward m root x r v = inr (record { none = refl; ripe = λ _ o. absurd o; value = λ _. v })
 onward m (inside (under o) A) x r v = inr (ripe_over (under o) A x refl refl r.1 v)
 onward m (inside (first o b) A) x r v = inl (to_second o b A x r.1 v)
 onward m (inside (second APP a) A) x r v = inr (ripe_over (second APP a) A x refl refl r.1 (refl, r.0, v))

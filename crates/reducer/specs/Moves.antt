@@ -1,35 +1,34 @@
 -- One step in words: what the code answers, and what it leaves in the target, is the calculus's step.
-use Rattle.std.specs.Prelude.{ℕ, ◌+◌, ◌-◌, ◌<◌, List, ◌++◌, ◌≡◌, length, get_or, drop}
+use Rattle.std.specs.Prelude.{ℕ, ◌-◌, List, ◌++◌, ◌≡◌, length, get_or, take, drop}
 use Rattle.calculus.specs.Trees.{Lang, ml, Term}
 use Rattle.calculus.specs.Words.{put, words, size}
 use Rattle.calculus.specs.Reduction.{becomes, contract, Outcome, value, raised, next, stuck, step}
 use Rattle.calculus.specs.Splices.{words_before, Splice}
 use Rattle.writing.specs.Wrote.{Wrote}
-use Rattle.writing.specs.Spans.{span}
 use Rattle.pieces.specs.Pieces.{Placed}
 use Rattle.contraction.specs.Chosen.{OfNode}
 use Rattle.pieces.specs.declared.became.Piece.{Piece}
 use Rattle.pieces.specs.declared.became.Became.TheVariants.{Becomes}
-use Rattle.reducer.specs.declared.turns.From.{From}
+use Rattle.reducer.specs.declared.turns.Start.{Start}
+use Rattle.reducer.specs.declared.turns.Turn.{Turn}
 use Rattle.reducer.specs.declared.steps.Change.{Change}
 use Rattle.reducer.specs.declared.steps.Move.{Move}
 use Rattle.reducer.specs.declared.steps.Move.TheVariants.{Value, Raised, Next, Stuck}
 use Rattle.reducer.specs.Standing.{Standing}
-use Rattle.reducer.specs.Placed.{FewDue}
+use Rattle.reducer.specs.Placed.{FewDue, Within}
 
--- A piece that is what the node at a place of the source becomes, and whose places are within the words.
-pub record PieceFits (source : List ℕ) (place end : ℕ) (piece : Piece) : Type 0 where
-  pub inside : place < length source
-  pub ends : end ≡ place + span (drop place source) 1
-  pub told : OfNode (drop place source) (Becomes piece)
-  pub within : Placed (length source - place) piece
+-- A piece that is what the node becomes whose turn it is, and whose parts are not too long.
+pub record PieceFits (source : List ℕ) (t : Turn) (piece : Piece) : Type 0 where
+  pub stands : Within source t
+  pub told : OfNode (take (t.end - t.place) (drop t.place source)) (Becomes piece)
+  pub within : Placed piece
 
 -- Where the node n stands in the source behind the words P, and it becomes u: its word, how many words stood and stand there, and the words
 -- that are written.
-pub record Spliced (source : List ℕ) (place : ℕ) (back : From) (b : List ℕ) (c : Change) (b' : List ℕ) : Type 0 where
-  pub where_it_was : c.place ≡ place
-  pub from_there : c.back ≡ back
-  pub of : (P : List ℕ) (m : Lang) (n u : Term m) (Q : List ℕ) → source ≡ P ++ put n Q → place ≡ length P → contract n ≡ becomes u
+pub record Spliced (source : List ℕ) (t : Turn) (b : List ℕ) (c : Change) (b' : List ℕ) : Type 0 where
+  pub where_it_was : c.place ≡ t.place
+  pub from_there : c.back ≡ t.back
+  pub of : (P : List ℕ) (m : Lang) (n u : Term m) (Q : List ℕ) → source ≡ P ++ put n Q → t.place ≡ length P → contract n ≡ becomes u
       → (c.word ≡ get_or (words n) 0 0) × (c.stood ≡ size n) × (c.stands ≡ size u) × Wrote b 0 (P ++ put u Q) c.size b'
 
 -- The next term r of e: the change is that of the step's splice, the words of r are written, as far as they fit, and the next walk may begin
@@ -52,12 +51,12 @@ Moved e r b b' (next e') = (c : Change) × (r ≡ Next c) × Changed e e' b c b'
 Moved e r b b' stuck = (r ≡ Stuck) × (b' ≡ b)
 
 -- Where the next walk may begin, few parts are due.
-abbrev pub Few : Move → Type 0
-Few Value = Unit {0}
-Few (Raised c) = Unit {0}
-Few (Next c) = FewDue c.back
-Few Stuck = Unit {0}
+abbrev pub FewDueNext : Move → Type 0
+FewDueNext Value = Unit {0}
+FewDueNext (Raised c) = Unit {0}
+FewDueNext (Next c) = FewDue c.back
+FewDueNext Stuck = Unit {0}
 
 -- Of every term whose words these are, if the walk may begin where it is said to.
-pub record OneStep (source : List ℕ) (from : From) (b : List ℕ) (r : Move) (b' : List ℕ) : Type 0 where
+pub record OneStep (source : List ℕ) (from : Start) (b : List ℕ) (r : Move) (b' : List ℕ) : Type 0 where
   pub of : (e : Term ml) → source ≡ words e → Standing e from.place from.due → Moved e r b b' (step e)

@@ -2,132 +2,124 @@
 // remembered, since it is the first whose parts are all values. The pass need not begin at the root: a step leaves the words before its node as
 // they were, so the next pass may begin at the node that waits for it.
 
-ghost use Rattle.std.specs.Prelude.{true, cond, ◌≡◌, ◌+◌, ◌≤◌, length, drop};
-ghost use Rattle.writing.specs.Given.{Given};
-ghost use Rattle.writing.specs.Spans.{span};
-ghost use Rattle.reducer.specs.Placed.{FewDue, taking, Looked, finished, Spanned, Turns};
+ghost use Rattle.std.specs.Prelude.{◌≡◌, ◌≤◌, length};
+ghost use Rattle.pieces.specs.Pieces.{Few};
+ghost use Rattle.reducer.specs.Placed.{FewDue, around, look, Looked, Spanned, Turns};
 
-use nodes::kinds::{Kinds, row_at};
-use pieces::forms::form_at;
+use nodes::kinds::{Operator2, Shape, shape_of};
+use pieces::values::is_lump;
 use writing::spans::skip;
 
 // Where a walk begins: a place, and how many parts are due there.
 #[derive(Clone, Copy)]
-pub struct From {
+pub struct Start {
     pub place: usize,
     pub due: usize,
 }
 
-// No node's: all parts that were due are values. Or the place of the node whose turn it is, where its words end, and where the next walk may
-// begin: a step leaves the words before the node as they were, so at the node that waits for it, or else at itself.
+// The start of a term: the root is due.
+pub const ROOT: Start = Start { place: 0, due: 1 };
+
+// The node whose turn it is: its place, where its words end, and where the next walk may begin. A step leaves the words before the node as they
+// were, so that is at the node that waits for it, or else at itself.
 #[derive(Clone, Copy)]
-pub enum Found {
-    Nothing,
-    At(usize, usize, From),
+pub struct Turn {
+    pub place: usize,
+    pub end: usize,
+    pub back: Start,
 }
 
-// What evaluation does at a node: past so many words it takes so many parts, and leaves the rest. Then it is the node's own turn, unless the
-// node is a value.
+// What evaluation does at a node: past so many words it takes so many parts. Then the node is a value, or it is its own turn, and it leaves so
+// many parts.
 #[derive(Clone, Copy)]
 pub struct Look {
     pub start: usize,
     pub takes: usize,
-    pub rest: usize,
-    pub own: bool,
+    pub leaves: Option<usize>,
 }
 
-fn taking(start: usize, takes: usize, rest: usize, own: bool) -> Look
-    ensures { result ≡ taking start takes rest own }
-{
-    Look {
-        start: start,
-        takes: takes,
-        rest: rest,
-        own: own,
-    }
+// A node that waits for its parts to be values: where a walk comes to it, where the next walk may begin, and how many parts it leaves.
+#[derive(Clone, Copy)]
+pub struct Waiting {
+    pub node: Start,
+    pub back: Start,
+    pub leaves: usize,
 }
 
-// A look at the node that the words start with.
-fn look_at(table: &Kinds, words: &[u32]) -> Look
-    requires { Given table.now words.now × (1 ≤ length words.now) }
-    ensures { Looked words.now result }
-{
-    let shape = row_at(table, words[0]).shape;
-    if shape == nodes::kinds::NUMBER {
-        return taking(1, 0, 0, false);
+// What evaluation does at each kind of node.
+impl Look {
+    // A look that takes so many parts behind so many words, and leaves so many.
+    fn new(start: usize, takes: usize, leaves: Option<usize>) -> Look
+        ensures { result ≡ look start takes leaves }
+    {
+        Look {
+            start,
+            takes,
+            leaves,
+        }
     }
-    if shape == nodes::kinds::OPERATOR_2 {
-        return taking(1, 2, 0, form_at(table, words) == pieces::forms::OTHER);
-    }
-    if shape == nodes::kinds::OPERATOR_1 {
-        return taking(1, 1, 0, true);
-    }
-    if shape == nodes::kinds::IF0 {
-        return taking(1, 1, 2, true);
-    }
-    let own = form_at(table, words) == pieces::forms::OTHER;
-    if shape == nodes::kinds::BOUNDARY {
-        return taking(1 + skip(table, &words[1..], 1), 1, 0, own);
-    }
-    taking(skip(table, words, 1), 0, 0, own)
-}
 
-// The words from the place i on are the rest of the node that waited, if one did.
-fn finish(
-    table: &Kinds,
-    words: &[u32],
-    i: usize,
-    rest: usize,
-    place: usize,
-    back: From,
-    waits: bool,
-) -> Found
-    requires { Given table.now words.now × (waits ≡ true → i ≤ length words.now) × (rest ≤ 3) }
-    ensures { result ≡ finished waits place (i + span (drop i words.now) rest) back }
-{
-    if waits {
-        return Found::At(place, i + skip(table, &words[i..], rest), back);
+    // A look at the node that the words start with. A cons and a lump are values with their parts, and a number, a lambda and nil without.
+    fn at(words: &[u32]) -> Look
+        requires { Few words.now × (1 ≤ length words.now) }
+        ensures { Looked words.now result }
+    {
+        let Some(shape) = shape_of(words[0]) else {
+            return Look::new(1, 0, None);
+        };
+        match shape {
+            Shape::Number => Look::new(1, 0, None),
+            Shape::Variable => Look::new(1, 0, Some(0)),
+            Shape::Operator1(_) => Look::new(1, 1, Some(0)),
+            Shape::Operator2(Operator2::Cons) => Look::new(1, 2, None),
+            Shape::Operator2(_) => Look::new(1, 2, Some(0)),
+            Shape::If0 => Look::new(1, 1, Some(2)),
+            Shape::Boundary => {
+                let leaves = (!is_lump(words)).then_some(0);
+                Look::new(1 + skip(&words[1..], 1), 1, leaves)
+            }
+            Shape::Wrong => Look::new(skip(words, 1), 0, Some(0)),
+            _ => Look::new(skip(words, 1), 0, None),
+        }
     }
-    Found::Nothing
 }
 
 // Where the next walk may begin: at the node that waits for this one, if one was met, or else here.
-fn around(waits: bool, node: From, here: From) -> From
-    ensures { result ≡ cond waits node here }
+fn around(waiting: Option<Waiting>, here: Start) -> Start
+    ensures { result ≡ around waiting here }
 {
-    if waits {
-        return node;
-    }
-    here
+    waiting.map_or(here, |outer: Waiting| outer.node)
 }
 
-// A walk from a place of a term whose words these are. `due` parts that evaluation takes stand from the place i on.
-pub fn turn(table: &Kinds, words: &[u32], from: From) -> Found
-    requires { Given table.now words.now × FewDue from }
+// A walk from a place of a term whose words these are. A loop by places and no iterator: the places that it comes to are its answer, and it goes
+// on by whole nodes.
+pub fn turn_from(words: &[u32], from: Start) -> Option<Turn>
+    requires { Few words.now × FewDue from }
     ensures spanned { Spanned words.now result }
     ensures is { Turns words.now from from result }
 {
     let mut i = from.place;
     let mut due = from.due;
-    let mut rest = 0;
-    let mut node = From { place: 0, due: 1 };
-    let mut back = From { place: 0, due: 1 };
-    let mut waits = false;
-    while i < words.len() {
-        if due == 0 {
-            return finish(table, words, i, rest, node.place, back, waits);
-        }
-        let seen = look_at(table, &words[i..]);
-        if seen.own {
-            let here = From { place: i, due: due };
-            back = around(waits, node, here);
-            node = here;
-            waits = true;
-            rest = seen.rest;
+    let mut waiting = None;
+    while due > 0 && i < words.len() {
+        let seen = Look::at(&words[i..]);
+        if let Some(leaves) = seen.leaves {
+            let node = Start { place: i, due };
+            waiting = Some(Waiting {
+                node,
+                back: around(waiting, node),
+                leaves,
+            });
             due = 1;
         }
         due = due - 1 + seen.takes;
         i += seen.start;
     }
-    finish(table, words, i, rest, node.place, back, waits)
+    let Waiting { node, back, leaves } = waiting?;
+    let end = i + skip(&words[i..], leaves);
+    Some(Turn {
+        place: node.place,
+        end,
+        back,
+    })
 }

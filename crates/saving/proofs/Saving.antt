@@ -1,32 +1,30 @@
 -- What saving answers: each way out of the code is one law. Assumes nothing.
 use Prim.Native.Nat.{ℕ, ◌+◌, ◌*◌, ◌≤◌, ◌<◌}
-use mathlib.Core.Bool.{true, false}
+use mathlib.Core.Bool.{false≢true}
 use mathlib.Core.List.{List}
-use mathlib.Core.Path.{◌≡◌, refl, sym, ap, ◌∙◌, subst}
+use mathlib.Core.Path.{◌≡◌, refl, sym, ap, ◌∙◌}
 use native.Mathlib.Omega.{arith}
 use lib.Dec.{leb}
 use lib.ListN.{length, take, drop}
 use lib.Seq.{sets-eq, take_at}
 use borrow.Author.Tests.{le-leb, lt-leb}
+use Rattle.std.specs.Prelude.{Result, Ok, Err}
+use Rattle.std.specs.Result.{is_err}
 use Rattle.calculus.specs.Verdicts.{Verdict, refused, passed, and_then, unless}
-use Rattle.calculus.specs.File.{bytes_of, file_of, Recipe, judged, padded}
+use Rattle.calculus.specs.File.{bytes_of, file_of, Recipe, judged}
 use Rattle.calculus.proofs.Verdicts.{not_both, passed_injective}
 use Rattle.nodes.specs.declared.refusals.Refusal.{Refusal}
 use Rattle.nodes.specs.Refusals as nodes
 use Rattle.writing.specs.Wrote.{Wrote}
-use Rattle.text.proofs.Padded.{cleared_after}
-use Rattle.checker.specs.Checks.{accepting, judging}
+use Rattle.writing.proofs.Stores.{wrote_as}
+use Rattle.checker.specs.Checks.{checked, accepting, judging}
 use Rattle.saving.specs.Saving.{file_bytes, saving}
-use Rattle.saving.specs.Answered.{Answered, length_of}
-use Rattle.saving.specs.Parts.{written}
+use Rattle.saving.specs.Answered.{length_of, written_by}
+use Rattle.saving.specs.Parts.{FewWords, Answers, Writes}
 use Rattle.saving.specs.Refusals.{number_of, place_of, refusal}
 use Rattle.saving.specs.declared.Unsaved.{Unsaved}
-use Rattle.saving.specs.declared.Saved.{Saved}
-use Rattle.saving.specs.declared.Saved.TheVariants as s
-use Rattle.saving.proofs.Bytes.{file_length, types_part, terms_part}
-
-pub answered_as : {v w : Verdict (List ℕ)} {x : Saved} {out out' : List ℕ} → v ≡ w → Answered v x out out' → Answered w x out out'
-answered_as {x = x} {out = out} {out' = out'} e h = subst (λ (u : Verdict (List ℕ)). Answered u x out out') e h
+use Rattle.saving.specs.declared.Unsaved.TheVariants as u
+use Rattle.saving.proofs.Bytes.{file_length, file_bytes_lem, types_part, terms_part}
 
 -- What a verdict without its bytes came from.
 pub refused_by_lem : (v : Verdict (List ℕ)) (u : Unsaved) → refusal u ≡ length_of v → v ≡ refusal u
@@ -42,37 +40,39 @@ pub wrote_front : (b b' ws : List ℕ) (k : ℕ) → Wrote b 0 ws k b' → lengt
 wrote_front b b' ws k w h =
     ap (take k) (w.stored ∙ sets-eq ws b 0 (omega arith)) ∙ take_at ws (drop (0 + length ws) b) k (omega (arith, w.place))
 
--- The two ways of the buffer: too short, or with room for the file, the rest of it cleared.
-pub too_short : (ws : List ℕ) (room : ℕ) → room < 4 * length ws → refused 13 0 ≡ written ws room
-too_short ws room h = rw (lt-leb (4 * length ws) room h)
+-- A refusal is that of the verdict; and a file that was written is.
+refused_as : {v : Verdict (List ℕ)} {u : Unsaved} {out' : List ℕ} → refusal u ≡ v → Answers v (Err u) out'
+refused_as e = record { answer_is = ap length_of e; out_is = λ n q. absurd (false≢true (sym (ap is_err q))) }
 
-room_for : (ws : List ℕ) (room : ℕ) → 4 * length ws ≤ room → written ws room ≡ passed (bytes_of ws)
-room_for ws room h = rw (le-leb (4 * length ws) room h)
-
-pub file_written : (ws out out₁ out₂ : List ℕ) (n : ℕ) → 4 * length ws ≤ length out → Wrote out 0 (bytes_of ws) n out₁
-    → out₂ ≡ padded (length out₁) (take n out₁) → Answered (written ws (length out)) (s.File n) out out₂
-file_written ws out out₁ out₂ n h w e =
-    answered_as (sym (room_for ws (length out) h))
-    (record { answer_is = ap passed (omega (arith, w.place)); out_is = e ∙ cleared_after out out₁ (bytes_of ws) n w })
+written_as : {v : Verdict (List ℕ)} {out out' file : List ℕ} {n : ℕ} → v ≡ passed file → length file ≤ length out → Wrote out 0 file n out'
+    → Answers v (Ok n) out'
+written_as {out' = out'} {file} {n} e h w =
+    record {
+      answer_is = ap passed (omega (arith, w.place)) ∙ ap length_of (sym e);
+      out_is = λ k q. ap (λ (i : ℕ). take i out') (sym (same q)) ∙ wrote_front _ out' file n w h ∙ ap written_by (sym e);
+    }
+  where
+    same : {k : ℕ} → ◌≡◌ {A = Result ℕ Unsaved} (Ok n) (Ok k) → n ≡ k
+    same q = cc
 
 -- The words of the file, as the code judges them.
 module _ (types terms : List ℕ) where
   file_judged : judging (file_of types terms) (length types) ≡ judged types terms (4 + length types)
   file_judged = rw (types_part types terms, terms_part types terms)
 
-  -- 12; 3 to 7; and past them.
-  pub too_long : (room : ℕ) → leb (file_bytes (length types) (length terms)) 16384 ≡ false → refused 12 0 ≡ saving types terms room
+  -- 12; 3 to 7; and past them 13, or the file.
+  pub too_long : (room : ℕ) → 4092 < length types + length terms → refused 12 0 ≡ saving types terms room
   unfolding saving
-  too_long room f = rw f
+  too_long room h = rw (lt-leb (file_bytes (length types) (length terms)) 16384 (omega arith))
 
-  module _ (room : ℕ) (f : leb (file_bytes (length types) (length terms)) 16384 ≡ true) where
+  module _ (room : ℕ) (few : FewWords types terms) where
     writing_as : (v : Verdict Recipe) → judged types terms (4 + length types) ≡ v
         → saving types terms room
         ≡ and_then v (λ x. unless (leb (file_bytes (length types) (length terms)) room) 13 0 (passed (bytes_of (file_of types terms))))
     unfolding saving
-    writing_as v q = rw (f, q)
+    writing_as v q = rw (le-leb (file_bytes (length types) (length terms)) 16384 (omega arith), q)
 
-    pub judged_out : (r : Refusal) → nodes.refusal r ≡ accepting (judging (file_of types terms) (length types))
+    judged_out : (r : Refusal) → nodes.refusal r ≡ accepting (judging (file_of types terms) (length types))
         → nodes.refusal r ≡ saving types terms room
     judged_out r q = by (judged types terms (4 + length types)) refl (q ∙ ap accepting file_judged)
       where
@@ -82,15 +82,47 @@ module _ (types terms : List ℕ) where
             let z : ◌≡◌ {A = Verdict (List ℕ)} (nodes.refusal r) (refused n p) = cc in z ∙ sym (writing_as (refused n p) e)
         by (passed x) e h = absurd (not_both (nodes.number_of r) (nodes.place_of r) tt h)
 
-    pub judged_in : passed tt ≡ accepting (judging (file_of types terms) (length types)) → written (file_of types terms) room ≡ saving types terms
-        room
+    judged_in : passed tt ≡ accepting (judging (file_of types terms) (length types)) → saving types terms room
+        ≡ unless (leb (file_bytes (length types) (length terms)) room) 13 0 (passed (bytes_of (file_of types terms)))
     judged_in q = by (judged types terms (4 + length types)) refl (q ∙ ap accepting file_judged)
       where
-        length_is : 4 * length (file_of types terms) ≡ file_bytes (length types) (length terms)
-        length_is = omega (arith, file_length types terms)
-
         by : (v : Verdict Recipe) → judged types terms (4 + length types) ≡ v → passed tt ≡ accepting v
-            → written (file_of types terms) room ≡ saving types terms room
+            → saving types terms room ≡ unless (leb (file_bytes (length types) (length terms)) room) 13 0 (passed (bytes_of (file_of types terms)))
         by (refused n p) e h = absurd (not_both n p tt (sym h))
-        by (passed x) e h =
-            ap (λ (n : ℕ). unless (leb n room) 13 0 (passed (bytes_of (file_of types terms)))) length_is ∙ sym (writing_as (passed x) e)
+        by (passed x) e h = writing_as (passed x) e
+
+-- A save that is too long.
+pub refused_12 : (types terms out : List ℕ) {out' : List ℕ} → 4092 < length types + length terms → Writes types terms out (Err u.Long) out'
+refused_12 types terms out h = refused_as (too_long types terms (length out) h)
+
+-- The words of the file, where they were filled in.
+module _ (types terms : List ℕ) {all all' : List ℕ} {count : ℕ} (few : FewWords types terms) (array : length all ≡ 4096)
+    (w : Wrote all 0 (file_of types terms) count all') where
+  count_is : count ≡ 4 + length types + length terms
+  count_is = omega (arith, w.place, file_length types terms)
+
+  front : take count all' ≡ file_of types terms
+  front = wrote_front all all' (file_of types terms) count w (omega (arith, file_length types terms))
+
+  judged_as : (r : Result (Unit {0}) Refusal) → checked r ≡ accepting (judging (take count all') (length types))
+      → checked r ≡ accepting (judging (file_of types terms) (length types))
+  judged_as r q = q ∙ ap (λ (l : List ℕ). accepting (judging l (length types))) front
+
+  pub refused_by_check : (out : List ℕ) {out' : List ℕ} (r : Refusal) → refusal (u.Recipe r) ≡ accepting (judging (take count all') (length types))
+      → Writes types terms out (Err (u.Recipe r)) out'
+  refused_by_check out r q = refused_as (judged_out types terms (length out) few r (judged_as (Err r) q))
+
+  module _ (out : List ℕ) {out' : List ℕ} (q : passed tt ≡ accepting (judging (take count all') (length types))) where
+    pub refused_13 : length out < 4 * count → Writes types terms out (Err u.Short) out'
+    refused_13 h =
+        refused_as
+        (sym
+        (judged_in types terms (length out) few (judged_as (Ok tt) q)
+        ∙ rw (lt-leb (file_bytes (length types) (length terms)) (length out) (omega (arith, h, count_is)))))
+
+    pub file_written : {n : ℕ} → 4 * count ≤ length out → Wrote out 0 (bytes_of (take count all')) n out' → Writes types terms out (Ok n) out'
+    file_written h v =
+        written_as
+        (judged_in types terms (length out) few (judged_as (Ok tt) q)
+        ∙ rw (le-leb (file_bytes (length types) (length terms)) (length out) (omega (arith, h, count_is))))
+        (omega (arith, h, count_is, file_bytes_lem types terms)) (wrote_as (ap bytes_of front) v)

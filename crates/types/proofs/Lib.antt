@@ -1,5 +1,6 @@
 pub mod Pairs
-pub mod Matching
 pub mod Meanings
 pub mod Frames
+pub mod Matching
 pub mod Comparing
+pub mod Formers

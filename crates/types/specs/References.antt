@@ -1,19 +1,32 @@
 -- What a reference to a type means: a place of the file's words, read by the shape of the word there.
-use Rattle.std.specs.Prelude.{ℕ, suc, ◌+◌, ◌%◌, ◌<◌, ◌≤◌, cond, List, ◌⊎◌, ◌≡◌, eqb, get_or, drop}
+use Rattle.std.specs.Prelude.{ℕ, suc, ◌+◌, ◌%◌, ◌<◌, ◌≤◌, cond, List, ◌⊎◌, ◌≡◌, Option, Some, None, eqb, get_or, drop}
+use Rattle.std.specs.Option.{option_and_then}
 use Rattle.calculus.specs.Trees.{Ty, N, L, list, ◌to◌}
 use Rattle.calculus.specs.Words.{word, put_ty, size_ty}
-use Rattle.nodes.specs.Table.{row_of}
+use Rattle.nodes.specs.declared.kinds.Shape.{Shape}
+use Rattle.nodes.specs.declared.kinds.Shape.TheVariants as s
+use Rattle.nodes.specs.Table.{shape_of}
+use Rattle.types.specs.declared.Former.{Former}
+use Rattle.types.specs.declared.Former.TheVariants as f
 
 -- The shape of the word at a place. The place 0 is in the header, and no reference.
-unfoldable pub shape_at : List ℕ → ℕ → ℕ
-shape_at w p = cond (eqb p 0) 0 (row_of (get_or w p 0 % 256)).shape
+unfoldable pub shape_at : List ℕ → ℕ → Option Shape
+shape_at w p = cond (eqb p 0) None (shape_of (get_or w p 0 % 256))
 
--- The shape of the type that a word of a shape means: N of a number and of an operator of one part, a list of nil, a function of a lambda.
-unfoldable pub former : ℕ → ℕ
-former h = cond (eqb h 2) 10 (cond (eqb h 4) 10 (cond (eqb h 7) 12 (cond (eqb h 3) 13 h)))
+-- How the type that a word of a shape means is formed: N of a number and of an operator of one part, a list of nil, a function of a lambda.
+abbrev pub former_of : Shape → Option Former
+former_of s.Numbers = Some f.Numbers
+former_of s.Number = Some f.Numbers
+former_of (s.Operator1 o) = Some f.Numbers
+former_of s.Lump = Some f.Lump
+former_of s.List = Some f.List
+former_of s.Nil = Some f.List
+former_of s.Function = Some f.Function
+former_of s.Lambda = Some f.Function
+former_of other = None
 
-abbrev pub former_at : List ℕ → ℕ → ℕ
-former_at w p = former (shape_at w p)
+abbrev pub former_at : List ℕ → ℕ → Option Former
+former_at w p = option_and_then former_of (shape_at w p)
 
 -- The type is written at the place.
 abbrev pub Written : List ℕ → ℕ → Ty → Type 0
@@ -23,17 +36,22 @@ Written w p t = (k : List ℕ) × (drop p w ≡ put_ty t k)
 -- owner; a list's element type and a function's argument type are always written behind p; a function's result type is written too, or is what
 -- the lambda's link refers to.
 unfoldable pub Means : List ℕ → List ℕ → ℕ → ℕ → ℕ → Ty → Type 0
-Means w ls lo hi p N = former_at w p ≡ 10
-Means w ls lo hi p (L o) = (former_at w p ≡ 11) × (get_or w p 0 ≡ word 2 o)
-Means w ls lo hi p (list t) = (former_at w p ≡ 12) × Written w (p + 1) t
+Means w ls lo hi p N = former_at w p ≡ Some f.Numbers
+Means w ls lo hi p (L o) = (former_at w p ≡ Some f.Lump) × (get_or w p 0 ≡ word 2 o)
+Means w ls lo hi p (list t) = (former_at w p ≡ Some f.List) × Written w (p + 1) t
 Means w ls lo hi p (t to u) =
     Written w (p + 1) t
-    × (((shape_at w p ≡ 3) × (lo ≤ p) × (p < hi) × Means w ls (p + 1) hi (get_or ls p 0) u)
-    ⊎ ((shape_at w p ≡ 13) × Written w (p + 1 + size_ty t) u))
+    × (((shape_at w p ≡ Some s.Lambda) × (lo ≤ p) × (p < hi) × Means w ls (p + 1) hi (get_or ls p 0) u)
+    ⊎ ((shape_at w p ≡ Some s.Function) × Written w (p + 1 + size_ty t) u))
+
+-- a at a lambda, and b at any other word.
+abbrev pub at_lambda : {A : Type 0} → Option Shape → A → A → A
+at_lambda (Some s.Lambda) a b = a
+at_lambda other a b = b
 
 -- The reference to the result type of the function type at p, whose argument type ends before `end`.
 unfoldable pub codomain : List ℕ → List ℕ → ℕ → ℕ → ℕ
-codomain w ls p end = cond (eqb (shape_at w p) 3) (get_or ls p 0) end
+codomain w ls p end = at_lambda (shape_at w p) (get_or ls p 0) end
 
 -- How many arrows follow one another in a type.
 unfoldable pub arrows : Ty → ℕ

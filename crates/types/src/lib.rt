@@ -1,194 +1,185 @@
 // Types as the checker has them, and their comparison. A type that is found is never copied: it is a reference, a place of the file's words,
 // read by the shape of the word there. A type's word means the type written there; a number, and an operator of one part, mean N; nil means
 // the list of the type written after it; a lambda means the function from the type written after it to the type that its link refers to.
-// There is a link for each word of the file. 0, where the header stands, is no reference.
+// There is a link for each word of the file. 0, where the header stands, is no reference, and no Option: a link has two bytes of fixed memory.
 
 #![tactic(auto)]
 
-ghost use Rattle.std.specs.Prelude.{◌≡◌, ◌<◌, ◌≤◌, length};
-ghost use Rattle.nodes.specs.Table.{kinds};
-ghost use Rattle.nodes.specs.Walks.{WordsAt};
-ghost use Rattle.types.specs.Links.{Linked};
-ghost use Rattle.types.specs.References.{shape_at, former_at, codomain};
+ghost use Rattle.std.specs.Prelude.{◌≡◌, ◌+◌, ◌^◌, ◌<◌, ◌≤◌, IfSome, length, drop};
+ghost use Rattle.nodes.specs.declared.refusals.Refusal.TheVariants.{Mistyped};
+ghost use Rattle.types.specs.References.{shape_at, former_of, former_at, codomain};
 ghost use Rattle.types.specs.Comparisons.{Matched, TypeEnd, lumps_compared, Compares, Compared, Equality};
 
-use nodes::kinds::{Kinds, row_at};
+use nodes::kinds::{Shape, shape_of};
+use nodes::refusals::Refusal;
 
-// How two written types compare: equal, with the place past the first; or the first of its words that differs from the second's.
-#[derive(Clone, Copy)]
-pub enum Match {
-    Same(usize),
-    Differ(usize),
+// How a type is formed.
+#[derive(Clone, Copy, PartialEq, Eq)]
+pub enum Former {
+    Numbers,
+    Lump,
+    List,
+    Function,
 }
 
-// How the types of two references compare: equal, or the place of the first word of the first type, where that is written, in which they differ.
+// Where two types differ: the place of the first word of the first type that is not the second's. A type of its own, as `?` picks the refusal by
+// it.
 #[derive(Clone, Copy)]
-pub enum Comparison {
-    Equal,
-    At(usize),
+pub struct Difference {
+    pub at: usize,
 }
 
-// Compares the types that x, which stands at a place, and y begin with.
-fn compare_words(table: &Kinds, x: &[u32], y: &[u32], at: usize) -> Match
-    requires { WordsAt table.now x.now at }
+// A declared type that is not the type found is refused where they differ.
+impl From<Difference> for Refusal {
+    ghost from_gives = { λ d r. r ≡ Mistyped d.at };
+
+    fn from(difference: Difference) -> Refusal {
+        Refusal::Mistyped(difference.at)
+    }
+}
+
+// The words of a file and the links, one for each word.
+#[derive(Clone, Copy)]
+pub struct Types<'a> {
+    pub words: &'a [u32],
+    pub link: &'a [u16],
+    ghost linked: { length link.now ≡ length words.now },
+}
+
+// Compares the types that x, which stands at a place, and y begin with. Returns the place past the first. A word of no kind is one word.
+fn compare_words(x: &[u32], y: &[u32], at: usize) -> Result<usize, Difference>
+    requires { at + length x.now < 2 ^ 63 }
     ensures { Matched x.now y.now at result }
 {
-    if x.len() == 0 {
-        return Match::Differ(at);
+    if x.is_empty() || y.is_empty() || x[0] != y[0] {
+        return Err(Difference { at });
     }
-    if y.len() == 0 {
-        return Match::Differ(at);
-    }
-    let w = x[0];
-    if w != y[0] {
-        return Match::Differ(at);
-    }
-    let shape = row_at(table, w).shape;
-    if shape < nodes::kinds::LIST {
-        return Match::Same(at + 1);
-    }
-    let first = compare_words(table, &x[1..], &y[1..], at + 1);
-    let Match::Same(end) = first else {
-        return first;
+    let Some(shape) = shape_of(x[0]) else {
+        return Ok(at + 1);
     };
-    if shape == nodes::kinds::LIST {
-        return first;
+    match shape {
+        Shape::List => compare_words(&x[1..], &y[1..], at + 1),
+        Shape::Function => {
+            let end = compare_words(&x[1..], &y[1..], at + 1)?;
+            let n = end - at;
+            compare_words(&x[n..], &y[n..], end)
+        }
+        _ => Ok(at + 1),
     }
-    let n = end - at;
-    compare_words(table, &x[n..], &y[n..], end)
 }
 
 // The place past the type that is written at a place.
-pub fn type_end(table: &Kinds, all: &[u32], at: usize) -> usize
-    requires { (table.now ≡ kinds) × (at ≤ length all.now) }
-    ensures { TypeEnd all.now at result }
+pub fn type_end(words: &[u32], at: usize) -> usize
+    requires { at ≤ length words.now }
+    ensures { TypeEnd words.now at result }
 {
-    match compare_words(table, &all[at..], &all[at..], at) {
-        Match::Same(end) => end,
-        Match::Differ(_) => at,
+    compare_words(&words[at..], &words[at..], at).unwrap_or(at)
+}
+
+// The shape of the word at a place, if there is a reference and the word is of a kind.
+#[tactic(auto, unfolding(crate::specs::References::shape_at))]
+pub fn shape_at(words: &[u32], p: usize) -> Option<Shape>
+    ensures value { result ≡ shape_at words.now p }
+    ensures there { IfSome result (λ s. p < length words.now) }
+{
+    if p == 0 || words.len() <= p {
+        return None;
+    }
+    shape_of(words[p])
+}
+
+// How the type that a word of a shape means is formed, if it means one.
+fn former_of(shape: Shape) -> Option<Former>
+    ensures { result ≡ former_of shape }
+{
+    match shape {
+        Shape::Numbers | Shape::Number | Shape::Operator1(_) => Some(Former::Numbers),
+        Shape::Lump => Some(Former::Lump),
+        Shape::List | Shape::Nil => Some(Former::List),
+        Shape::Function | Shape::Lambda => Some(Former::Function),
+        _ => None,
     }
 }
 
-// The shape of the word at a place; 0 where there is none.
-pub fn shape_at(table: &Kinds, all: &[u32], p: usize) -> u64
-    requires { table.now ≡ kinds }
-    ensures { result ≡ shape_at all.now p }
+// How the type that a reference means is formed.
+pub fn former_at(words: &[u32], p: usize) -> Option<Former>
+    ensures value { result ≡ former_at words.now p }
+    ensures there { IfSome result (λ f. p < length words.now) }
 {
-    if p == 0 {
-        return 0;
-    }
-    if all.len() <= p {
-        return 0;
-    }
-    row_at(table, all[p]).shape
+    let shape = shape_at(words, p)?;
+    former_of(shape)
 }
 
-// The shape of the type that a reference means.
-pub fn former_at(table: &Kinds, all: &[u32], p: usize) -> u64
-    requires { table.now ≡ kinds }
-    ensures { result ≡ former_at all.now p }
+// Compares the types that are written behind two places.
+fn compare_behind(words: &[u32], p: usize, q: usize) -> Result<usize, Difference>
+    requires { (p < length words.now) × (q < length words.now) }
+    ensures { Matched (drop (p + 1) words.now) (drop (q + 1) words.now) (p + 1) result }
 {
-    let shape = shape_at(table, all, p);
-    if shape == nodes::kinds::NUMBER {
-        return nodes::kinds::NUMBERS;
-    }
-    if shape == nodes::kinds::OPERATOR_1 {
-        return nodes::kinds::NUMBERS;
-    }
-    if shape == nodes::kinds::NIL {
-        return nodes::kinds::LIST;
-    }
-    if shape == nodes::kinds::LAMBDA {
-        return nodes::kinds::FUNCTION;
-    }
-    shape
-}
-
-// A link as a place.
-fn place(x: u16) -> usize
-    ensures { result ≡ x }
-{
-    x as usize
-}
-
-// The result type of the function type at p, whose argument type ends before `end`.
-pub fn codomain(table: &Kinds, all: &[u32], link: &[u16], p: usize, end: usize) -> usize
-    requires { Linked table.now all.now link.now }
-    ensures { result ≡ codomain all.now link.now p end }
-{
-    if shape_at(table, all, p) == nodes::kinds::LAMBDA {
-        return place(link[p]);
-    }
-    end
+    compare_words(&words[p + 1..], &words[q + 1..], p + 1)
 }
 
 // Compares two lumps, which are written: they are equal if their owners are, so that their words are one.
-fn compare_lumps(all: &[u32], p: usize, q: usize) -> Comparison
-    requires { (p < length all.now) × (q < length all.now) }
-    ensures { result ≡ lumps_compared all.now p q }
+fn compare_lumps(words: &[u32], p: usize, q: usize) -> Result<(), Difference>
+    requires { (p < length words.now) × (q < length words.now) }
+    ensures { result ≡ lumps_compared words.now p q }
 {
-    if all[p] != all[q] {
-        return Comparison::At(p);
+    if words[p] != words[q] {
+        return Err(Difference { at: p });
     }
-    Comparison::Equal
+    Ok(())
 }
 
-// The same for references that have fewer arrows in a row than `room`.
-fn compare_within(
-    table: &Kinds,
-    all: &[u32],
-    link: &[u16],
-    p: usize,
-    q: usize,
-    room: usize,
-) -> Comparison
-    requires { Linked table.now all.now link.now }
-    ensures { Compares all.now link.now p q room result }
-{
-    if room == 0 {
-        return Comparison::At(p);
-    }
-    let former = former_at(table, all, p);
-    if former != former_at(table, all, q) {
-        return Comparison::At(p);
-    }
-    if former == nodes::kinds::LUMP {
-        return compare_lumps(all, p, q);
-    }
-    if former < nodes::kinds::LIST {
-        return Comparison::Equal;
-    }
-    let x = p + 1;
-    let y = q + 1;
-    let arguments = compare_words(table, &all[x..], &all[y..], x);
-    match arguments {
-        Match::Differ(d) => return Comparison::At(d),
-        Match::Same(end) => {
-            if former == nodes::kinds::LIST {
-                return Comparison::Equal;
-            }
-            let t = codomain(table, all, link, p, end);
-            let u = codomain(table, all, link, q, q + (end - p));
-            return compare_within(table, all, link, t, u, room - 1);
+// What references mean among these words, and whether they mean the same.
+impl Types<'_> {
+    // The result type of the function type at p, whose argument type ends before `end`.
+    #[tactic(auto, unfolding(crate::specs::References::codomain))]
+    pub fn codomain(self, p: usize, end: usize) -> usize
+        ensures { result ≡ codomain self.entry.words.now self.entry.link.now p end }
+    {
+        match shape_at(self.words, p) {
+            Some(Shape::Lambda) => usize::from(self.link[p]),
+            _ => end,
         }
     }
-}
 
-// Compares the types of two references. No type of a file has as many arrows in a row as twice its words.
-pub fn compare(table: &Kinds, all: &[u32], link: &[u16], p: usize, q: usize) -> Comparison
-    requires { Linked table.now all.now link.now }
-    ensures { Compared all.now link.now p q result }
-{
-    compare_within(table, all, link, p, q, all.len() + all.len() + 1)
-}
+    // Compares the types of two references that have fewer arrows in a row than `room`. Two that mean no type do not differ.
+    fn compare_within(self, p: usize, q: usize, room: usize) -> Result<(), Difference>
+        ensures { Compares self.entry.words.now self.entry.link.now p q room result }
+    {
+        let former = former_at(self.words, p);
+        if room == 0 || former != former_at(self.words, q) {
+            return Err(Difference { at: p });
+        }
+        let Some(former) = former else {
+            return Ok(());
+        };
+        match former {
+            Former::Numbers => Ok(()),
+            Former::Lump => compare_lumps(self.words, p, q),
+            Former::List => {
+                compare_behind(self.words, p, q)?;
+                Ok(())
+            }
+            Former::Function => {
+                let end = compare_behind(self.words, p, q)?;
+                let t = self.codomain(p, end);
+                let u = self.codomain(q, q + (end - p));
+                self.compare_within(t, u, room - 1)
+            }
+        }
+    }
 
-// Whether two references mean one type.
-pub fn same(table: &Kinds, all: &[u32], link: &[u16], p: usize, q: usize) -> bool
-    requires { Linked table.now all.now link.now }
-    ensures { Equality all.now link.now p q result }
-{
-    match compare(table, all, link, p, q) {
-        Comparison::Equal => true,
-        Comparison::At(_) => false,
+    // Compares the types of two references. No type of a file has as many arrows in a row as twice its words.
+    pub fn compare(self, p: usize, q: usize) -> Result<(), Difference>
+        ensures { Compared self.entry.words.now self.entry.link.now p q result }
+    {
+        self.compare_within(p, q, self.words.len() + self.words.len() + 1)
+    }
+
+    // Whether two references mean one type.
+    pub fn same(self, p: usize, q: usize) -> bool
+        ensures { Equality self.entry.words.now self.entry.link.now p q result }
+    {
+        self.compare(p, q).is_ok()
     }
 }

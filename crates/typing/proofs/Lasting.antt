@@ -10,12 +10,12 @@ use Rattle.calculus.specs.Words.{put, size}
 use Rattle.calculus.specs.Typing.{of, Lambdas}
 use Rattle.calculus.specs.Inference.{infer}
 use Rattle.calculus.specs.Faults.{fault}
+use Rattle.calculus.proofs.Sizes.{past_word}
 use Rattle.types.proofs.Frames.{means_widen, means_frame}
 use Rattle.types.specs.Links.{KeptBefore, LinkTo}
 use Rattle.typing.specs.Answers.{Reference, Answer, whole, bad, Refers, WrittenStatic, EndsAt, Advances, Answers}
 use Rattle.typing.specs.Variables.{Binds, Scope}
 use Rattle.typing.specs.Infers.{Told}
-use Rattle.typing.proofs.Leading.{lead_written}
 
 pub scope_later : (w ls ls' : List ℕ) (hi hi' p : ℕ) (Γ : Lambdas) → hi ≤ hi' → KeptBefore hi ls ls' → Scope w ls hi p Γ → Scope w ls' hi' p Γ
 unfolding Scope
@@ -46,7 +46,8 @@ scope_inside w ls ls' at scope hi l t Γ a b c k own bind s = (
 )
 
 pub binds_static : (l : Lang) (t : Static l) (b : Term l) (w k : List ℕ) (at : ℕ) → drop at w ≡ put (lam t b) k → WrittenStatic l w (at + 1) t
-binds_static ml t b w k at d = lead_written ml (lam t b) w k at t d refl
+unfolding put
+binds_static ml t b w k at d = (put b k, past_word at _ w _ d)
 binds_static sc t b w k at d = tt
 
 pub refers_later : (l : Lang) (w ls ls' : List ℕ) (lo hi lo' hi' : ℕ) (p : Reference l) (t : Static l) → lo' ≤ lo → hi ≤ hi' → KeptBefore hi ls ls'

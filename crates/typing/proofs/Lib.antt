@@ -3,8 +3,7 @@ pub mod Operations
 pub mod RuleResults
 pub mod Variables
 pub mod Telling
-pub mod Leading
 pub mod Lasting
-pub mod Leaves
+pub mod LeafResults
 pub mod OverParts
 pub mod Concluding

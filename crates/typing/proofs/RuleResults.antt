@@ -4,114 +4,96 @@ use mathlib.Core.Bool.{Bool, true, false, cond}
 use mathlib.Core.List.{List}
 use mathlib.Core.Option.{Option, none, some}
 use mathlib.Core.Path.{◌≡◌, refl, sym, ap, ◌∙◌, subst}
-use borrow.Author.Tests.{eq-eqb, ne_eqb}
-use lib.Dec.{eqb}
 use native.Mathlib.Omega.{arith}
-use Rattle.calculus.specs.Trees.{Ty, list, Lang, ml, sc, Static, Op1, HD, TL, FIX, NULL?, APP, ADD, SUB, CONS}
+use Rattle.std.proofs.Common.{Option as Found, Some, None}
+use Rattle.std.specs.Option.{option_and, option_and_then}
+use Rattle.calculus.specs.Trees.{Ty, N, list, Lang, ml, sc, Static, Op1, HD, TL, NULL?, ADD, SUB}
 use Rattle.calculus.specs.Inference.{same_type, result1, sum_type}
+use Rattle.calculus.proofs.Inference.{same_iff}
 use Rattle.calculus.specs.Verdicts.{found}
-use Rattle.types.specs.References.{former, former_at, Written, Means}
+use Rattle.nodes.specs.declared.kinds.Operator1.TheVariants.{Null}
+use Rattle.nodes.specs.declared.kinds.Shape.TheVariants as s
+use Rattle.types.specs.References.{shape_at, former_of, Written, Means}
 use Rattle.types.specs.Comparisons.{Equality}
 use Rattle.types.proofs.Pairs.{same_sym}
-use Rattle.types.proofs.Meanings.{written_means, means_in}
+use Rattle.types.proofs.Meanings.{written_means}
 use Rattle.typing.specs.Answers.{Answer, whole, bad, Answers, EndsAt, Advances, conclusion, other, boundary_type, Crossed}
-use Rattle.typing.specs.Operators.{Finds, element_of, IfSame, Finds1, Finds2, Result1, Result2, Result3}
-use Rattle.typing.proofs.Formers.{is_list_lem, no_list, is_number, no_number}
+use Rattle.typing.specs.Operators.{Finds, element_of, number_of, IfSame, Finds1, Finds2, Result3}
+use Rattle.typing.proofs.Formers.{is_list_lem, no_list, is_number, other_type}
 use Rattle.typing.proofs.Operations.{element_means, finds_if}
 
--- The operators of one part.
-module _ (w ls : List ℕ) (x at t : ℕ) where
-  pub one_fix : x ≡ 20 → (r : ℕ) → Finds1 FIX w ls t r → Result1 w ls x at t r
-  one_fix e r f FIX q h = f
-  one_fix e r f NULL? q h = absurd (omega arith)
-  one_fix e r f HD q h = absurd (omega arith)
-  one_fix e r f TL q h = absurd (omega arith)
-
-  module _ (n20 : x ≡ 20 → ⊥) (e : ℕ) (he : e ≡ element_of w t) where
-    pub one_other : e ≡ 0 → Result1 w ls x at t 0
+-- The operators of one part, by the element type.
+module _ (w ls : List ℕ) (at t : ℕ) (found : Found ℕ) (he : found ≡ element_of w t) where
+  module _ (z : found ≡ None) where
+    pub tl_other : Finds1 TL w ls t None
     unfolding Finds
-    one_other z FIX q h = absurd (n20 q)
-    one_other z NULL? q h = λ s lo hi few m. rw (no_list w t e he z ls lo hi s m) refl
-    one_other z HD q h = λ s lo hi few m. rw (no_list w t e he z ls lo hi s m) refl
-    one_other z TL q h = λ s lo hi few m. rw (no_list w t e he z ls lo hi s m) refl
+    tl_other s lo hi few m = rw (no_list w t found he z ls lo hi s m) refl
 
-    module _ (list_type : e ≡ 0 → ⊥) where
-      -- By the element type y.
-      by_element : (o : Op1 ml) (r : ℕ)
-          → ((y : Ty) (lo hi : ℕ) → Means w ls lo hi t (list y) → e ≡ t + 1 → Finds w ls lo hi (result1 o (list y)) r)
-          → Finds1 o w ls t r
-      by_element o r f s lo hi few m =
-          let i = is_list_lem w t e he list_type ls lo hi s m in
-          rw i.1 (f i.0 lo hi (rw i.1 at m) i.2)
+    pub null_other : Finds1 NULL? w ls t None
+    unfolding Finds
+    null_other s lo hi few m = rw (no_list w t found he z ls lo hi s m) refl
 
-      pub one_hd : x ≡ 26 → Result1 w ls x at t e
-      unfolding Finds
-      one_hd n FIX q h = absurd (n20 q)
-      one_hd n NULL? q h = absurd (omega arith)
-      one_hd n HD q h = by_element HD e (λ y lo hi my k. rw k (element_means w ls lo hi t y my))
-      one_hd n TL q h = absurd (omega arith)
+  module _ (e : ℕ) (list_type : found ≡ Some e) where
+    -- By the element type y.
+    by_element : (o : Op1 ml) (r : Found ℕ)
+        → ((y : Ty) (lo hi : ℕ) → Means w ls lo hi t (list y) → e ≡ t + 1 → Finds w ls lo hi (result1 o (list y)) r)
+        → Finds1 o w ls t r
+    by_element o r f s lo hi few m =
+        let i = is_list_lem w t found he e list_type ls lo hi s m in
+        rw i.1 (f i.0 lo hi (rw i.1 at m) i.2)
 
-      pub one_tl : x ≡ 27 → Result1 w ls x at t t
-      unfolding Finds
-      one_tl n FIX q h = absurd (n20 q)
-      one_tl n NULL? q h = absurd (omega arith)
-      one_tl n HD q h = absurd (omega arith)
-      one_tl n TL q h = by_element TL t (λ y lo hi my k. my)
+    pub one_tl : Finds1 TL w ls t (Some t)
+    unfolding Finds
+    one_tl = by_element TL (Some t) (λ y lo hi my k. (t, refl, my))
 
-      pub one_null : (x ≡ 26 → ⊥) → (x ≡ 27 → ⊥) → Result1 w ls x at t at
-      unfolding Finds Means former
-      one_null n26 n27 FIX q h = absurd (n20 q)
-      one_null n26 n27 NULL? q h = by_element NULL? at (λ y lo hi my k. ap former h)
-      one_null n26 n27 HD q h = absurd (n26 q)
-      one_null n26 n27 TL q h = absurd (n27 q)
+    pub one_null : shape_at w at ≡ Some (s.Operator1 Null) → Finds1 NULL? w ls t (Some at)
+    unfolding Finds Means
+    one_null h = by_element NULL? (Some at) (λ y lo hi my k. (at, refl, ap (option_and_then former_of) h))
 
--- The operators of two parts.
-module _ (w ls : List ℕ) (x t u : ℕ) where
-  pub two_apply : x ≡ 19 → (r : ℕ) → Finds2 APP w ls t u r → Result2 w ls x t u r
-  two_apply e r f APP q = f
-  two_apply e r f ADD q = absurd (omega arith)
-  two_apply e r f SUB q = absurd (omega arith)
-  two_apply e r f CONS q = absurd (omega arith)
+  pub one_hd : Finds1 HD w ls t found
+  unfolding Finds
+  one_hd = by found refl
+    where
+      by : (o : Found ℕ) → found ≡ o → Finds1 HD w ls t o
+      by None z = λ s lo hi few m. rw (no_list w t found he z ls lo hi s m) refl
+      by (Some e) z = by_element e z HD (Some e) (λ y lo hi my k. (e, refl, rw k (element_means w ls lo hi t y my)))
 
-  pub two_cons : x ≡ 25 → (r : ℕ) → Finds2 CONS w ls t u r → Result2 w ls x t u r
-  two_cons e r f APP q = absurd (omega arith)
-  two_cons e r f ADD q = absurd (omega arith)
-  two_cons e r f SUB q = absurd (omega arith)
-  two_cons e r f CONS q = f
+-- add and subtract have one rule.
+module _ (w ls : List ℕ) (t u : ℕ) where
+  sum : (s v : Ty) (lo hi : ℕ) → Means w ls lo hi t s → Means w ls lo hi u v
+      → Finds w ls lo hi (sum_type ml s v) (option_and (number_of w u) (number_of w t))
+  unfolding Finds
+  sum s v lo hi m mu = by (number_of w u) refl (number_of w t) refl
+    where
+      none_found : (b : Bool) → Finds w ls lo hi (cond b none none) None
+      none_found true = refl
+      none_found false = refl
 
-  module _ (n19 : x ≡ 19 → ⊥) (n25 : x ≡ 25 → ⊥) where
-    -- add and subtract have one rule.
-    sum : (r : ℕ) → ((s v : Ty) (lo hi : ℕ) → Means w ls lo hi t s → Means w ls lo hi u v → Finds w ls lo hi (sum_type ml s v) r)
-        → Result2 w ls x t u r
-    sum r f APP q = absurd (n19 q)
-    sum r f ADD q = λ s v lo hi few m mu. f s v lo hi m mu
-    sum r f SUB q = λ s v lo hi few m mu. f s v lo hi m mu
-    sum r f CONS q = absurd (n25 q)
+      by : (g : Found ℕ) → g ≡ number_of w u → (h : Found ℕ) → h ≡ number_of w t → Finds w ls lo hi (sum_type ml s v) (option_and g h)
+      by None eg h eh = rw (other_type w u None eg ls lo hi refl v mu) (none_found (same_type ml s N))
+      by (Some p) eg None eh = rw (other_type w t None eh ls lo hi refl s m) refl
+      by (Some p) eg (Some i) eh =
+          let k = is_number w t (Some i) eh ls lo hi i refl in
+          let e = k.1 s m in
+          let q = (is_number w u (Some p) eg ls lo hi p refl).1 v mu in
+          rw (e, q, (same_iff ml N N).1 refl) (i, refl, rw k.0 (rw e at m))
 
-    module _ (f : ℕ) (ef : f ≡ former_at w t) where
-      pub two_first : (f ≡ 10 → ⊥) → Result2 w ls x t u 0
-      unfolding Finds
-      two_first n = sum 0 (λ s v lo hi m mu. rw (no_number w t f ef ls lo hi n s m) refl)
+  pub added : (r : Found ℕ) → r ≡ option_and (number_of w u) (number_of w t) → Finds2 ADD w ls t u r
+  added r e s v lo hi few m mu = rw e (sum s v lo hi m mu)
 
-      module _ (one : f ≡ 10) (g : ℕ) (eg : g ≡ former_at w u) where
-        pub two_second : (g ≡ 10 → ⊥) → Result2 w ls x t u 0
-        unfolding Finds
-        two_second n = sum 0 (λ s v lo hi m mu. rw (is_number w t f ef ls lo hi one s m, no_number w u g eg ls lo hi n v mu) refl)
-
-        pub two_numbers : g ≡ 10 → Result2 w ls x t u t
-        unfolding Finds Means
-        two_numbers two =
-            sum t (λ s v lo hi m mu. rw (is_number w t f ef ls lo hi one s m, is_number w u g eg ls lo hi two v mu) (sym ef ∙ one))
+  pub subtracted : (r : Found ℕ) → r ≡ option_and (number_of w u) (number_of w t) → Finds2 SUB w ls t u r
+  subtracted r e s v lo hi few m mu = rw e (sum s v lo hi m mu)
 
 -- if0.
-module _ (w ls : List ℕ) (t u v f : ℕ) (ef : f ≡ former_at w t) where
-  pub three_test : (f ≡ 10 → ⊥) → Result3 w ls t u v 0
+module _ (w ls : List ℕ) (t u v : ℕ) (f : Found ℕ) (ef : f ≡ number_of w t) where
+  pub three_test : f ≡ None → Result3 w ls t u v None
   unfolding Finds
-  three_test n a b c lo hi few ma mb mc = rw (no_number w t f ef ls lo hi n a ma) refl
+  three_test n a b c lo hi few ma mb mc = rw (other_type w t f ef ls lo hi n a ma) refl
 
-  pub three_rule : f ≡ 10 → (r : ℕ) → IfSame w ls u v u r → Result3 w ls t u v r
-  three_rule one r same a b c lo hi few ma mb mc =
-      rw (is_number w t f ef ls lo hi one a ma) (finds_if w ls lo hi u r b (same_type ml b c) (same b c lo hi lo hi few mb mc) (λ y. mb))
+  pub three_rule : (p : ℕ) → f ≡ Some p → (r : Found ℕ) → IfSame w ls u v u r → Result3 w ls t u v r
+  three_rule p one r same a b c lo hi few ma mb mc =
+      rw ((is_number w t f ef ls lo hi p one).1 a ma, (same_iff ml N N).1 refl)
+      (finds_if w ls lo hi u r b (same_type ml b c) (same b c lo hi lo hi few mb mc) (λ y. mb))
 
 -- A boundary whose term is bad.
 pub crossed_bad : (l : Lang) (w ls : List ℕ) (at f : ℕ) → Crossed l w ls at (bad f) (bad f)
@@ -166,14 +148,12 @@ ms_whole w ls at n = record { advances = λ end h. h; is = by }
         let q : n ≡ next = cc in (at + 1, ap (whole (at + 1)) q, written_means w ls lo hi (at + 1) τ (omega arith) x)
 
 -- The answer for a node by the reference to its type.
-pub answered : (w ls : List ℕ) (lo hi at t next : ℕ) (o : Option Ty) → Finds w ls lo hi o t → Answers ml w ls lo hi at next o (conclusion at t next)
+pub answered : (w ls : List ℕ) (lo hi at : ℕ) (r : Found ℕ) (next : ℕ) (o : Option Ty) → Finds w ls lo hi o r
+    → Answers ml w ls lo hi at next o (conclusion at r next)
 unfolding Finds Answers
-answered w ls lo hi at t next none f = rw (eq-eqb t 0 f)
-answered w ls lo hi at t next (some s) f = rw (ne_eqb t 0 (λ z. omega (arith, (means_in w ls lo hi t s f).0))) (t, refl, f)
+answered w ls lo hi at r next none f = rw f refl
+answered w ls lo hi at r next (some s) f = rw f.1 (f.0, refl, f.2)
 
-pub passed : (at t next : ℕ) → EndsAt next (conclusion at t next)
-passed at t next = by (eqb t 0)
-  where
-    by : (b : Bool) → EndsAt {l = ml} next (cond b (bad at) (whole t next))
-    by true = tt
-    by false = refl
+pub passed : (at : ℕ) (r : Found ℕ) (next : ℕ) → EndsAt next (conclusion at r next)
+passed at None next = tt
+passed at (Some t) next = refl

@@ -1,14 +1,12 @@
 -- What is answered for a term: in ML the reference to its type and the place past it, in Scheme the place past it; or its fault.
-use Rattle.std.specs.Prelude.{ℕ, ◌+◌, ◌≤◌, ◌<◌, cond, List, ◌≡◌, eqb}
+use Rattle.std.specs.Prelude.{ℕ, ◌+◌, ◌≤◌, ◌<◌, cond, List, ◌≡◌, Option as Found, Some, None, Result, Ok, Err}
 use Rattle.std.proofs.Math.Option.{Option, none, some}
 use Rattle.calculus.specs.Trees.{Ty, Lang, ml, sc, Static}
 use Rattle.calculus.specs.Inference.{same_type}
 use Rattle.calculus.specs.Verdicts.{found}
 use Rattle.types.specs.References.{Written, Means}
-use Rattle.typing.specs.declared.rules.Inferred.{Inferred}
-use Rattle.typing.specs.declared.rules.Inferred.TheVariants.{Typed, Bad}
-use Rattle.typing.specs.declared.rules.Formed.{Formed}
-use Rattle.typing.specs.declared.rules.Formed.TheVariants.{Whole, Bad as Misformed}
+use Rattle.typing.specs.declared.Typed.{Typed}
+use Rattle.typing.specs.declared.Fault.{Fault}
 
 -- What refers to a static type. Scheme has one, so that there is nothing to refer to.
 abbrev pub Reference : Lang → Type 0
@@ -20,13 +18,13 @@ pub data Answer (l : Lang) : Type 0 where
   whole : Reference l → ℕ → Answer l
   bad : ℕ → Answer l
 
-abbrev pub inferred : Inferred → Answer ml
-inferred (Typed p n) = whole p n
-inferred (Bad f) = bad f
+abbrev pub inferred : Result Typed Fault → Answer ml
+inferred (Ok t) = whole t.reference t.end
+inferred (Err f) = bad f.at
 
-abbrev pub formed : Formed → Answer sc
-formed (Whole n) = whole tt n
-formed (Misformed f) = bad f
+abbrev pub formed : Result ℕ Fault → Answer sc
+formed (Ok n) = whole tt n
+formed (Err f) = bad f.at
 
 -- The reference means a static type.
 abbrev pub Refers : (l : Lang) → List ℕ → List ℕ → ℕ → ℕ → Reference l → Static l → Type 0
@@ -52,9 +50,10 @@ unfoldable pub Answers : (l : Lang) → List ℕ → List ℕ → ℕ → ℕ �
 Answers l w ls lo hi at next none r = r ≡ bad at
 Answers l w ls lo hi at next (some t) r = (p : Reference l) × (r ≡ whole p next) × Refers l w ls lo hi p t
 
--- A type by its reference, which is 0 where there is none.
-abbrev pub conclusion : ℕ → ℕ → ℕ → Answer ml
-conclusion at t next = cond (eqb t 0) (bad at) (whole t next)
+-- A type by its reference, if there is one.
+abbrev pub conclusion : ℕ → Found ℕ → ℕ → Answer ml
+conclusion at None next = bad at
+conclusion at (Some t) next = whole t next
 
 -- The language on the other side of a boundary.
 abbrev pub other : Lang → Lang

@@ -1,5 +1,4 @@
 pub mod Answers
 pub mod Operators
 pub mod Variables
-pub mod Parts
 pub mod Infers

@@ -1,33 +1,42 @@
 -- The lambdas around a place, as links hold them, and the lambda of a variable.
-use Rattle.std.specs.Prelude.{ℕ, ◌+◌, ◌/◌, ◌%◌, ◌<◌, ◌≤◌, List, [], ◌∷◌, ◌≡◌, length, get_or}
+use Rattle.std.specs.Prelude.{ℕ, ◌+◌, ◌/◌, ◌%◌, ◌<◌, ◌≤◌, List, [], ◌∷◌, ◌≡◌, length, get_or, Option as Found, Some, None}
+use Rattle.std.specs.Prelude.{Result, Ok, Err}
 use Rattle.std.proofs.Math.Option.{Option, none, some}
 use Rattle.calculus.specs.Trees.{Lang, Static}
-use Rattle.calculus.specs.Kinds.{term}
+use Rattle.calculus.specs.Kinds.{Sort, term}
 use Rattle.calculus.specs.Typing.{Entry, of, Lambdas}
 use Rattle.calculus.specs.Inference.{type_at}
-use Rattle.nodes.specs.Table.{sort_number, row_of}
-use Rattle.typing.specs.Answers.{Answer, WrittenStatic, EndsAt, Answers}
+use Rattle.nodes.specs.Table.{row_of, told}
+use Rattle.typing.specs.declared.Fault.{Fault}
+use Rattle.typing.specs.Answers.{WrittenStatic}
+
+-- The sort of the word at a place, if it is of a kind.
+abbrev pub sort_at : List ℕ → ℕ → Found Sort
+sort_at w p = told (row_of (get_or w p 0 % 256)) None (λ r. Some r.sort)
 
 -- The lambda at p is of the language, with the type written behind it.
 abbrev pub Binds : List ℕ → ℕ → Entry → Type 0
-Binds w p (of l t) = ((row_of (get_or w p 0 % 256)).sort ≡ sort_number (term l)) × WrittenStatic l w (p + 1) t
+Binds w p (of l t) = (sort_at w p ≡ Some (term l)) × WrittenStatic l w (p + 1) t
 
 -- From the lambda at p outwards, each before hi, they are the lambdas Γ. 0 is none.
 unfoldable pub Scope : List ℕ → List ℕ → ℕ → ℕ → Lambdas → Type 0
 Scope w ls hi p [] = p ≡ 0
 Scope w ls hi p (x ∷ Γ) = (0 < p) × (p < hi) × Binds w p x × Scope w ls p (get_or ls p 0) Γ
 
--- The lambda at which the static type is written, or 0.
-abbrev pub Behind : (l : Lang) → List ℕ → Option (Static l) → ℕ → Type 0
-Behind l w none r = r ≡ 0
-Behind l w (some t) r = (0 < r) × WrittenStatic l w (r + 1) t
+-- The lambda at which the static type is written, if there is one.
+abbrev pub Behind : (l : Lang) → List ℕ → Option (Static l) → Found ℕ → Type 0
+Behind l w none r = r ≡ None
+Behind l w (some t) r = (p : ℕ) × (r ≡ Some p) × WrittenStatic l w (p + 1) t
 
-pub record LambdaOf (w ls : List ℕ) (sort scope between r : ℕ) : Type 0 where
-  pub there : r ≤ length w
-  pub is : (l : Lang) (Γ : Lambdas) (hi : ℕ) → sort ≡ sort_number (term l) → hi ≤ length w → Scope w ls hi scope Γ
-      → Behind l w (type_at l Γ between) r
+pub record LambdaOf (l : Lang) (w ls : List ℕ) (scope between : ℕ) (r : Found ℕ) : Type 0 where
+  pub there : (p : ℕ) → r ≡ Some p → p < length w
+  pub is : (Γ : Lambdas) (hi : ℕ) → hi ≤ length w → Scope w ls hi scope Γ → Behind l w (type_at l Γ between) r
 
--- "a variable the type written at its lambda".
-pub record Variable (l : Lang) (w ls : List ℕ) (scope x at : ℕ) (r : Answer l) : Type 0 where
-  pub passes : EndsAt (at + 1) r
-  pub is : (Γ : Lambdas) (lo hi : ℕ) → Scope w ls at scope Γ → Answers l w ls lo hi at (at + 1) (type_at l Γ (x / 256)) r
+-- "a variable the type written at its lambda": the lambda, or the variable's own place as the fault's.
+abbrev pub Bound : (l : Lang) → List ℕ → ℕ → Option (Static l) → Result ℕ Fault → Type 0
+Bound l w at none r = r ≡ Err (record { at = at })
+Bound l w at (some t) r = (p : ℕ) × (r ≡ Ok p) × WrittenStatic l w (p + 1) t
+
+pub record Variable (l : Lang) (w ls : List ℕ) (scope at : ℕ) (r : Result ℕ Fault) : Type 0 where
+  pub there : (p : ℕ) → r ≡ Ok p → p < length w
+  pub is : (Γ : Lambdas) → Scope w ls at scope Γ → Bound l w at (type_at l Γ (get_or w at 0 / 256)) r

@@ -1,119 +1,137 @@
-// The typing in one pass: ML inference and Scheme well-formedness, which call each other at every boundary. Each is handed the words of its term,
-// the part of the file that starts at the term's own word, and hands on those of a part, which are fewer. While the body of a lambda is inferred,
-// the lambda's link is the place of the next lambda around it, or 0; after that an ML lambda's is the type of the body.
+// The typing in one pass: ML inference and Scheme well-formedness, which call each other at every boundary. A term is told by its place among the
+// words of the file. While the body of a lambda is inferred, the lambda's link is the place of the next lambda around it, or 0; after that an ML
+// lambda's is the type of the body.
 
 #![tactic(auto)]
 
-pub mod parts;
+pub mod leaves;
 pub mod rules;
 
+ghost use Rattle.std.specs.Prelude.{◌≡◌, ◌<◌, length};
 ghost use Rattle.calculus.specs.Trees.{ml, sc};
+ghost use Rattle.nodes.specs.declared.refusals.Refusal.TheVariants.{Untyped};
+ghost use Rattle.types.specs.Links.{LinkTo};
 ghost use Rattle.typing.specs.Answers.{inferred, formed};
-ghost use Rattle.typing.specs.Parts.{Begins};
-ghost use Rattle.typing.specs.Infers.{Infers};
+ghost use Rattle.typing.specs.Infers.{Function, Begins, Infers};
 
-use nodes::kinds::{BASE, Kinds, row_at};
-use parts::{function, leaf, parts_start, scheme_leaf, scope_within};
-use rules::{Formed, Inferred, at_ms, at_sm, conclusion, result_1, result_2, result_3};
+use leaves::{leaf, scheme_leaf};
+use nodes::kinds::Shape;
+use nodes::refusals::Refusal;
+use rules::{at_ms, at_sm, conclusion, result_1, result_2, result_3};
+use types::{Types, shape_at, type_end};
 
-// A row's parts are the digits of a number in base 5, the first the lowest. A node whose number is below these has no part that is a term, fewer
-// than two parts, and fewer than three.
-const SOME_TERM: u64 = nodes::kinds::ML;
+// The type of an ML term, as a reference, and the place past the term.
+#[derive(Clone, Copy)]
+pub struct Typed {
+    pub reference: usize,
+    pub end: usize,
+}
 
-const TWO_PARTS: u64 = BASE;
+// A term that has no type, or is not well formed, by the place of its fault. A type of its own, as `?` picks the refusal by it.
+#[derive(Clone, Copy)]
+pub struct Fault {
+    pub at: usize,
+}
 
-const THREE_PARTS: u64 = BASE * BASE;
+// A term that has a fault is refused there.
+impl From<Fault> for Refusal {
+    ghost from_gives = { λ f r. r ≡ Untyped f.at };
+
+    fn from(fault: Fault) -> Refusal {
+        Refusal::Untyped(fault.at)
+    }
+}
+
+// A place of a file as a link. A link has two bytes of fixed memory, so that 0 is no reference in it.
+fn link_to(p: usize) -> u16
+    ensures { LinkTo p result }
+{
+    u16::try_from(p).unwrap_or(0)
+}
+
+// The ML lambda at `at`, by its body.
+fn function(at: usize, link: &mut [u16], body: Typed) -> Typed
+    requires { at < length link.old }
+    ensures { Function at body link.old link.new result }
+{
+    link[at] = link_to(body.reference);
+    Typed {
+        reference: at,
+        end: body.end,
+    }
+}
 
 // The type of the ML term that starts at the place `at`, inside the lambda at `scope`.
 #[cycle(infer_well_formed)]
-pub fn infer(
-    table: &Kinds,
-    words: &[u32],
-    term: &[u32],
-    at: usize,
-    link: &mut [u16],
-    scope: usize,
-) -> Inferred
-    requires { Begins table.now words.now term.now at link.old }
+pub fn infer(words: &[u32], at: usize, link: &mut [u16], scope: usize) -> Result<Typed, Fault>
+    requires { Begins words.now at link.old }
     ensures { Infers ml words.now at scope link.old link.new (inferred result) }
 {
-    if term.len() == 0 {
-        return Inferred::Bad(at);
-    }
-    let w = term[0];
-    let row = row_at(table, w);
-    let start = parts_start(table, words, row, at);
-    if row.parts < SOME_TERM {
-        return leaf(table, words, link, row, scope, at, start);
-    }
-    if row.shape == nodes::kinds::BOUNDARY {
-        let crossing = well_formed(table, words, &words[start..], start, link, scope);
-        return at_ms(at, crossing);
-    }
-    let inner = scope_within(row.shape, at, link, scope);
-    let one = infer(table, words, &words[start..], start, link, inner);
-    let Inferred::Typed(t, second) = one else {
-        return one;
+    let Some(shape) = shape_at(words, at) else {
+        return Err(Fault { at });
     };
-    if row.shape == nodes::kinds::LAMBDA {
-        return function(at, link, t, second);
+    match shape {
+        Shape::Lambda => {
+            let start = type_end(words, at + 1);
+            link[at] = link_to(scope);
+            let body = infer(words, start, link, at)?;
+            Ok(function(at, link, body))
+        }
+        Shape::Operator1(operator) => {
+            let part = infer(words, at + 1, link, scope)?;
+            let found = result_1(Types { words, link }, operator, at, part.reference);
+            conclusion(at, found, part.end)
+        }
+        Shape::Operator2(operator) => {
+            let first = infer(words, at + 1, link, scope)?;
+            let second = infer(words, first.end, link, scope)?;
+            let types = Types { words, link };
+            let found = result_2(types, operator, first.reference, second.reference);
+            conclusion(at, found, second.end)
+        }
+        Shape::If0 => {
+            let test = infer(words, at + 1, link, scope)?;
+            let first = infer(words, test.end, link, scope)?;
+            let second = infer(words, first.end, link, scope)?;
+            let types = Types { words, link };
+            let found = result_3(types, test.reference, first.reference, second.reference);
+            conclusion(at, found, second.end)
+        }
+        Shape::Boundary => at_ms(at, well_formed(words, type_end(words, at + 1), link, scope)),
+        _ => leaf(Types { words, link }, shape, scope, at),
     }
-    if row.shape == nodes::kinds::OPERATOR_1 {
-        return conclusion(at, result_1(table, words, link, w, at, t), second);
-    }
-    let two = infer(table, words, &words[second..], second, link, scope);
-    let Inferred::Typed(u, third) = two else {
-        return two;
-    };
-    if row.shape == nodes::kinds::OPERATOR_2 {
-        return conclusion(at, result_2(table, words, link, w, t, u), third);
-    }
-    let three = infer(table, words, &words[third..], third, link, scope);
-    let Inferred::Typed(v, next) = three else {
-        return three;
-    };
-    conclusion(at, result_3(table, words, link, t, u, v), next)
 }
 
-// Whether the Scheme term that starts at the place `at`, inside the lambda at `scope`, is well formed.
+// The place past the Scheme term that starts at the place `at`, inside the lambda at `scope`, if it is well formed. Not one function with `infer`:
+// a Scheme term has no type to answer with.
 #[cycle(infer_well_formed)]
-fn well_formed(
-    table: &Kinds,
-    words: &[u32],
-    term: &[u32],
-    at: usize,
-    link: &mut [u16],
-    scope: usize,
-) -> Formed
-    requires { Begins table.now words.now term.now at link.old }
+fn well_formed(words: &[u32], at: usize, link: &mut [u16], scope: usize) -> Result<usize, Fault>
+    requires { Begins words.now at link.old }
     ensures { Infers sc words.now at scope link.old link.new (formed result) }
 {
-    if term.len() == 0 {
-        return Formed::Bad(at);
-    }
-    let row = row_at(table, term[0]);
-    let start = parts_start(table, words, row, at);
-    if row.parts < SOME_TERM {
-        return scheme_leaf(table, words, link, row, scope, at, start);
-    }
-    if row.shape == nodes::kinds::BOUNDARY {
-        let crossing = infer(table, words, &words[start..], start, link, scope);
-        return at_sm(table, words, link, at, crossing);
-    }
-    let inner = scope_within(row.shape, at, link, scope);
-    let one = well_formed(table, words, &words[start..], start, link, inner);
-    let Formed::Whole(second) = one else {
-        return one;
+    let Some(shape) = shape_at(words, at) else {
+        return Err(Fault { at });
     };
-    if row.parts < TWO_PARTS {
-        return one;
+    match shape {
+        Shape::Lambda => {
+            link[at] = link_to(scope);
+            well_formed(words, at + 1, link, at)
+        }
+        Shape::Operator1(_) => well_formed(words, at + 1, link, scope),
+        Shape::Operator2(_) => {
+            let second = well_formed(words, at + 1, link, scope)?;
+            well_formed(words, second, link, scope)
+        }
+        Shape::If0 => {
+            let second = well_formed(words, at + 1, link, scope)?;
+            let third = well_formed(words, second, link, scope)?;
+            well_formed(words, third, link, scope)
+        }
+        Shape::Boundary => {
+            let start = type_end(words, at + 1);
+            let one = infer(words, start, link, scope);
+            at_sm(Types { words, link }, at, one)
+        }
+        _ => scheme_leaf(Types { words, link }, shape, scope, at),
     }
-    let two = well_formed(table, words, &words[second..], second, link, scope);
-    let Formed::Whole(third) = two else {
-        return two;
-    };
-    if row.parts < THREE_PARTS {
-        return two;
-    }
-    well_formed(table, words, &words[third..], third, link, scope)
 }

@@ -1,255 +1,182 @@
-// The rules of the typing: of ML on references to types, of Scheme on none. Where there is no type, the reference that is answered is 0.
+// The rules of the typing: of ML on references to types, of Scheme on none.
 
-ghost use Rattle.std.specs.Prelude.{◌≡◌, List, ℕ, ◌<◌};
-ghost use Rattle.nodes.specs.Table.{kinds};
+ghost use Rattle.std.specs.Prelude.{◌≡◌, List, ℕ, ◌<◌, length};
+ghost use Rattle.std.specs.Option.{option_and};
 ghost use Rattle.calculus.specs.Trees.{ml, sc, FIX, APP, CONS};
-ghost use Rattle.types.specs.Links.{Linked, LinkedAt};
+ghost use Rattle.nodes.specs.Table.{as_lang};
 ghost use Rattle.typing.specs.Answers.{inferred, formed, conclusion, Crossed};
-ghost use Rattle.typing.specs.Operators.{ArgumentEnd, element_of, IfSame, Finds1, Finds2, Result1, Result2, Result3};
+ghost use Rattle.typing.specs.Operators.{ArgumentEnd, element_of, number_of, as_op2, IfSame, Finds1, Finds2, Result1, Result3};
 ghost use Rattle.typing.specs.Variables.{LambdaOf, Variable};
 
-use nodes::kinds::{Kinds, row_at};
-use types::{codomain, former_at, same, type_end};
+use crate::{Fault, Typed};
+use nodes::kinds::{Language, Operator1, Operator2, Sort, row_at};
+use types::{Former, Types, former_at, type_end};
 
-// The type of an ML term, as a reference, and the place past the term; or the place of its fault.
-#[derive(Clone, Copy)]
-pub enum Inferred {
-    Typed(usize, usize),
-    Bad(usize),
-}
-
-// The place past a well-formed Scheme term; or the place of its fault.
-#[derive(Clone, Copy)]
-pub enum Formed {
-    Whole(usize),
-    Bad(usize),
-}
-
-// The answer for the node at `at`, which ends before `next` and has the type t.
-pub fn conclusion(at: usize, t: usize, next: usize) -> Inferred
-    ensures { inferred result ≡ conclusion at t next }
+// The answer for the node at `at`, which ends before `end`, by the reference to its type.
+pub fn conclusion(at: usize, found: Option<usize>, end: usize) -> Result<Typed, Fault>
+    ensures { inferred result ≡ conclusion at found end }
 {
-    if t == 0 {
-        return Inferred::Bad(at);
-    }
-    Inferred::Typed(t, next)
+    let reference = found.ok_or(Fault { at })?;
+    Ok(Typed { reference, end })
 }
 
-// From the lambda at `scope` outwards, the one with so many others between, if it is of the sort; else 0.
-fn lambda_of(
-    table: &Kinds,
-    all: &[u32],
-    link: &[u16],
-    sort: u64,
-    scope: usize,
-    between: usize,
-) -> usize
-    requires { Linked table.now all.now link.now }
-    ensures { LambdaOf all.now link.now sort scope between result }
+// From the lambda at `scope` outwards, the one with so many others between, if it is of the language.
+fn lambda_of(types: Types, language: Language, scope: usize, between: usize) -> Option<usize>
+    ensures { LambdaOf (as_lang language) types.entry.words.now types.entry.link.now scope between result }
 {
-    if scope == 0 {
-        return 0;
+    if scope == 0 || types.words.len() <= scope {
+        return None;
     }
-    if all.len() <= scope {
-        return 0;
+    if 0 < between {
+        let out = usize::from(types.link[scope]);
+        return lambda_of(types, language, out, between - 1);
     }
-    if between == 0 {
-        if row_at(table, all[scope]).sort == sort {
-            return scope;
-        }
-        return 0;
-    }
-    let out = link[scope] as usize;
-    lambda_of(table, all, link, sort, out, between - 1)
+    let row = row_at(types.words[scope])?;
+    row.is_of(Sort::Term(language)).then_some(scope)
 }
 
-// The ML variable at `at`, whose word is w, inside the lambda at `scope`.
-pub fn variable(
-    table: &Kinds,
-    all: &[u32],
-    link: &[u16],
-    scope: usize,
-    w: u32,
-    at: usize,
-) -> Inferred
-    requires { LinkedAt table.now all.now link.now at }
-    ensures { Variable ml all.now link.now scope w at (inferred result) }
+// The lambda of the variable at `at`, of the language, inside the lambda at `scope`.
+pub fn binder(types: Types, language: Language, scope: usize, at: usize) -> Result<usize, Fault>
+    requires { at < length types.words.now }
+    ensures { Variable (as_lang language) types.entry.words.now types.entry.link.now scope at result }
 {
-    let between = (w / 256) as usize;
-    let p = lambda_of(table, all, link, nodes::kinds::ML, scope, between);
-    if p == 0 {
-        return Inferred::Bad(at);
-    }
-    Inferred::Typed(p + 1, at + 1)
+    let between = (types.words[at] / 256) as usize;
+    lambda_of(types, language, scope, between).ok_or(Fault { at })
 }
 
-// The same of a Scheme variable.
-pub fn scheme_variable(
-    table: &Kinds,
-    all: &[u32],
-    link: &[u16],
-    scope: usize,
-    w: u32,
-    at: usize,
-) -> Formed
-    requires { LinkedAt table.now all.now link.now at }
-    ensures { Variable sc all.now link.now scope w at (formed result) }
+// The place past the argument type, where t means a function type.
+fn argument_end(words: &[u32], t: usize) -> Option<usize>
+    ensures { ArgumentEnd words.now t result }
 {
-    let between = (w / 256) as usize;
-    if lambda_of(table, all, link, nodes::kinds::SCHEME, scope, between) == 0 {
-        return Formed::Bad(at);
-    }
-    Formed::Whole(at + 1)
-}
-
-// The place past the argument type, where t means a function type; else 0.
-fn argument_end(table: &Kinds, all: &[u32], t: usize) -> usize
-    requires { table.now ≡ kinds }
-    ensures { ArgumentEnd all.now t result }
-{
-    if former_at(table, all, t) != nodes::kinds::FUNCTION {
-        return 0;
-    }
-    type_end(table, all, t + 1)
+    let Former::Function = former_at(words, t)? else {
+        return None;
+    };
+    Some(type_end(words, t + 1))
 }
 
 // The element type, where t means a list type.
-fn element(table: &Kinds, all: &[u32], t: usize) -> usize
-    requires { table.now ≡ kinds }
-    ensures { result ≡ element_of all.now t }
+fn element(words: &[u32], t: usize) -> Option<usize>
+    ensures { result ≡ element_of words.now t }
 {
-    if former_at(table, all, t) != nodes::kinds::LIST {
-        return 0;
-    }
-    t + 1
+    let Former::List = former_at(words, t)? else {
+        return None;
+    };
+    Some(t + 1)
 }
 
-// r, where p and q mean one type; else 0.
-fn if_same(table: &Kinds, all: &[u32], link: &[u16], p: usize, q: usize, r: usize) -> usize
-    requires { Linked table.now all.now link.now }
-    ensures { IfSame all.now link.now p q r result }
+// t, where it means N.
+fn number(words: &[u32], t: usize) -> Option<usize>
+    ensures { result ≡ number_of words.now t }
 {
-    if same(table, all, link, p, q) {
-        return r;
-    }
-    0
+    let Former::Numbers = former_at(words, t)? else {
+        return None;
+    };
+    Some(t)
+}
+
+// r, where p and q mean one type.
+fn if_same(types: Types, p: usize, q: usize, r: usize) -> Option<usize>
+    ensures { IfSame types.entry.words.now types.entry.link.now p q r result }
+{
+    types.same(p, q).then_some(r)
 }
 
 // fix of a t.
-fn fix_type(table: &Kinds, all: &[u32], link: &[u16], t: usize) -> usize
-    requires { Linked table.now all.now link.now }
-    ensures { Finds1 FIX all.now link.now t result }
+fn fix_type(types: Types, t: usize) -> Option<usize>
+    ensures { Finds1 FIX types.entry.words.now types.entry.link.now t result }
 {
-    let end = argument_end(table, all, t);
-    if end == 0 {
-        return 0;
-    }
+    let end = argument_end(types.words, t)?;
     let argument = t + 1;
-    let result = codomain(table, all, link, t, end);
-    if_same(table, all, link, argument, result, argument)
+    let result = types.codomain(t, end);
+    if_same(types, argument, result, argument)
 }
 
 // A t applied to a u.
-fn application_type(table: &Kinds, all: &[u32], link: &[u16], t: usize, u: usize) -> usize
-    requires { Linked table.now all.now link.now }
-    ensures { Finds2 APP all.now link.now t u result }
+fn application_type(types: Types, t: usize, u: usize) -> Option<usize>
+    ensures { Finds2 APP types.entry.words.now types.entry.link.now t u result }
 {
-    let end = argument_end(table, all, t);
-    if end == 0 {
-        return 0;
-    }
+    let end = argument_end(types.words, t)?;
     let argument = t + 1;
-    let result = codomain(table, all, link, t, end);
-    if_same(table, all, link, argument, u, result)
+    let result = types.codomain(t, end);
+    if_same(types, argument, u, result)
 }
 
 // cons of a t and a u.
-fn cons_type(table: &Kinds, all: &[u32], link: &[u16], t: usize, u: usize) -> usize
-    requires { Linked table.now all.now link.now }
-    ensures { Finds2 CONS all.now link.now t u result }
+fn cons_type(types: Types, t: usize, u: usize) -> Option<usize>
+    ensures { Finds2 CONS types.entry.words.now types.entry.link.now t u result }
 {
-    let e = element(table, all, u);
-    if e == 0 {
-        return 0;
-    }
-    if_same(table, all, link, e, t, u)
+    let e = element(types.words, u)?;
+    if_same(types, e, t, u)
 }
 
-// The operator of one part at `at`, whose word is w, of a t.
-pub fn result_1(table: &Kinds, all: &[u32], link: &[u16], w: u32, at: usize, t: usize) -> usize
-    requires { Linked table.now all.now link.now }
-    ensures { Result1 all.now link.now w at t result }
+// The operator of one part, which stands at `at`, of a t. Scheme's tests are no operator of ML.
+pub fn result_1(types: Types, operator: Operator1, at: usize, t: usize) -> Option<usize>
+    ensures { Result1 operator types.entry.words.now types.entry.link.now at t result }
 {
-    if w == nodes::words::ML_FIX {
-        return fix_type(table, all, link, t);
+    match operator {
+        Operator1::Fix => fix_type(types, t),
+        Operator1::Hd => element(types.words, t),
+        Operator1::Tl => {
+            element(types.words, t)?;
+            Some(t)
+        }
+        Operator1::Null => {
+            element(types.words, t)?;
+            Some(at)
+        }
+        Operator1::Test => None,
     }
-    let e = element(table, all, t);
-    if e == 0 {
-        return 0;
-    }
-    if w == nodes::words::ML_HD {
-        return e;
-    }
-    if w == nodes::words::ML_TL {
-        return t;
-    }
-    at
 }
 
-// The operator of two parts whose word is w, of a t and a u.
-pub fn result_2(table: &Kinds, all: &[u32], link: &[u16], w: u32, t: usize, u: usize) -> usize
-    requires { Linked table.now all.now link.now }
-    ensures { Result2 all.now link.now w t u result }
+// add, and subtract, of a t and a u.
+fn sum_type(words: &[u32], t: usize, u: usize) -> Option<usize>
+    ensures { result ≡ option_and (number_of words.now u) (number_of words.now t) }
 {
-    if w == nodes::words::ML_APPLICATION {
-        return application_type(table, all, link, t, u);
+    number(words, u)?;
+    number(words, t)
+}
+
+// The operator of two parts of a t and a u.
+pub fn result_2(types: Types, operator: Operator2, t: usize, u: usize) -> Option<usize>
+    ensures { Finds2 (as_op2 operator) types.entry.words.now types.entry.link.now t u result }
+{
+    match operator {
+        Operator2::Apply => application_type(types, t, u),
+        Operator2::Add => sum_type(types.words, t, u),
+        Operator2::Subtract => sum_type(types.words, t, u),
+        Operator2::Cons => cons_type(types, t, u),
     }
-    if w == nodes::words::ML_CONS {
-        return cons_type(table, all, link, t, u);
-    }
-    if former_at(table, all, t) != nodes::kinds::NUMBERS {
-        return 0;
-    }
-    if former_at(table, all, u) != nodes::kinds::NUMBERS {
-        return 0;
-    }
-    t
 }
 
 // if0 of a t, a u and a v.
-pub fn result_3(table: &Kinds, all: &[u32], link: &[u16], t: usize, u: usize, v: usize) -> usize
-    requires { Linked table.now all.now link.now }
-    ensures { Result3 all.now link.now t u v result }
+pub fn result_3(types: Types, t: usize, u: usize, v: usize) -> Option<usize>
+    ensures { Result3 types.entry.words.now types.entry.link.now t u v result }
 {
-    if former_at(table, all, t) != nodes::kinds::NUMBERS {
-        return 0;
-    }
-    if_same(table, all, link, u, v, u)
+    number(types.words, t)?;
+    if_same(types, u, v, u)
 }
 
-// ms, which stands at `at` with its type behind it, of a Scheme term.
-pub fn at_ms(at: usize, one: Formed) -> Inferred
+// ms, which stands at `at` with its type behind it, of a Scheme term. It takes the answer for the term as it is, a fault too: its contract says both
+// cases of the rule.
+pub fn at_ms(at: usize, one: Result<usize, Fault>) -> Result<Typed, Fault>
     requires { at < 4096 }
     ensures { (w ls : List ℕ) → Crossed ml w ls at (formed one) (inferred result) }
 {
-    match one {
-        Formed::Whole(next) => Inferred::Typed(at + 1, next),
-        Formed::Bad(fault) => Inferred::Bad(fault),
-    }
+    let end = one?;
+    Ok(Typed {
+        reference: at + 1,
+        end,
+    })
 }
 
-// sm, which stands at `at` with its type behind it, of an ML term.
-pub fn at_sm(table: &Kinds, all: &[u32], link: &[u16], at: usize, one: Inferred) -> Formed
-    requires { LinkedAt table.now all.now link.now at }
-    ensures { Crossed sc all.now link.now at (inferred one) (formed result) }
+// sm, which stands at `at` with its type behind it, of an ML term. It takes that term's answer as `at_ms` does.
+pub fn at_sm(types: Types, at: usize, one: Result<Typed, Fault>) -> Result<usize, Fault>
+    requires { at < length types.words.now }
+    ensures { Crossed sc types.entry.words.now types.entry.link.now at (inferred one) (formed result) }
 {
-    match one {
-        Inferred::Bad(fault) => Formed::Bad(fault),
-        Inferred::Typed(t, next) => {
-            if same(table, all, link, at + 1, t) {
-                return Formed::Whole(next);
-            }
-            Formed::Bad(at)
-        }
+    let typed = one?;
+    if !types.same(at + 1, typed.reference) {
+        return Err(Fault { at });
     }
+    Ok(typed.end)
 }

@@ -1,1 +1,1 @@
-pub mod OnePart
+pub mod Told

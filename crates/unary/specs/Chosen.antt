@@ -1,28 +1,41 @@
--- What each function is to answer: for the operator of one part that the words start with, what it becomes.
-use Rattle.std.specs.Prelude.{ℕ, ◌+◌, ◌≤◌, Bool, List, ◌≡◌, length, drop}
-use Rattle.calculus.specs.Trees.{Lang, ml, Op1, FIX, Term, op1, fix}
-use Rattle.calculus.specs.Words.{put}
-use Rattle.calculus.specs.Reduction.{contract1}
-use Rattle.writing.specs.Given.{Given}
-use Rattle.writing.specs.Spans.{span}
+-- What each function is to answer: for an operator of one part, by what its part shows, what the node becomes.
+use Rattle.std.specs.Prelude.{ℕ, Bool, cond, List, ◌≡◌}
+use Rattle.calculus.specs.Trees.{ml, sc, Op1, HD, TL, FIX, NULL?, TEST, Term, op1, fix}
+use Rattle.calculus.specs.Words.{words}
+use Rattle.calculus.specs.Kinds.{test_of}
+use Rattle.calculus.specs.Reduction.{form, answer, contract1}
+use Rattle.nodes.specs.declared.kinds.Language.{Language}
+use Rattle.nodes.specs.declared.kinds.Operator1.{Operator1}
+use Rattle.nodes.specs.Table.{as_lang, operator1}
 use Rattle.pieces.specs.declared.became.Became.{Became}
-use Rattle.pieces.specs.Forms.{form_at, is_scheme}
+use Rattle.pieces.specs.declared.values.Value.{Value}
 use Rattle.pieces.specs.Pieces.{Tells}
-use Rattle.unary.specs.Operators.{part}
+use Rattle.pieces.specs.Values.{Shows}
 
--- What is known of a node's first part: its form, and where its words end.
-pub record FirstPart (table ws : List ℕ) (form end : ℕ) : Type 0 where
-  pub given : Given table ws
-  pub form_is : form ≡ form_at (drop 1 ws)
-  pub end_is : end ≡ 1 + span (drop 1 ws) 1
-  pub least : 2 ≤ end
-  pub most : end ≤ length ws
+-- hd.
+pub record OfHead (i : Language) (v : Value) (r : Became) : Type 0 where
+  pub of : (a : Term (as_lang i)) → Shows (as_lang i) v (form a) → Tells r (contract1 HD a)
 
-pub record OfFix (ws : List ℕ) (r : Became) : Type 0 where
-  pub of : (a : Term ml) (k : List ℕ) → ws ≡ put (fix a) k → Tells ws r (contract1 FIX a)
+-- tl.
+pub record OfTail (i : Language) (v : Value) (r : Became) : Type 0 where
+  pub of : (a : Term (as_lang i)) → Shows (as_lang i) v (form a) → Tells r (contract1 TL a)
 
-pub record OfList (ws : List ℕ) (first scheme : Bool) (r : Became) : Type 0 where
-  pub of : (l : Lang) (a : Term l) (k : List ℕ) → drop 1 ws ≡ put a k → scheme ≡ is_scheme l → Tells ws r (contract1 (part first) a)
+-- fix.
+pub record OfFix (ws : List ℕ) (v : Value) (r : Became) : Type 0 where
+  pub of : (a : Term ml) → ws ≡ words (fix a) → Shows ml v (form a) → Tells r (contract1 FIX a)
 
-pub record OfOne (ws : List ℕ) (r : Became) : Type 0 where
-  pub of : (l : Lang) (o : Op1 l) (a : Term l) (k : List ℕ) → ws ≡ put (op1 o a) k → Tells ws r (contract1 o a)
+-- null? of ML.
+pub record OfNull (v : Value) (r : Became) : Type 0 where
+  pub of : (a : Term ml) → Shows ml v (form a) → Tells r (contract1 NULL? a)
+
+-- A test of Scheme, by its number: b says whether it holds. "null? and tests: 0 for yes, 1 for no."
+pub record OfTest (test : ℕ) (v : Value) (b : Bool) : Type 0 where
+  pub of : (a : Term sc) → Shows sc v (form a) → answer (test_of test) (form a) ≡ cond b 0 1
+
+-- What a test becomes.
+pub record Tested (test : ℕ) (v : Value) (r : Became) : Type 0 where
+  pub of : (a : Term sc) → Shows sc v (form a) → Tells r (contract1 (TEST (test_of test)) a)
+
+-- Whichever operator it is.
+pub record OfOne (i : Language) (o : Operator1) (ws : List ℕ) (r : Became) : Type 0 where
+  pub of : (p : Op1 (as_lang i)) (a : Term (as_lang i)) → o ≡ operator1 p → ws ≡ words (op1 p a) → Tells r (contract1 p a)

@@ -2,191 +2,114 @@
 
 #![tactic(auto)]
 
-ghost use Rattle.std.specs.Prelude.{◌≡◌, ◌≤◌, length};
-ghost use Rattle.unary.specs.Operators.{answer_by, operator1, null_by};
-ghost use Rattle.pieces.specs.Pieces.{BecameIn};
-ghost use Rattle.pieces.specs.Parts.{NodeIn};
-ghost use Rattle.unary.specs.Chosen.{FirstPart, OfFix, OfList, OfOne};
+ghost use Rattle.pieces.specs.Pieces.{Few, BecameIn};
+ghost use Rattle.pieces.specs.Values.{Small};
+ghost use Rattle.unary.specs.Chosen.{OfHead, OfTail, OfFix, OfNull, OfTest, Tested, OfOne};
 
-use nodes::kinds::Kinds;
-use nodes::words::ml_wrong;
-use pieces::became::{Became, Piece, amiss};
-use pieces::forms::form_at;
-use writing::spans::skip;
+use nodes::kinds::{Language, Operator1};
+use nodes::words::LIST;
+use pieces::became::{Became, Piece, amiss, number_in};
+use pieces::codes::Wrong;
+use pieces::values::{Value, value_of};
 
-const HD: u64 = 0;
-
-const FIX: u64 = 2;
-
-const NULL: u64 = 3;
-
-const TEST: u64 = 4;
-
-// The operator, by its word. 1 is tl.
-fn operator(w: u32) -> u64
-    ensures { result ≡ operator1 w }
+// hd. The wrong that hd of nil becomes has, in ML, the type of its elements.
+fn head(language: Language, list: Value) -> Became
+    requires { Small list }
+    ensures placed { BecameIn result }
+    ensures told { OfHead language list.entry result }
 {
-    if w == nodes::words::ML_HD {
-        return HD;
+    match list {
+        Value::Cons(head, _) => Became::Becomes(Piece::Part(head)),
+        Value::Nil(element) => Became::Becomes(Piece::Led(Wrong::OfNil.word(language), element)),
+        _ => amiss(language, Wrong::NoList),
     }
-    if w == nodes::words::SCHEME_HD {
-        return HD;
-    }
-    if w == nodes::words::ML_FIX {
-        return FIX;
-    }
-    if w == nodes::words::ML_NULL {
-        return NULL;
-    }
-    if w % 256 == nodes::words::SCHEME_TEST {
-        return TEST;
-    }
-    1
 }
 
-// "null? and tests: 0 for yes, 1 for no."
-fn answer(test: u32, form: u64) -> u32
-    ensures value { result ≡ answer_by test form }
-    ensures small { result ≤ 1 }
+// tl. The wrong that tl of nil becomes has, in ML, the type of the list.
+fn tail(language: Language, list: Value) -> Became
+    requires { Small list }
+    ensures placed { BecameIn result }
+    ensures told { OfTail language list.entry result }
 {
-    if test == 0 {
-        if form == pieces::forms::FUNCTION {
-            return 0;
-        }
-        return 1;
+    match list {
+        Value::Cons(_, tail) => Became::Becomes(Piece::Part(tail)),
+        Value::Nil(element) => match language {
+            Language::Ml => Became::Becomes(Piece::Led2(
+                Wrong::OfNil.word(language),
+                LIST,
+                element,
+            )),
+            Language::Scheme => amiss(language, Wrong::OfNil),
+        },
+        _ => amiss(language, Wrong::NoList),
     }
-    if test == 1 {
-        if form == pieces::forms::NIL {
-            return 0;
-        }
-        if form == pieces::forms::CONS {
-            return 0;
-        }
-        return 1;
-    }
-    if test == 2 {
-        if form == pieces::forms::NIL {
-            return 0;
-        }
-        return 1;
-    }
-    if form == pieces::forms::NUMBER {
-        return 0;
-    }
-    1
 }
 
-// null? of ML.
-fn of_null(form: u64) -> Became
-    ensures { result ≡ null_by form }
+// fix: the lambda's body with the whole node for the variable.
+fn of_fix<'a>(node: &'a [u32], value: Value<'a>) -> Became<'a>
+    requires { Few node.now × Small value }
+    ensures placed { BecameIn result }
+    ensures told { OfFix node.now value.entry result }
 {
-    if form == pieces::forms::NIL {
-        return Became::Becomes(Piece::Number {
-            kind: nodes::words::ML_NUMBER,
-            number: 0,
-        });
+    match value {
+        Value::Lambda(body) => Became::Becomes(Piece::Substituted {
+            language: Language::Ml,
+            body,
+            value: node,
+        }),
+        _ => Became::Nothing,
     }
-    if form == pieces::forms::CONS {
-        return Became::Becomes(Piece::Number {
-            kind: nodes::words::ML_NUMBER,
-            number: 1,
-        });
-    }
-    Became::Nothing
 }
 
-// fix of a value, whose form is told and whose words end at `end`.
-fn of_fix(table: &Kinds, words: &[u32], form: u64, end: usize) -> Became
-    requires { FirstPart table.now words.now form end }
-    ensures placed { BecameIn (length words.now) result }
-    ensures told { OfFix words.now result }
+// null? of ML: 0 for yes, 1 for no.
+fn of_null(list: Value) -> Became<'static>
+    ensures placed { BecameIn result }
+    ensures told { OfNull list.entry result }
 {
-    if form != pieces::forms::FUNCTION {
+    match list {
+        Value::Nil(_) => number_in(Language::Ml, 0),
+        Value::Cons(_, _) => number_in(Language::Ml, 1),
+        _ => Became::Nothing,
+    }
+}
+
+// Whether a test of Scheme holds of a value, by the test's number: of a function 0, of a list 1, of nil 2, of a number 3.
+// The number is the word's operand, as the calculus's test_of takes it: an operand over 3 is a number's test too.
+fn holds(test: u32, value: Value) -> bool
+    ensures { OfTest test value.entry result }
+{
+    match test {
+        0 => matches!(value, Value::Lambda(_)),
+        1 => matches!(value, Value::Nil(_) | Value::Cons(_, _)),
+        2 => matches!(value, Value::Nil(_)),
+        _ => matches!(value, Value::Number(_)),
+    }
+}
+
+// A test of Scheme becomes 0 for yes, 1 for no.
+fn of_test(test: u32, value: Value) -> Became<'static>
+    ensures placed { BecameIn result }
+    ensures told { Tested test value.entry result }
+{
+    let fails = !holds(test, value);
+    number_in(Language::Scheme, u32::from(fails))
+}
+
+// An operator of one part.
+pub fn contract_1(language: Language, operator: Operator1, node: &[u32]) -> Became<'_>
+    requires { Few node.now }
+    ensures placed { BecameIn result }
+    ensures told { OfOne language operator node.now result }
+{
+    let [word, part @ ..] = node else {
         return Became::Nothing;
+    };
+    let value = value_of(language, part);
+    match operator {
+        Operator1::Hd => head(language, value),
+        Operator1::Tl => tail(language, value),
+        Operator1::Fix => of_fix(node, value),
+        Operator1::Null => of_null(value),
+        Operator1::Test => of_test(word / 256, value),
     }
-    let body = 2 + skip(table, &words[2..], 1);
-    Became::Becomes(Piece::Substituted {
-        variable: nodes::words::ML_VARIABLE,
-        body: body,
-        from: 0,
-        to: end,
-    })
-}
-
-// hd, or tl.
-fn of_list(table: &Kinds, words: &[u32], first: bool, scheme: bool, form: u64, end: usize) -> Became
-    requires { FirstPart table.now words.now form end }
-    ensures placed { BecameIn (length words.now) result }
-    ensures told { OfList words.now first scheme result }
-{
-    if form == pieces::forms::CONS {
-        let middle = 2 + skip(table, &words[2..], 1);
-        if end < middle {
-            return Became::Nothing;
-        }
-        if first {
-            return Became::Becomes(Piece::Part {
-                from: 2,
-                to: middle,
-            });
-        }
-        return Became::Becomes(Piece::Part {
-            from: middle,
-            to: end,
-        });
-    }
-    if form != pieces::forms::NIL {
-        return amiss(scheme, pieces::codes::NO_LIST);
-    }
-    if scheme {
-        return amiss(scheme, pieces::codes::OF_NIL);
-    }
-    let wrong = ml_wrong(pieces::codes::OF_NIL);
-    if first {
-        return Became::Becomes(Piece::Led {
-            word: wrong,
-            from: 2,
-            to: end,
-        });
-    }
-    Became::Becomes(Piece::Led2 {
-        word: wrong,
-        next: nodes::words::LIST,
-        from: 2,
-        to: end,
-    })
-}
-
-// The operators of one part. The node's words end at `end`.
-pub fn contract_1(table: &Kinds, words: &[u32], end: usize) -> Became
-    requires { NodeIn 1 table.now words.now end }
-    ensures placed { BecameIn (length words.now) result }
-    ensures told { OfOne words.now result }
-{
-    if end < 2 {
-        return Became::Nothing;
-    }
-    let form = form_at(table, &words[1..]);
-    let w = words[0];
-    let op = operator(w);
-    if op == FIX {
-        return of_fix(table, words, form, end);
-    }
-    if op == NULL {
-        return of_null(form);
-    }
-    if op == TEST {
-        return Became::Becomes(Piece::Number {
-            kind: nodes::words::SCHEME_NUMBER,
-            number: answer(w / 256, form),
-        });
-    }
-    of_list(
-        table,
-        words,
-        op == HD,
-        nodes::words::FIRST_SCHEME <= w,
-        form,
-        end,
-    )
 }

@@ -1,16 +1,11 @@
--- A writer that is handed back: the same borrow, at another list. And the next term, stretch by stretch.
-use Rattle.std.specs.Prelude.{◌≡◌, ℕ, ◌≤◌, List, length}
-use denote.Ref.{at_last}
+-- The next term, stretch by stretch.
+use Rattle.std.specs.Prelude.{ℕ, ◌-◌, ◌≤◌, List, length, take, drop}
 use Rattle.writing.specs.Given.{most_words, most_place}
 use Rattle.writing.specs.Wrote.{Wrote}
-use Rattle.writing.specs.Stretches.{stretch}
-use Rattle.writer.specs.declared.Writer.{Writer}
 
--- w with the words of src from a to e after what it has, and the place after them.
-pub record Put (w : Writer) (src : List ℕ) (a e : ℕ) (r : Writer) : Type 0 where
-  pub same : r.buf ≡ at_last w.buf r.buf.now
-  pub kept : length r.buf.now ≡ length w.buf.now
-  pub wrote : Wrote w.buf.now w.at (stretch a e src) r.at r.buf.now
+-- The words from a place to another.
+abbrev pub stretch : ℕ → ℕ → List ℕ → List ℕ
+stretch a e ws = take (e - a) (drop a ws)
 
 -- What is told of the next term: the node's words stand in src from p to e, and what it becomes is there from p up to a.
 pub record Gap (src : List ℕ) (p a e : ℕ) : Type 0 where

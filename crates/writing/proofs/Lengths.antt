@@ -1,17 +1,11 @@
 -- Laws of spans of any words: what is due may be walked in parts, and a node's parts stand behind its word. Assumes nothing.
-use Prim.Native.Nat.{ℕ, zero, suc, ◌+◌, ◌%◌, ◌≤◌}
-use mathlib.Core.Bool.{cond}
+use Prim.Native.Nat.{ℕ, zero, suc, ◌+◌, ◌≤◌}
 use mathlib.Core.List.{List, [], ◌∷◌}
 use mathlib.Core.Path.{◌≡◌, refl, sym, ap, ◌∙◌}
-use lib.Dec.{eqb}
 use lib.ListN.{length, get_or, drop}
 use lib.Seq.{drop-drop}
 use native.Mathlib.Omega.{arith}
 use Rattle.calculus.specs.Scope.{part_count}
-use Rattle.nodes.specs.Table.{row_of}
-use Rattle.nodes.specs.Walks.{sorts_of}
-use Rattle.nodes.proofs.Table.{by_rows}
-use Rattle.nodes.proofs.Lambdas.{part_count_lem}
 use Rattle.writing.specs.Spans.{span}
 
 pub span_within : (ws : List ℕ) (due : ℕ) → span ws due ≤ length ws
@@ -48,16 +42,3 @@ pub span_parts : (ws : List ℕ) (n : ℕ) → 1 ≤ length ws → part_count (g
 unfolding span
 span_parts [] n h e = absurd (omega (arith, h))
 span_parts (w ∷ ws) n h e = let z : 0 + part_count w ≡ n = omega (arith, e) in omega (arith, ap (span ws) z)
-
--- How many parts a kind has, by its shape: numbers, operators of one part and of two, if0, and ms and sm.
-abbrev pub parts_by : ℕ → ℕ → ℕ
-parts_by shape n = cond (eqb shape 2) 0 (cond (eqb shape 4) 1 (cond (eqb shape 5) 2 (cond (eqb shape 6) 3 (cond (eqb shape 9) 2 n))))
-
-parts_by_lem : (k : ℕ) → length (sorts_of (row_of k).parts) ≡ parts_by (row_of k).shape (length (sorts_of (row_of k).parts))
-unfolding row_of sorts_of
-parts_by_lem = by_rows (λ r. length (sorts_of r.parts)) (λ r. parts_by r.shape (length (sorts_of r.parts))) refl refl
-
-pub shape_parts : (w shape : ℕ) → (row_of (w % 256)).shape ≡ shape → (n : ℕ) → parts_by shape (part_count w) ≡ n → part_count w ≡ n
-shape_parts w shape e n h =
-    part_count_lem w ∙ parts_by_lem (w % 256) ∙ ap (λ (m : ℕ). parts_by (row_of (w % 256)).shape m) (sym (part_count_lem w))
-    ∙ ap (λ (s : ℕ). parts_by s (part_count w)) e ∙ h

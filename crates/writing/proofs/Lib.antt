@@ -1,5 +1,4 @@
 pub mod Stores
-pub mod Clearing
 pub mod Trees
 pub mod Measures
 pub mod Lengths

@@ -1,9 +1,7 @@
 -- Substitution at a node, by its first word: a variable's word that is the one replaced, or a word that stays. Assumes nothing.
 use Prim.Native.Nat.{ℕ, suc, ◌%◌}
-use mathlib.Core.Bool.{cond}
 use mathlib.Core.List.{List, ◌∷◌}
 use mathlib.Core.Path.{◌≡◌, refl, sym, ap, ◌∙◌}
-use lib.Dec.{eqb}
 use borrow.Author.Tests.{eq-eqb, ne_eqb}
 use native.Mathlib.Omega.{arith}
 use Rattle.calculus.specs.Trees.{N, L, list, ◌to◌, Lang, ml, sc, is_fun, is_list, is_null, is_num, HD, TL, FIX, NULL?, TEST, APP, ADD}
@@ -13,24 +11,33 @@ use Rattle.calculus.specs.Kinds.{Sort, type, term, Tree, put_tree, put_trees, si
 use Rattle.calculus.specs.Reduction.{substitute}
 use Rattle.calculus.proofs.Views.{seen, view_type, view_ml, view_sc, view}
 use Rattle.calculus.proofs.Substitution.{substitute_word}
-use Rattle.nodes.specs.Table.{shape_number, row_of}
+use Rattle.std.proofs.Common.{Option, None, Some}
+use Rattle.nodes.specs.declared.kinds.Shape.{Shape}
+use Rattle.nodes.specs.declared.kinds.Shape.TheVariants as s
+use Rattle.nodes.specs.Table.{shape, shape_of, row_of}
+use Rattle.nodes.proofs.Lambdas.{at_shape}
 use Rattle.writing.specs.Substituted.{in_tree, in_trees}
 use Rattle.writing.proofs.Trees.{head_of, shape_is}
 
 -- How many lambdas are between inside a node, where d are outside.
 abbrev pub inside : (s : Sort) → Tree s → ℕ → ℕ
-inside s t d = cond (eqb (shape_number s t) 3) (suc d) d
+inside s t d = at_shape d (suc d) d (shape s t)
 
-variable_shape : (m : Lang) (d : ℕ) → (row_of (word (by m 16 32) d % 256)).shape ≡ 1
+-- 1 of a variable, and 0 of any other shape.
+abbrev variable_or : Option Shape → ℕ
+variable_or None = 0
+variable_or (Some x) = at_shape 1 0 0 x
+
+variable_shape : (m : Lang) (d : ℕ) → shape_of (word (by m 16 32) d % 256) ≡ Some s.Variable
 unfolding row_of
-variable_shape ml d = let e : word 16 d % 256 ≡ 16 = omega arith in ap (λ (k : ℕ). (row_of k).shape) e
-variable_shape sc d = let e : word 32 d % 256 ≡ 32 = omega arith in ap (λ (k : ℕ). (row_of k).shape) e
+variable_shape ml d = let e : word 16 d % 256 ≡ 16 = omega arith in ap shape_of e
+variable_shape sc d = let e : word 32 d % 256 ≡ 32 = omega arith in ap shape_of e
 
 module _ {m : Lang} (v : Term m) (d : ℕ) where
   at_variable : (l : Lang) (i : ℕ) (k : List ℕ) → word (by l 16 32) i ≡ word (by m 16 32) d → put (substitute v d (var {l = l} i)) k ≡ put v k
   at_variable l i k e = substitute_word m l v d i k ∙ rw (eq-eqb _ _ e)
 
-  hit_shape : (s : Sort) (t : Tree s) → shape_number s t ≡ 1 → head_of s t ≡ word (by m 16 32) d → (k : List ℕ)
+  hit_shape : (s : Sort) (t : Tree s) → variable_or (Some (shape s t)) ≡ 1 → head_of s t ≡ word (by m 16 32) d → (k : List ℕ)
       → (put_tree s (in_tree v d s t) k ≡ put v k) × (size_tree s t ≡ 1)
   unfolding size view view_ml view_sc seen
   hit_shape type N h e k = absurd (omega (arith, h))
@@ -52,7 +59,9 @@ module _ {m : Lang} (v : Term m) (d : ℕ) where
   -- The word replaced: the node is that variable.
   pub hit : (s : Sort) (t : Tree s) → head_of s t ≡ word (by m 16 32) d → (k : List ℕ)
       → (put_tree s (in_tree v d s t) k ≡ put v k) × (size_tree s t ≡ 1)
-  hit s t e k = hit_shape s t (sym (shape_is s t) ∙ ap (λ (w : ℕ). (row_of (w % 256)).shape) e ∙ variable_shape m d) e k
+  hit s t e k =
+      let is = sym (shape_is s t) ∙ ap (λ (w : ℕ). shape_of (w % 256)) e ∙ variable_shape m d in
+      hit_shape s t (ap variable_or is) e k
 
   other_variable : (l : Lang) (i : ℕ) (k : List ℕ) → (word (by l 16 32) i ≡ word (by m 16 32) d → ⊥)
       → put (substitute v d (var {l = l} i)) k ≡ word (by l 16 32) i ∷ k

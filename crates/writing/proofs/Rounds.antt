@@ -1,92 +1,92 @@
 -- A loop that substitutes: a turn for each word, and its two ends. Assumes nothing.
-use Prim.Native.Nat.{ℕ, ◌+◌, ◌-◌, ◌%◌, ◌≤◌, ◌<◌}
+use Prim.Native.Nat.{ℕ, suc, ◌+◌, ◌-◌, ◌*◌, ◌%◌, ◌≤◌, ◌<◌}
 use mathlib.Core.List.{List, [], ◌∷◌}
-use mathlib.Core.Path.{◌≡◌, refl, sym, ap, ◌∙◌, subst}
-use native.Mathlib.Nat.{add-zero}
+use mathlib.Core.Path.{◌≡◌, refl, ap, ◌∙◌, subst}
 use native.Mathlib.Omega.{arith}
-use lib.ListN.{length, get_or, take, drop, length-drop}
-use lib.Seq.{get_or-drop, drop-drop}
-use borrow.Author.Rules.{part_to_end}
+use lib.ListN.{length, drop, length-drop}
+use Rattle.std.proofs.Common.{Some}
 use Rattle.calculus.specs.Scope.{part_count}
-use Rattle.nodes.specs.Table.{row_of}
-use Rattle.writing.specs.Wrote.{Wrote}
+use Rattle.nodes.specs.declared.kinds.Shape.TheVariants as shapes
+use Rattle.nodes.specs.Table.{shape_of}
+use Rattle.writing.specs.declared.Writer.{Writer}
+use Rattle.writing.specs.Given.{most_words}
+use Rattle.writing.specs.Puts.{Puts}
 use Rattle.writing.specs.Substituted.{Substituted}
 use Rattle.writing.proofs.Substituting.{nothing_due, too_few, replaced, passed, entered}
 
--- i words are read, `left` nodes are due, k is the place after what is written, and y is the variable's word there: with the rest substituted from
--- there on, the whole is.
-pub record Begun (ws : List ℕ) (at due x : ℕ) (value b : List ℕ) (n i left k y : ℕ) (b₁ : List ℕ) : Type 0 where
-  pub whole : (read k' : ℕ) (b' : List ℕ) → Substituted (drop i ws) (at + i) left y value b₁ k read k' b'
-      → Substituted ws at due x value b n read k' b'
+-- The words `rest` are left, `left` nodes are due, and y is the variable's word there: with the rest substituted from there on, the whole is. No
+-- word was written for more than most_words, and no lambda was entered by more than one.
+pub record Begun (ws : List ℕ) (due x : ℕ) (value : List ℕ) (w : Writer ℕ) (rest : List ℕ) (left y : ℕ) (q : Writer ℕ) : Type 0 where
+  pub within : length rest ≤ length ws
+  pub least : w.at ≤ q.at
+  pub most : q.at ≤ w.at + most_words * (length ws - length rest)
+  pub deeper : y ≤ x + 256 * (length ws - length rest)
+  pub same : q.buffer.ghost_name ≡ w.buffer.ghost_name
+  pub whole : (n read : ℕ) (r : Writer ℕ) → n ≡ length ws - length rest + read → Substituted rest left y value q read r
+      → Substituted ws due x value w n r
 
-pub begins : (ws : List ℕ) (at due x : ℕ) (value b : List ℕ) (n : ℕ) → Begun ws at due x value b n 0 due n x b
-begins ws at due x value b n =
-    record { whole = λ read k' b' s. subst (λ (p : ℕ). Substituted ws p due x value b n read k' b') (add-zero at) s }
+pub begins : (ws : List ℕ) (due x : ℕ) (value : List ℕ) (w : Writer ℕ) → Begun ws due x value w ws due x w
+begins ws due x value w =
+    record {
+      within = omega arith;
+      least = omega arith;
+      most = omega arith;
+      deeper = omega arith;
+      same = refl;
+      whole = λ n read r e s. let z : read ≡ n = omega (arith, e) in subst (λ (k : ℕ). Substituted ws due x value w k r) z s;
+    }
 
-module _ {ws : List ℕ} {at due x : ℕ} {value b : List ℕ} {n i left k y : ℕ} {b₁ : List ℕ}
-    (begun : Begun ws at due x value b n i left k y b₁) where
-  pub ends : left ≡ 0 → Substituted ws at due x value b n (at + i) k b₁
-  ends z = begun.whole (at + i) k b₁ (nothing_due (drop i ws) (at + i) left y value b₁ k z)
+module _ {ws : List ℕ} {due x : ℕ} {value : List ℕ} {w : Writer ℕ} {rest : List ℕ} {left y : ℕ} {q : Writer ℕ}
+    (begun : Begun ws due x value w rest left y q) where
+  pub ends : left ≡ 0 → Substituted ws due x value w (length ws - length rest) q
+  ends z = begun.whole _ 0 q (omega arith) (nothing_due rest left y value q z)
 
-  pub breaks : length ws - i < left → Substituted ws at due x value b n (at + i) k b₁
-  breaks h = begun.whole (at + i) k b₁ (too_few (drop i ws) (at + i) left y value b₁ k (omega (arith, length-drop i ws)))
+  pub breaks : length rest < left → Substituted ws due x value w (length ws - length rest) q
+  breaks h = begun.whole _ 0 q (omega arith) (too_few rest left y value q h)
 
-  first_is : get_or (drop i ws) 0 0 ≡ get_or ws i 0
-  first_is = get_or-drop i ws 0 0 ∙ ap (λ (j : ℕ). get_or ws j 0) (add-zero i)
-
-  next_are : drop (i + 1) ws ≡ drop 1 (drop i ws)
-  next_are = sym (drop-drop 1 i ws)
-
-  next_place : at + (i + 1) ≡ at + i + 1
-  next_place = omega arith
-
-  module _ (some : left ≡ 0 → ⊥) where
-    pub replaces : (k₁ : ℕ) (b₂ : List ℕ) → get_or ws i 0 ≡ y → Wrote b₁ k value k₁ b₂ → Begun ws at due x value b n (i + 1) (left - 1) k₁ y b₂
-    replaces k₁ b₂ g w =
+  -- One word is read, and others are left.
+  module _ (first : ℕ) (us : List ℕ) (split : rest ≡ first ∷ us) (some : left ≡ 0 → ⊥) where
+    turn : (us₁ : List ℕ) (left₁ y₁ gone : ℕ) (q₁ : Writer ℕ) → length us₁ + gone ≡ length us → q.at ≤ q₁.at → q₁.at ≤ q.at + most_words * suc gone
+        → y₁ ≤ y + 256 → q₁.buffer.ghost_name ≡ q.buffer.ghost_name
+        → ((n read : ℕ) (r : Writer ℕ) → n ≡ suc (gone + read) → Substituted us₁ left₁ y₁ value q₁ read r
+        → Substituted (first ∷ us) left y value q n r)
+        → Begun ws due x value w us₁ left₁ y₁ q₁
+    turn us₁ left₁ y₁ gone q₁ l low high deeper same h =
+        let one = ap length split in
         record {
-          whole = λ read k' b' s. begun.whole read k' b'
-              (replaced _ _ _ _ _ _ _ some _ _ next_are next_place k₁ read k' b₂ b' (first_is ∙ g) w s);
+          within = omega (arith, begun.within, one);
+          least = omega (arith, begun.least, low);
+          most = omega (arith, begun.most, begun.within, high, one);
+          deeper = omega (arith, begun.deeper, begun.within, deeper, one);
+          same = same ∙ begun.same;
+          whole = λ n read r e s. begun.whole n (suc (gone + read)) r (omega (arith, e, begun.within, one)) (rw split (h _ read r refl s));
         }
 
-    module _ (k₁ : ℕ) (b₂ : List ℕ) (count shape : ℕ) (g : get_or ws i 0 ≡ y → ⊥) (w : Wrote b₁ k (get_or ws i 0 ∷ []) k₁ b₂)
-        (count_eq : count ≡ part_count (get_or ws i 0)) (shape_eq : shape ≡ (row_of (get_or ws i 0 % 256)).shape) where
-      other : get_or (drop i ws) 0 0 ≡ y → ⊥
-      other e = g (sym first_is ∙ e)
+    pub replaces : (q₁ : Writer ℕ) → length value ≤ most_words → first ≡ y → Puts q value q₁ → Begun ws due x value w us (left - 1) y q₁
+    replaces q₁ few g p =
+        turn us (left - 1) y 0 q₁ (omega arith) (omega (arith, p.wrote.place)) (omega (arith, p.wrote.place)) (omega arith) p.same
+        (λ n read r e s. replaced first us left y value q some q₁ r read n (omega (arith, e)) g p s)
 
-      written : Wrote b₁ k (get_or (drop i ws) 0 0 ∷ []) k₁ b₂
-      written = rw first_is w
+    module _ (q₁ : Writer ℕ) (count : ℕ) (g : first ≡ y → ⊥) (p : Puts q (first ∷ []) q₁) (count_eq : count ≡ part_count first) where
+      one_put : q₁.at ≡ q.at + 1
+      one_put = p.wrote.place
 
-      counted : count ≡ part_count (get_or (drop i ws) 0 0)
-      counted = count_eq ∙ ap part_count (sym first_is)
-
-      shaped : shape ≡ (row_of (get_or (drop i ws) 0 0 % 256)).shape
-      shaped = shape_eq ∙ ap (λ (j : ℕ). (row_of (j % 256)).shape) (sym first_is)
-
-      pub passes : (shape ≡ 3 → ⊥) → Begun ws at due x value b n (i + 1) (left - 1 + count) k₁ y b₂
+      pub passes : (shape_of (first % 256) ≡ Some shapes.Lambda → ⊥) → Begun ws due x value w us (left - 1 + count) y q₁
       passes h =
-          record {
-            whole = λ read k' b' s. begun.whole read k' b'
-                (passed _ _ _ _ _ _ _ some _ _ next_are next_place k₁ b₂ count shape other written counted shaped read k' b' h s);
-          }
+          turn us (left - 1 + count) y 0 q₁ (omega arith) (omega (arith, one_put)) (omega (arith, one_put)) (omega arith) p.same
+          (λ n read r e s. passed first us left y value q some q₁ count g p count_eq r read n (omega (arith, e)) h s)
 
-      pub enters : (r₁ k₂ : ℕ) (b₃ : List ℕ) → shape ≡ 3 → at + i ≤ r₁
-          → Substituted (take (length ws - (i + 1)) (drop (i + 1) ws)) (at + (i + 1)) count (y + 256) value b₂ k₁ r₁ k₂ b₃
-          → Begun ws at due x value b n (r₁ - at) (left - 1) k₂ y b₃
-      enters r₁ k₂ b₃ h r first =
-          let place : at + (r₁ - at) ≡ r₁ = omega arith in
-          let same : r₁ - at ≡ i + (r₁ - (at + i)) = omega arith in
-          let rest = ap (λ (j : ℕ). drop j ws) same ∙ sym (drop-drop (r₁ - (at + i)) i ws) in
-          record {
-            whole = λ read k' b' s. begun.whole read k' b'
-                (entered _ _ _ _ _ _ _ some _ _ (part_to_end ws (i + 1) ∙ next_are) next_place k₁ b₂ count shape other written counted shaped
-                r₁ k₂ read k' b₃ b' _ h rest first (rw place at s));
-          }
+      pub enters : (r₁ : Writer ℕ) (read₁ : ℕ) (us₁ : List ℕ) → us₁ ≡ drop read₁ us → shape_of (first % 256) ≡ Some shapes.Lambda
+          → read₁ ≤ length us → (q₁.at ≤ r₁.at) × (r₁.at ≤ q₁.at + most_words * read₁) → r₁.buffer.ghost_name ≡ q₁.buffer.ghost_name
+          → Substituted us count (y + 256) value q₁ read₁ r₁ → Begun ws due x value w us₁ (left - 1) y r₁
+      enters r₁ read₁ us₁ d h le bound same part =
+          turn us₁ (left - 1) y read₁ r₁ (omega (arith, ap length d, length-drop read₁ us)) (omega (arith, one_put, bound))
+          (omega (arith, one_put, bound)) (omega arith) (same ∙ p.same)
+          (λ n read r e s. entered first us left y value q some q₁ count g p count_eq r₁ r read₁ read n us₁ e h d part s)
 
       -- The lambda is all that is due: its parts are the rest, and nothing is due after them.
-      pub descends : shape ≡ 3 → left - 1 ≡ 0 → Begun ws at due x value b n (i + 1) count k₁ (y + 256) b₂
+      pub descends : shape_of (first % 256) ≡ Some shapes.Lambda → left - 1 ≡ 0 → Begun ws due x value w us count (y + 256) q₁
       descends h last =
-          record {
-            whole = λ read k' b' s. begun.whole read k' b'
-                (entered _ _ _ _ _ _ _ some _ _ next_are next_place k₁ b₂ count shape other written counted shaped
-                read k' read k' b' b' _ h refl s (nothing_due _ read (left - 1) y value b' k' last));
-          }
+          turn us count (y + 256) 0 q₁ (omega arith) (omega (arith, one_put)) (omega (arith, one_put)) (omega arith) p.same
+          (λ n read r e s. entered first us left y value q some q₁ count g p count_eq r r read 0 n (drop read us) (omega (arith, e)) h refl s
+          (nothing_due (drop read us) (left - 1) y value r last))

@@ -9,7 +9,8 @@ use Rattle.calculus.specs.Verdicts.{found}
 use Rattle.calculus.specs.Scope.{part_count}
 use Rattle.calculus.specs.Kinds.{Sort, Tree, put_tree, Row, table, row_in}
 use Rattle.calculus.proofs.Views.{view, kind_of, sort_of_lem}
-use Rattle.nodes.specs.Table.{shape_number, row_of}
+use Rattle.std.proofs.Common.{Some}
+use Rattle.nodes.specs.Table.{shape, shape_of}
 use Rattle.nodes.proofs.Shapes.{shape_first}
 
 -- A tree's first word.
@@ -26,6 +27,6 @@ count_is s t =
     ∙ ap (λ (k : ℕ). found (row_in (table s) k) 0 (λ r. length r.parts)) (kind_of v)
     ∙ ap (λ (o : Option (Row s)). found o 0 (λ r. length r.parts)) v.listed
 
--- The row's shape is the tree's.
-pub shape_is : (s : Sort) (t : Tree s) → (row_of (head_of s t % 256)).shape ≡ shape_number s t
-shape_is s t = sym (ap (λ (ws : List ℕ). (row_of (get_or ws 0 0 % 256)).shape) ((view s t).spelt [])) ∙ shape_first s t []
+-- The kind's shape is the tree's.
+pub shape_is : (s : Sort) (t : Tree s) → shape_of (head_of s t % 256) ≡ Some (shape s t)
+shape_is s t = sym (ap (λ (ws : List ℕ). shape_of (get_or ws 0 0 % 256)) ((view s t).spelt [])) ∙ shape_first s t []

@@ -1,6 +1,5 @@
 -- What contracts on words take as given, and the bounds that keep every place within 64 bits: each has its reason here, once.
-use Rattle.std.specs.Prelude.{ℕ, ◌≤◌, List, ◌≡◌, length}
-use Rattle.nodes.specs.Table.{kinds}
+use Rattle.std.specs.Prelude.{ℕ}
 
 -- The words of a term, 2^20. The terms of a run have at most 16,384 words, its capacity: the words that a next term wants may be their square
 -- (calculus, proofs/Bounds.antt), but it is no term of the run unless it fits. Any number from 16,384 on would do; this one leaves room for a
@@ -27,8 +26,3 @@ half_count = 2305843009213693952
 -- A variable's word inside lambdas, 2^32 less 256: the word of one lambda more is a word too.
 abbrev pub most_variable : ℕ
 most_variable = 4294967040
-
--- The table is that of the kinds, and the words are not too many.
-pub record Given (table words : List ℕ) : Type 0 where
-  pub table_is : table ≡ kinds
-  pub few : length words ≤ most_words

@@ -1,5 +1,5 @@
 pub mod Given
 pub mod Wrote
+pub mod Puts
 pub mod Spans
 pub mod Substituted
-pub mod Stretches

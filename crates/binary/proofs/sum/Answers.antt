@@ -1,18 +1,14 @@
 -- `binary::sum` meets its contract. Assumes nothing.
-use borrow.Author.Tests.{le-leb, lt-leb}
-use Prim.Native.Nat.{◌+◌}
-use mathlib.Core.Path.{◌∙◌}
+use mathlib.Core.Path.{refl}
+use Rattle.binary.proofs.Told.{sum_within, over_in_ml, over_in_scheme}
 use Rattle.binary.proofs.sum.Goals as goal
 
-pub returns-then-a-b-le-LARGEST : goal.returns-then-a-b-le-LARGEST
-returns-then-a-b-le-LARGEST c = let a = c.args in c.number_in.ensures ∙ rw (le-leb (a.a + a.b) 16777215 c.if-a-b-le-LARGEST.true)
+pub returns-then-a-b-le-LARGEST-clause-told : goal.returns-then-a-b-le-LARGEST-clause-told
+returns-then-a-b-le-LARGEST-clause-told c = sum_within c.if-a-b-le-LARGEST.true c.number_in.ensures.told
 
-pub returns-then-scheme : goal.returns-then-scheme
-returns-then-scheme c =
-    let a = c.args in
-    c.amiss.ensures ∙ rw (lt-leb (a.a + a.b) 16777215 c.if-a-b-le-LARGEST.false, c.if-scheme.true)
+pub returns-in-Ml-clause-told : goal.returns-in-Ml-clause-told
+returns-in-Ml-clause-told c = rw (c.word.ensures, c.in-Ml.is) (over_in_ml _ refl c.if-a-b-le-LARGEST.false)
 
-pub returns : goal.returns
-returns c =
-    let a = c.args in
-    rw (lt-leb (a.a + a.b) 16777215 c.if-a-b-le-LARGEST.false, c.if-scheme.false, c.ml_wrong.ensures)
+pub returns-in-Scheme-clause-told : goal.returns-in-Scheme-clause-told
+returns-in-Scheme-clause-told c =
+    rw c.in-Scheme.is (over_in_scheme (rw c.in-Scheme.is at c.amiss.ensures.told) c.if-a-b-le-LARGEST.false)

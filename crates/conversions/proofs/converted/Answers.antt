@@ -1,147 +1,31 @@
 -- `conversions::converted` meets its contract. Assumes nothing.
-use mathlib.Core.Path.{◌≡◌, sym}
-use Prim.Native.Nat.{◌+◌, ◌≤◌}
-use lib.ListN.{length, drop}
-use lib.Seq.{get_or-drop}
-use native.Mathlib.Omega.{arith}
-use Rattle.nodes.proofs.Ways.{part_length}
-use Rattle.writing.specs.Spans.{span}
-use Rattle.writing.proofs.Lengths.{span_next}
-use Rattle.conversions.specs.Chosen.{ValueAt}
-use Rattle.pieces.proofs.Parts.{rest_span, rest_form}
-use Rattle.conversions.proofs.CrossingFunctions.{at_N, at_L, at_list_lem, at_function_lem, boundary_none, boundary_no_value}
+use mathlib.Core.Path.{ap, ◌∙◌}
+use borrow.Author.Rules.{part_to_end}
+use Rattle.std.proofs.Common.{Some}
+use Rattle.conversions.proofs.ByType.{at_N, at_L, at_list_lem, at_to, at_unknown, at_other, at_none}
 use Rattle.conversions.proofs.converted.Goals as goal
 
-pub returns-then-value-lt2 : goal.returns-then-value-lt2
-returns-then-value-lt2 c =
-    let value_is : (1 + c.skip-value.result) ≡ 1 + span (drop 1 c.args.words.now) 1 =
-    rest_span c.args.words.now 1 c.skip-value.ensures.is in
-    record { placed = tt; told = boundary_none _ value_is c.if-value-lt2.true }
+pub returns-in_default-clause-told : goal.returns-in_default-clause-told
+returns-in_default-clause-told c = at_none c.in_default.len_below
 
-pub returns-then-end-value : goal.returns-then-end-value
-returns-then-end-value c =
-    let value_is : (1 + c.skip-value.result) ≡ 1 + span (drop 1 c.args.words.now) 1 =
-    rest_span c.args.words.now 1 c.skip-value.ensures.is in
-    let end_is : c.args.end ≡ (1 + c.skip-value.result) + span (drop (1 + c.skip-value.result) c.args.words.now) 1 =
-    span_next c.args.words.now 1 (1 + c.skip-value.result) 1 1 value_is c.args.end c.requires.end_is in
-    record { placed = tt; told = boundary_no_value _ value_is end_is c.if-end-value.true }
+pub returns-in_default-shape_of-clause-told : goal.returns-in_default-shape_of-clause-told
+returns-in_default-shape_of-clause-told c = at_unknown c.shape_of.ensures c.in_default-shape_of.is
 
-pub slice_bounds-form_at-count : goal.slice_bounds-form_at-count
-slice_bounds-form_at-count c =
-    let value_in : (1 + c.skip-value.result) ≤ length c.args.words.now =
-    omega (arith, c.skip-value.ensures.within, part_length c.args.words.now 1, c.requires.some) in
-    value_in
+pub returns-in-Numbers-clause-told : goal.returns-in-Numbers-clause-told
+returns-in-Numbers-clause-told c = at_N c.shape_of.ensures (c.in-Some.is ∙ ap Some c.in-Numbers.is) c.at_number.ensures.told
 
-pub slice_bounds-form_at-start : goal.slice_bounds-form_at-start
-slice_bounds-form_at-start c =
-    let value_in : (1 + c.skip-value.result) ≤ length c.args.words.now =
-    omega (arith, c.skip-value.ensures.within, part_length c.args.words.now 1, c.requires.some) in
-    value_in
+pub returns-in-Lump-clause-told : goal.returns-in-Lump-clause-told
+returns-in-Lump-clause-told c = at_L c.shape_of.ensures (c.in-Some.is ∙ ap Some c.in-Lump.is) c.at_lump.ensures.told
 
-pub bounds-words-1 : goal.bounds-words-1
-bounds-words-1 c =
-    let value_is : (1 + c.skip-value.result) ≡ 1 + span (drop 1 c.args.words.now) 1 =
-    rest_span c.args.words.now 1 c.skip-value.ensures.is in
-    let end_is : c.args.end ≡ (1 + c.skip-value.result) + span (drop (1 + c.skip-value.result) c.args.words.now) 1 =
-    span_next c.args.words.now 1 (1 + c.skip-value.result) 1 1 value_is c.args.end c.requires.end_is in
-    let known : ValueAt c.args.words.now c.form_at-form.result (1 + c.skip-value.result) c.args.end =
-    record {
-      form_is = rest_form c.args.words.now (1 + c.skip-value.result) c.form_at-form.ensures;
-      value_is = value_is;
-      end_is = end_is;
-      least = omega (arith, c.if-value-lt2.false);
-      some = omega (arith, c.if-end-value.false);
-      most = c.requires.most;
-    } in
-    let p = known in omega (arith, p.least, p.some, p.most)
+pub returns-in-List-clause-told : goal.returns-in-List-clause-told
+returns-in-List-clause-told c =
+    at_list_lem c.shape_of.ensures (part_to_end c.args.at.now 1) (c.in-Some.is ∙ ap Some c.in-List.is) c.at_list.ensures.told
 
-pub at_number-requires : goal.at_number-requires
-at_number-requires c =
-    let value_is : (1 + c.skip-value.result) ≡ 1 + span (drop 1 c.args.words.now) 1 =
-    rest_span c.args.words.now 1 c.skip-value.ensures.is in
-    let end_is : c.args.end ≡ (1 + c.skip-value.result) + span (drop (1 + c.skip-value.result) c.args.words.now) 1 =
-    span_next c.args.words.now 1 (1 + c.skip-value.result) 1 1 value_is c.args.end c.requires.end_is in
-    let known : ValueAt c.args.words.now c.form_at-form.result (1 + c.skip-value.result) c.args.end =
-    record {
-      form_is = rest_form c.args.words.now (1 + c.skip-value.result) c.form_at-form.ensures;
-      value_is = value_is;
-      end_is = end_is;
-      least = omega (arith, c.if-value-lt2.false);
-      some = omega (arith, c.if-end-value.false);
-      most = c.requires.most;
-    } in
-    known
+pub returns-in-Function-clause-told : goal.returns-in-Function-clause-told
+returns-in-Function-clause-told c =
+    at_to c.shape_of.ensures (part_to_end c.args.at.now 1) (c.in-Some.is ∙ ap Some c.in-Function.is) c.at_function.ensures.told
 
-pub returns-then-t-eq-N : goal.returns-then-t-eq-N
-returns-then-t-eq-N c =
-    let g = c.at_number.ensures in
-    record { placed = g.placed; told = at_N _ (sym (get_or-drop 1 c.args.words.now 0 0)) c.if-t-eq-N.true g.told }
-
-pub at_lump-requires : goal.at_lump-requires
-at_lump-requires c =
-    let value_is : (1 + c.skip-value.result) ≡ 1 + span (drop 1 c.args.words.now) 1 =
-    rest_span c.args.words.now 1 c.skip-value.ensures.is in
-    let end_is : c.args.end ≡ (1 + c.skip-value.result) + span (drop (1 + c.skip-value.result) c.args.words.now) 1 =
-    span_next c.args.words.now 1 (1 + c.skip-value.result) 1 1 value_is c.args.end c.requires.end_is in
-    let known : ValueAt c.args.words.now c.form_at-form.result (1 + c.skip-value.result) c.args.end =
-    record {
-      form_is = rest_form c.args.words.now (1 + c.skip-value.result) c.form_at-form.ensures;
-      value_is = value_is;
-      end_is = end_is;
-      least = omega (arith, c.if-value-lt2.false);
-      some = omega (arith, c.if-end-value.false);
-      most = c.requires.most;
-    } in
-    (c.requires.given.few, known)
-
-pub returns-then-t-eq-L : goal.returns-then-t-eq-L
-returns-then-t-eq-L c =
-    let g = c.at_lump.ensures in
-    record { placed = g.placed; told = at_L _ (sym (get_or-drop 1 c.args.words.now 0 0)) (omega (arith, c.if-t-eq-L.true)) g.told }
-
-pub at_list-requires : goal.at_list-requires
-at_list-requires c =
-    let value_is : (1 + c.skip-value.result) ≡ 1 + span (drop 1 c.args.words.now) 1 =
-    rest_span c.args.words.now 1 c.skip-value.ensures.is in
-    let end_is : c.args.end ≡ (1 + c.skip-value.result) + span (drop (1 + c.skip-value.result) c.args.words.now) 1 =
-    span_next c.args.words.now 1 (1 + c.skip-value.result) 1 1 value_is c.args.end c.requires.end_is in
-    let known : ValueAt c.args.words.now c.form_at-form.result (1 + c.skip-value.result) c.args.end =
-    record {
-      form_is = rest_form c.args.words.now (1 + c.skip-value.result) c.form_at-form.ensures;
-      value_is = value_is;
-      end_is = end_is;
-      least = omega (arith, c.if-value-lt2.false);
-      some = omega (arith, c.if-end-value.false);
-      most = c.requires.most;
-    } in
-    (c.requires.given, known)
-
-pub returns-then-t-eq-LIST : goal.returns-then-t-eq-LIST
-returns-then-t-eq-LIST c = let g = c.at_list.ensures in record {
-  placed = g.placed;
-  told =
-      at_list_lem _ (sym (get_or-drop 1 c.args.words.now 0 0)) c.if-t-eq-LIST.true g.told;
-}
-
-pub at_function-requires : goal.at_function-requires
-at_function-requires c =
-    let value_is : (1 + c.skip-value.result) ≡ 1 + span (drop 1 c.args.words.now) 1 =
-    rest_span c.args.words.now 1 c.skip-value.ensures.is in
-    let end_is : c.args.end ≡ (1 + c.skip-value.result) + span (drop (1 + c.skip-value.result) c.args.words.now) 1 =
-    span_next c.args.words.now 1 (1 + c.skip-value.result) 1 1 value_is c.args.end c.requires.end_is in
-    let known : ValueAt c.args.words.now c.form_at-form.result (1 + c.skip-value.result) c.args.end =
-    record {
-      form_is = rest_form c.args.words.now (1 + c.skip-value.result) c.form_at-form.ensures;
-      value_is = value_is;
-      end_is = end_is;
-      least = omega (arith, c.if-value-lt2.false);
-      some = omega (arith, c.if-end-value.false);
-      most = c.requires.most;
-    } in
-    (c.requires.given, known)
-
-pub returns : goal.returns
-returns c =
-    let g = c.at_function.ensures in
-    let e = sym (get_or-drop 1 c.args.words.now 0 0) in
-    record { placed = g.placed; told = at_function_lem _ e c.if-t-eq-N.false c.if-t-eq-L.false c.if-t-eq-LIST.false g.told }
+pub returns-in_default-shape : goal.returns-in_default-shape
+returns-in_default-shape c =
+    let d = c.in_default-shape in
+    record { placed = tt; told = at_other c.shape_of.ensures c.in-Some.is d.not-Numbers d.not-Lump d.not-List d.not-Function }

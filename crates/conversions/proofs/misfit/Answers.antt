@@ -1,8 +1,9 @@
 -- `conversions::misfit` meets its contract. Assumes nothing.
+use Rattle.conversions.proofs.Crossing.{misfit_ml, misfit_scheme}
 use Rattle.conversions.proofs.misfit.Goals as goal
 
-pub returns-then-scheme : goal.returns-then-scheme
-returns-then-scheme c = rw c.if-scheme.true
+pub returns-in-Ml-clause-told : goal.returns-in-Ml-clause-told
+returns-in-Ml-clause-told c = rw (c.word.ensures, c.in-Ml.is) (misfit_ml _)
 
-pub returns : goal.returns
-returns c = rw (c.if-scheme.false, c.ml_wrong.ensures)
+pub returns-in-Scheme-clause-told : goal.returns-in-Scheme-clause-told
+returns-in-Scheme-clause-told c = rw c.in-Scheme.is misfit_scheme

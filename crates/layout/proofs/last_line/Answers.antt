@@ -4,8 +4,6 @@ use Rattle.layout.specs.Layout.{last_line}
 use Rattle.layout.proofs.Aligning.{aligned, ends}
 use Rattle.layout.proofs.last_line.Goals as goal
 
-pub returns-clause-wrote : goal.returns-clause-wrote
+pub returns-clause-put : goal.returns-clause-put
 unfolding last_line
-returns-clause-wrote c =
-    let line = aligned _ c.copy-a.ensures 32 (decimal c.args.total) c.right_to-b.ensures.wrote in
-    ends _ line c.end_line.ensures.wrote
+returns-clause-put c = ends _ (aligned _ c.extend.ensures 32 (decimal c.args.total) c.right_to.ensures.put) c.end_line.ensures.put

@@ -1,19 +1,19 @@
--- `layout::lay_out` meets its contract: the lines, one after the other, and the rest of the buffer is cleared. Assumes nothing.
-use mathlib.Core.Path.{◌∙◌}
+-- `layout::lay_out` meets its contract: the lines, one after the other, and the rest of the buffer is zero. Assumes nothing.
+use borrow.Author.Rules.{rules}
 use native.Mathlib.Omega.{arith}
-use Rattle.writing.proofs.Stores.{then}
-use Rattle.text.proofs.Padded.{cleared_after}
+use Rattle.writing.proofs.Stores.{puts_then, padded_by}
 use Rattle.layout.specs.Layout.{card}
 use Rattle.layout.proofs.lay_out.Goals as goal
 
 pub returns-clause-count : goal.returns-clause-count
 unfolding card
 returns-clause-count c =
-    let put = then c.pump_lines-n.ensures.wrote c.last_line-k.ensures.wrote in
-    omega (arith, put.place)
+    let lines = puts_then c.pump_lines.ensures.put c.last_line.ensures.put in
+    omega (arith, lines.wrote.place)
 
 pub returns-clause-text : goal.returns-clause-text
 unfolding card
 returns-clause-text c =
-    let put = then c.pump_lines-n.ensures.wrote c.last_line-k.ensures.wrote in
-    c.clear.ensures ∙ cleared_after _ _ _ _ put
+    let lines = puts_then c.pump_lines.ensures.put c.last_line.ensures.put in
+    let all = padded_by c.new-card.ensures.1 lines c.fill_rest.ensures in
+    search rules

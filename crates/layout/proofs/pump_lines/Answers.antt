@@ -1,29 +1,19 @@
--- `layout::pump_lines` meets its contract: before each turn the lines of the first i items are put. Assumes nothing.
-use Prim.Native.Nat.{◌<◌}
-use mathlib.Core.Path.{ap}
+-- `layout::pump_lines` meets its contract: before each turn the lines of the first items are put. Assumes nothing.
 use native.Mathlib.Omega.{arith}
-use lib.ListN.{length}
-use lib.Seq.{take_all}
-use Rattle.writing.proofs.Stores.{then, wrote_as, wrote_none}
+use Rattle.writing.proofs.Stores.{puts_then, puts_as, puts_none}
 use Rattle.layout.specs.Layout.{pump_lines}
 use Rattle.layout.proofs.Aligning.{lines_more}
 use Rattle.layout.proofs.pump_lines.Goals as goal
 
 pub loop-i-init : goal.loop-i-init
 unfolding pump_lines
-loop-i-init c = (omega arith, omega arith, wrote_none c.args.text.now 0)
+loop-i-init c = record { bound = omega arith; put = puts_none c.args.text.now }
 
 pub loop-i-preserved : goal.loop-i-preserved
 loop-i-preserved c =
-    let put = c.pump_line-k.ensures in
     let l = c.loop-i in
-    let a = c.args in
-    let h : l.i < length a.pulses.now = omega arith in
-    (omega arith, omega (arith, put.bound, l.invariant.1), wrote_as (lines_more a.charge a.pulses.now l.i h) (then l.invariant.2 put.wrote))
-
-pub returns-clause-wrote : goal.returns-clause-wrote
-returns-clause-wrote c =
-    let l = c.loop-i in
-    let a = c.args in
-    let all = take_all l.i a.pulses.now (omega arith) in
-    wrote_as (ap (pump_lines a.charge 0) all) l.invariant.2
+    let put = puts_then l.invariant.put c.pump_line.ensures.put in
+    record {
+      bound = omega (arith, l.invariant.bound, c.pump_line.ensures.bound);
+      put = puts_as (lines_more c.args.charge.now c.args.pulses.now l.i (omega arith)) put;
+    }

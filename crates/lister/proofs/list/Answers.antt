@@ -1,31 +1,25 @@
--- `lister::list` meets its contract: the run's numbers and its words left give the text, and the rest of the buffer is cleared. Assumes nothing.
+-- `lister::list` meets its contract: the lines of the run, and the rest of the buffer is zero. Assumes nothing.
+use borrow.Author.Rules.{rules}
 use native.Mathlib.Omega.{arith}
-use lib.ListN.{length-take}
-use lib.Seq.{length-take-le}
-use Rattle.writing.proofs.Stores.{wrote_as}
-use mathlib.Core.Path.{sym, ◌∙◌}
-use Rattle.text.proofs.Padded.{cleared_after}
-use Rattle.lister.proofs.Texts.{left_within, left_held, text_is}
+use mathlib.Core.Path.{ap}
+use lib.ListN.{length}
+use Rattle.writing.proofs.Stores.{puts_as, padded_by}
+use Rattle.lister.proofs.Texts.{first_long, left_within, text_is}
 use Rattle.lister.proofs.list.Goals as goal
 
-pub slice_bounds-first-end : goal.slice_bounds-first-end
-slice_bounds-first-end c =
-    let ran = c.recipe_run-run in
-    left_held _ _ ran.result ran.ensures.answer ran.new.first ran.ensures.first
+pub lines-requires : goal.lines-requires
+lines-requires c =
+    let r = c.run-answer.ensures in
+    (left_within _ _ _ r.answer_is r.first_is, omega (arith, first_long _ _ _ r.answer_is r.first_is), omega (arith, c.new-listing.ensures))
 
-pub slice_bounds-lines-end : goal.slice_bounds-lines-end
-slice_bounds-lines-end c = sym (length-take-le _ _
-    (left_held _ _ c.recipe_run-run.result c.recipe_run-run.ensures.answer c.recipe_run-run.new.first c.recipe_run-run.ensures.first))
+pub returns-clause-count : goal.returns-clause-count
+returns-clause-count c =
+    let r = c.run-answer.ensures in
+    omega (arith, c.fill_rest.ensures.place, c.lines.ensures.put.wrote.place, ap length (text_is _ _ _ r.answer_is r.first_is))
 
-pub lines-n-requires : goal.lines-n-requires
-lines-n-requires c =
-    let ran = c.recipe_run-run in
-    let l = left_within _ _ ran.result ran.ensures.answer in
-    simp length-take (omega (arith, l))
-
-pub returns : goal.returns
-returns c =
-    let ran = c.recipe_run-run in
-    let is = text_is _ ran.result ran.new.first ran.ensures.answer ran.ensures.first in
-    let put = wrote_as is c.lines-n.ensures.wrote in
-    record { count = omega (arith, put.place); text = c.clear.ensures ∙ cleared_after _ _ _ _ put; bound = omega (arith, c.lines-n.ensures.bound) }
+pub returns-clause-text : goal.returns-clause-text
+returns-clause-text c =
+    let r = c.run-answer.ensures in
+    let lines = puts_as (text_is _ _ _ r.answer_is r.first_is) c.lines.ensures.put in
+    let all = padded_by c.new-listing.ensures.1 lines c.fill_rest.ensures in
+    search rules

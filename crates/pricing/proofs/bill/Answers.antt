@@ -1,40 +1,43 @@
 -- `pricing::bill` meets its contract. Assumes nothing.
-use Prim.Native.Nat.{ℕ, ◌+◌, ◌-◌}
-use mathlib.Core.List.{List}
-use mathlib.Core.Path.{◌≡◌, sym, subst}
+use mathlib.Core.Path.{sym, ap, ◌∙◌}
 use native.Mathlib.Omega.{arith}
-use lib.ListN.{length, take, drop}
-use borrow.Author.Rules.{part_to_end}
-use Rattle.pricing.specs.Parts.{Declares, OfNumbers, Runs}
-use Rattle.pricing.proofs.Billing.{bill_other, bill_run, of_numbers}
+use lib.Seq.{length-take-le}
+use Rattle.std.specs.Prelude.{Err}
+use Rattle.std.proofs.lemmas.Result.{err_from_is_err_and}
+use Rattle.pricing.proofs.Billing.{bill_other, bill_run, bill_refused, of_numbers, short}
 use Rattle.pricing.proofs.bill.Goals as goal
 
 pub returns-then-not-is_numbers : goal.returns-then-not-is_numbers
-returns-then-not-is_numbers c =
-    let declared : Declares (take c.args.n (drop 4 c.args.words.now)) c.is_numbers.result =
-    let e : 4 + c.args.n - 4 ≡ c.args.n = omega arith in
-    subst (λ (k : ℕ). Declares (take k (drop 4 c.args.words.now)) c.is_numbers.result) e c.is_numbers.ensures in
-    bill_other _ _ _ _ _ _ declared c.if-not-is_numbers.true c.refused.ensures
+returns-then-not-is_numbers c = bill_other _ _ _ _ _ _ c.is_numbers.ensures c.if-not-is_numbers.true
 
-pub run-requires : goal.run-requires
-run-requires c =
-    let declared : Declares (take c.args.n (drop 4 c.args.words.now)) c.is_numbers.result =
-    let e : 4 + c.args.n - 4 ≡ c.args.n = omega arith in
-    subst (λ (k : ℕ). Declares (take k (drop 4 c.args.words.now)) c.is_numbers.result) e c.is_numbers.ensures in
-    let rest : take (length c.args.words.now - (4 + c.args.n)) (drop (4 + c.args.n) c.args.words.now) ≡ drop (4 + c.args.n) c.args.words.now =
-    part_to_end c.args.words.now (4 + c.args.n) in
-    subst OfNumbers (sym rest) (of_numbers c.requires declared c.if-not-is_numbers.false)
+pub returns-in_err-report : goal.returns-in_err-report
+returns-in_err-report c =
+    let p = err_from_is_err_and c.from_residual.result c.from_residual.ensures.1 in
+    bill_refused _ _ _ _ _ _ c.is_numbers.ensures c.if-not-is_numbers.false (rw c.in_err-report.was at c.begin.ensures) (p.1 ∙ ap Err p.2)
+
+pub slice_bounds-cost-end : goal.slice_bounds-cost-end
+slice_bounds-cost-end c =
+    let k = c.begin.auto in
+    let s = short _ _ _ _ (rw c.in_ok-report.was at c.begin.ensures) k.first k.second
+    (of_numbers c.requires c.is_numbers.ensures c.if-not-is_numbers.false) in
+    s.1
+
+pub slice_bounds-cost-end-2 : goal.slice_bounds-cost-end-2
+slice_bounds-cost-end-2 c =
+    let k = c.begin.auto in
+    let s = short _ _ _ _ (rw c.in_ok-report.was at c.begin.ensures) k.first k.second
+    (of_numbers c.requires c.is_numbers.ensures c.if-not-is_numbers.false) in
+    sym (length-take-le _ _ s.1)
+
+pub cost-requires : goal.cost-requires
+cost-requires c =
+    let k = c.begin.auto in
+    let s = short _ _ _ _ (rw c.in_ok-report.was at c.begin.ensures) k.first k.second
+    (of_numbers c.requires c.is_numbers.ensures c.if-not-is_numbers.false) in
+    omega (arith, length-take-le _ c.begin.new.first s.1, s.0)
 
 pub returns : goal.returns
 returns c =
-    let declared : Declares (take c.args.n (drop 4 c.args.words.now)) c.is_numbers.result =
-    let e : 4 + c.args.n - 4 ≡ c.args.n = omega arith in
-    subst (λ (k : ℕ). Declares (take k (drop 4 c.args.words.now)) c.is_numbers.result) e c.is_numbers.ensures in
-    let rest : take (length c.args.words.now - (4 + c.args.n)) (drop (4 + c.args.n) c.args.words.now) ≡ drop (4 + c.args.n) c.args.words.now =
-    part_to_end c.args.words.now (4 + c.args.n) in
-    let a = c.args in
-    let y = c.run in
-    bill_run _ _ _ _ _ _ declared c.if-not-is_numbers.false
-    (subst
-    (λ (ws : List ℕ). Runs a.prices a.limit ws a.first.now a.second.now y.result y.new.first y.new.second)
-    rest y.ensures)
+    let k = c.begin.auto in
+    bill_run _ _ _ _ _ _ c.is_numbers.ensures c.if-not-is_numbers.false (rw c.in_ok-report.was at c.begin.ensures) k.first k.second
+    c.cost.ensures

@@ -1,12 +1,15 @@
 -- `pricing::is_numbers` meets its contract. Assumes nothing.
-use Rattle.pricing.proofs.Billing.{other_length, other_kind, by_element}
+use mathlib.Core.List.{[], ◌∷◌}
+use mathlib.Core.Path.{sym, ap, ◌∙◌}
+use lib.Dec.{eqb}
+use lib.Pointwise.{pointwise}
+use Rattle.std.specs.Cmp.Lexicographic.{same_text}
+use Rattle.std.proofs.Common.{ℕ, List}
+use Rattle.pricing.proofs.Billing.{declares}
 use Rattle.pricing.proofs.is_numbers.Goals as goal
 
-pub returns-then-types-ne2 : goal.returns-then-types-ne2
-returns-then-types-ne2 c = other_length c.args.types.now c.if-types-ne2.true
-
-pub returns-then-types-ne-LIST : goal.returns-then-types-ne-LIST
-returns-then-types-ne-LIST c = other_kind c.args.types.now c.if-types-ne-LIST.true
-
 pub returns : goal.returns
-returns c = by_element c.args.types.now c.if-types-ne2.false c.if-types-ne-LIST.false
+returns c =
+    let is = c.as_slice.ensures in
+    declares (λ e. same_text _ _ (sym e ∙ c.eq.ensures) ∙ is)
+    (λ e. c.eq.ensures ∙ ap (pointwise eqb c.args.types.now) is ∙ ap (λ (l : List ℕ). pointwise eqb l (3 ∷ 1 ∷ [])) e)

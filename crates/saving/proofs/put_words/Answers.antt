@@ -1,36 +1,26 @@
--- `saving::put_words` meets its contract: before each turn the bytes of the first i words are put. Assumes nothing.
-use mathlib.Core.List.{[], ◌∷◌, ◌++◌}
+-- `saving::put_words` meets its contract. Assumes nothing.
+use Prim.Native.Nat.{ℕ, ◌+◌, ◌/◌, ◌%◌}
+use mathlib.Core.List.{List, [], ◌∷◌, ◌++◌}
 use mathlib.Core.Path.{◌≡◌, sym, ap, ◌∙◌}
-use Prim.Native.Nat.{◌+◌}
 use native.Mathlib.Omega.{arith}
 use native.Mathlib.Numerals.{add-one}
-use lib.ListN.{take, get_or}
-use lib.Seq.{take-suc, take_all}
+use lib.ListN.{get_or, take}
+use lib.Seq.{take-suc}
 use Rattle.calculus.specs.File.{bytes_of}
-use Rattle.writing.proofs.Stores.{then, wrote_as, wrote_none, wrote_length}
+use Rattle.writing.proofs.Stores.{puts_then, puts_as}
 use Rattle.saving.proofs.Bytes.{bytes_append}
 use Rattle.saving.proofs.put_words.Goals as goal
 
-pub loop-i-init : goal.loop-i-init
-loop-i-init c = (omega arith, omega arith, wrote_none c.args.out.now 0)
-
-pub put_word-n-requires : goal.put_word-n-requires
-put_word-n-requires c = omega arith
-
-pub loop-i-preserved : goal.loop-i-preserved
-loop-i-preserved c =
-    let put = c.put_word-n.ensures in
-    let l = c.loop-i in
+pub loop-word-preserved : goal.loop-word-preserved
+loop-word-preserved c =
+    let l = c.loop-word in
     let ws = c.args.words.now in
-    let one : take l.i ws ++ get_or ws l.i 0 ∷ [] ≡ take (l.i + 1) ws = rw (add-one l.i) (sym (take-suc ws l.i 0 (omega arith))) in
-    let more = sym (bytes_append (take l.i ws) (get_or ws l.i 0 ∷ [])) ∙ ap bytes_of one in
-    (omega arith, omega (arith, put.place), wrote_as more (then l.invariant.2 put))
-
-pub shape_of-out : goal.shape_of-out
-shape_of-out c = wrote_length c.loop-i.invariant.2
-
-pub returns : goal.returns
-returns c =
-    let l = c.loop-i in
-    let ws = c.args.words.now in
-    wrote_as (ap bytes_of (take_all l.i ws (omega arith))) l.invariant.2
+    let w = get_or ws l.word-index 0 in
+    let most : w / 16777216 % 256 ≡ w / 16777216 = omega (arith, c.type_inv.words l.word-index) in
+    let four : c.to_le_bytes.result ≡ bytes_of (w ∷ []) = rw (← most) c.to_le_bytes.ensures in
+    let one : take l.word-index ws ++ w ∷ [] ≡ take (l.word-index + 1) ws =
+    rw (add-one l.word-index) (sym (take-suc ws l.word-index 0 (omega arith))) in
+    let more : bytes_of (take l.word-index ws) ++ c.to_le_bytes.result ≡ bytes_of (take (l.word-index + 1) ws) =
+    ap (λ (b : List ℕ). bytes_of (take l.word-index ws) ++ b) four ∙ sym (bytes_append (take l.word-index ws) (w ∷ [])) ∙ ap bytes_of one in
+    let put = puts_then l.invariant.put c.extend.ensures in
+    record { place = omega (arith, l.invariant.place, put.wrote.place); put = puts_as more put }

@@ -1,9 +1,6 @@
--- `types::type_end` meets its contract: each way out is one law of Matching. Assumes nothing.
-use Rattle.types.proofs.Matching.{type_ends, no_type}
+-- `types::type_end` meets its contract: comparing a type with itself finds its end. Assumes nothing.
+use Rattle.types.proofs.Matching.{type_end_lem}
 use Rattle.types.proofs.type_end.Goals as goal
 
-pub returns-in-Same : goal.returns-in-Same
-returns-in-Same c = type_ends _ _ c.requires.1 _ c.compare_words.ensures _ c.in-Same.is
-
-pub returns-in-Differ : goal.returns-in-Differ
-returns-in-Differ c = no_type _ _ c.requires.1 _ c.compare_words.ensures _ c.in-Differ.is
+pub returns : goal.returns
+returns c = rw c.unwrap_or.ensures (type_end_lem _ _ c.requires _ c.compare_words.ensures)

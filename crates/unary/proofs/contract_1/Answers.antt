@@ -1,92 +1,24 @@
 -- `unary::contract_1` meets its contract. Assumes nothing.
-use lib.ListN.{length}
-use native.Mathlib.Omega.{arith}
-use Rattle.unary.specs.Chosen.{FirstPart}
-use Rattle.pieces.proofs.Parts.{rest_form}
-use Rattle.unary.proofs.OnePart.{null_placed, one_fix, one_null, one_test, one_list, one_none}
+use borrow.Author.Rules.{part_to_end}
+use Rattle.unary.proofs.Told.{one_head, one_tail, one_fix, one_null, one_test, one_none}
 use Rattle.unary.proofs.contract_1.Goals as goal
 
-pub returns-then-end-lt2 : goal.returns-then-end-lt2
-returns-then-end-lt2 c = record { placed = tt; told = one_none _ _ c.requires.end_is c.if-end-lt2.true }
+pub returns-in_default-clause-told : goal.returns-in_default-clause-told
+returns-in_default-clause-told c = one_none c.in_default.len_below
 
-pub of_fix-requires : goal.of_fix-requires
-of_fix-requires c =
-    let known : FirstPart c.args.table.now c.args.words.now c.form_at-form.result c.args.end =
-    record {
-      given = c.requires.given;
-      form_is = rest_form c.args.words.now 1 c.form_at-form.ensures;
-      end_is = c.requires.end_is;
-      least = omega (arith, c.if-end-lt2.false);
-      most = c.requires.most;
-    } in
-    known
+pub returns-in-Hd-clause-told : goal.returns-in-Hd-clause-told
+returns-in-Hd-clause-told c = rw c.in-Hd.is (one_head c.value_of-value.ensures (part_to_end c.args.node.now 1) c.head.ensures.told)
 
-pub returns-then-op-eq-FIX : goal.returns-then-op-eq-FIX
-returns-then-op-eq-FIX c =
-    let known : FirstPart c.args.table.now c.args.words.now c.form_at-form.result c.args.end =
-    record {
-      given = c.requires.given;
-      form_is = rest_form c.args.words.now 1 c.form_at-form.ensures;
-      end_is = c.requires.end_is;
-      least = omega (arith, c.if-end-lt2.false);
-      most = c.requires.most;
-    } in
-    record { placed = c.of_fix.ensures.placed; told = one_fix known c.operator-op.ensures c.if-op-eq-FIX.true c.of_fix.ensures.told }
+pub returns-in-Tl-clause-told : goal.returns-in-Tl-clause-told
+returns-in-Tl-clause-told c = rw c.in-Tl.is (one_tail c.value_of-value.ensures (part_to_end c.args.node.now 1) c.tail.ensures.told)
 
-pub returns-then-op-eq-NULL : goal.returns-then-op-eq-NULL
-returns-then-op-eq-NULL c =
-    let known : FirstPart c.args.table.now c.args.words.now c.form_at-form.result c.args.end =
-    record {
-      given = c.requires.given;
-      form_is = rest_form c.args.words.now 1 c.form_at-form.ensures;
-      end_is = c.requires.end_is;
-      least = omega (arith, c.if-end-lt2.false);
-      most = c.requires.most;
-    } in
-    record {
-      placed = rw c.of_null.ensures (null_placed (length c.args.words.now) c.form_at-form.result);
-      told =
-          rw c.of_null.ensures (one_null known c.operator-op.ensures c.if-op-eq-NULL.true);
-    }
+pub returns-in-Fix-clause-told : goal.returns-in-Fix-clause-told
+returns-in-Fix-clause-told c = rw c.in-Fix.is (one_fix c.value_of-value.ensures (part_to_end c.args.node.now 1) c.of_fix.ensures.told)
 
-pub returns-then-op-eq-TEST : goal.returns-then-op-eq-TEST
-returns-then-op-eq-TEST c =
-    let known : FirstPart c.args.table.now c.args.words.now c.form_at-form.result c.args.end =
-    record {
-      given = c.requires.given;
-      form_is = rest_form c.args.words.now 1 c.form_at-form.ensures;
-      end_is = c.requires.end_is;
-      least = omega (arith, c.if-end-lt2.false);
-      most = c.requires.most;
-    } in
-    let g = c.answer.ensures in
-    record {
-      placed = record { kind = omega arith; small = omega (arith, g.small) };
-      told =
-          rw g.value (one_test known c.operator-op.ensures c.if-op-eq-TEST.true);
-    }
+pub returns-in-Null-clause-told : goal.returns-in-Null-clause-told
+returns-in-Null-clause-told c = rw c.in-Null.is (one_null c.value_of-value.ensures (part_to_end c.args.node.now 1) c.of_null.ensures.told)
 
-pub of_list-requires : goal.of_list-requires
-of_list-requires c =
-    let known : FirstPart c.args.table.now c.args.words.now c.form_at-form.result c.args.end =
-    record {
-      given = c.requires.given;
-      form_is = rest_form c.args.words.now 1 c.form_at-form.ensures;
-      end_is = c.requires.end_is;
-      least = omega (arith, c.if-end-lt2.false);
-      most = c.requires.most;
-    } in
-    known
-
-pub returns : goal.returns
-returns c =
-    let known : FirstPart c.args.table.now c.args.words.now c.form_at-form.result c.args.end =
-    record {
-      given = c.requires.given;
-      form_is = rest_form c.args.words.now 1 c.form_at-form.ensures;
-      end_is = c.requires.end_is;
-      least = omega (arith, c.if-end-lt2.false);
-      most = c.requires.most;
-    } in
-    let g = c.of_list.ensures in
-    record { placed = g.placed; told = one_list known c.operator-op.ensures c.if-op-eq-FIX.false c.if-op-eq-NULL.false c.if-op-eq-TEST.false g.told }
+pub returns-in-Test-clause-told : goal.returns-in-Test-clause-told
+returns-in-Test-clause-told c =
+    rw c.in-Test.is
+    (one_test c.value_of-value.ensures (part_to_end c.args.node.now 1) c.of_test.ensures.told)

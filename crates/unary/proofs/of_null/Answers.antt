@@ -1,12 +1,12 @@
 -- `unary::of_null` meets its contract. Assumes nothing.
-use borrow.Author.Tests.{ne_eqb}
+use Rattle.unary.proofs.Told.{null_nil, null_cons, null_other}
 use Rattle.unary.proofs.of_null.Goals as goal
 
-pub returns-then-form-eq-NIL : goal.returns-then-form-eq-NIL
-returns-then-form-eq-NIL c = rw c.if-form-eq-NIL.true
+pub returns-in-Nil-clause-told : goal.returns-in-Nil-clause-told
+returns-in-Nil-clause-told c = rw c.in-Nil.is (null_nil c.number_in.ensures.told)
 
-pub returns-then-form-eq-CONS : goal.returns-then-form-eq-CONS
-returns-then-form-eq-CONS c = rw c.if-form-eq-CONS.true
+pub returns-in-Cons-clause-told : goal.returns-in-Cons-clause-told
+returns-in-Cons-clause-told c = rw c.in-Cons.is (null_cons c.number_in-in-Cons.ensures.told)
 
-pub returns : goal.returns
-returns c = rw (ne_eqb _ _ c.if-form-eq-NIL.false, ne_eqb _ _ c.if-form-eq-CONS.false)
+pub returns-in_default : goal.returns-in_default
+returns-in_default c = record { placed = tt; told = null_other c.in_default.not-Nil c.in_default.not-Cons }

@@ -1,96 +1,47 @@
--- `contraction::choices::contract` meets its contract: each way out is one law of Dispatch. Assumes nothing.
-use mathlib.Core.Path.{◌≡◌, refl, sym, ap, ◌∙◌}
-use Prim.Native.Nat.{ℕ, ◌%◌}
-use lib.ListN.{get_or}
-use native.Mathlib.Omega.{arith}
-use Rattle.calculus.specs.Scope.{part_count}
-use Rattle.nodes.specs.Table.{row_of}
-use Rattle.writing.proofs.Lengths.{parts_by, shape_parts}
-use Rattle.pieces.specs.Parts.{NodeIn}
-use Rattle.pieces.proofs.Parts as parts
-use Rattle.contraction.proofs.Dispatch.{node_none, node_wrong, node_one, node_two, node_if, node_boundary, node_other}
+-- `contraction::choices::contract` meets its contract. Assumes nothing.
+use mathlib.Core.Path.{ap}
+use borrow.Author.Rules.{part_to_end}
+use Rattle.nodes.specs.Table.{as_sort}
+use Rattle.contraction.proofs.Dispatch.{node_none, node_unknown, node_type, node_wrong, node_one, node_two, node_if, node_boundary, node_other}
 use Rattle.contraction.proofs.choices.contract.Goals as goal
 
-pub returns-then-words-lt1 : goal.returns-then-words-lt1
-returns-then-words-lt1 c = record { placed = tt; told = node_none _ c.if-words-lt1.true }
+pub returns-in_default-clause-told : goal.returns-in_default-clause-told
+returns-in_default-clause-told c = node_none c.in_default.len_below
 
-pub returns-then-shape-eq-WRONG : goal.returns-then-shape-eq-WRONG
-returns-then-shape-eq-WRONG c =
-    let shape_is : c.row_at-shape.result.shape ≡ (row_of (get_or c.args.words.now 0 0 % 256)).shape =
-    ap (λ r. r.shape) c.row_at-shape.ensures in
-    record { placed = tt; told = node_wrong _ shape_is c.if-shape-eq-WRONG.true }
+pub returns-in_default-row_at-clause-told : goal.returns-in_default-row_at-clause-told
+returns-in_default-row_at-clause-told c = node_unknown (rw c.in_default-row_at.is at c.row_at.ensures)
 
-pub contract_1-requires : goal.contract_1-requires
-contract_1-requires c =
-    let shape_is : c.row_at-shape.result.shape ≡ (row_of (get_or c.args.words.now 0 0 % 256)).shape =
-    ap (λ r. r.shape) c.row_at-shape.ensures in
-    let node : (shape n : ℕ) → c.row_at-shape.result.shape ≡ shape → parts_by shape (part_count (get_or c.args.words.now 0 0)) ≡ n → NodeIn n
-    c.args.table.now c.args.words.now c.args.end =
-    λ shape n e p. parts.node c.requires.0 (omega (arith, c.if-words-lt1.false)) c.requires.1
-    (shape_parts (get_or c.args.words.now 0 0) shape (sym shape_is ∙ e) n p) in
-    node 4 1 c.if-shape-eq-OPERATOR_1.true refl
+pub returns-in_default-sort-clause-told : goal.returns-in_default-sort-clause-told
+returns-in_default-sort-clause-told c = node_type _ c.in-Some.ensures (ap as_sort c.in_default-sort.is)
 
-pub returns-then-shape-eq-OPERATOR_1 : goal.returns-then-shape-eq-OPERATOR_1
-returns-then-shape-eq-OPERATOR_1 c =
-    let shape_is : c.row_at-shape.result.shape ≡ (row_of (get_or c.args.words.now 0 0 % 256)).shape =
-    ap (λ r. r.shape) c.row_at-shape.ensures in
-    let g = c.contract_1.ensures in record { placed = g.placed; told = node_one _ shape_is c.if-shape-eq-OPERATOR_1.true g.told }
+pub returns-in-Wrong-clause-told : goal.returns-in-Wrong-clause-told
+returns-in-Wrong-clause-told c = node_wrong _ c.in-Some.ensures c.in-Term.language (ap as_sort c.in-Term.is) c.in-Wrong.is
 
-pub contract_2-requires : goal.contract_2-requires
-contract_2-requires c =
-    let shape_is : c.row_at-shape.result.shape ≡ (row_of (get_or c.args.words.now 0 0 % 256)).shape =
-    ap (λ r. r.shape) c.row_at-shape.ensures in
-    let node : (shape n : ℕ) → c.row_at-shape.result.shape ≡ shape → parts_by shape (part_count (get_or c.args.words.now 0 0)) ≡ n → NodeIn n
-    c.args.table.now c.args.words.now c.args.end =
-    λ shape n e p. parts.node c.requires.0 (omega (arith, c.if-words-lt1.false)) c.requires.1
-    (shape_parts (get_or c.args.words.now 0 0) shape (sym shape_is ∙ e) n p) in
-    node 5 2 c.if-shape-eq-OPERATOR_2.true refl
+pub returns-in-Operator1-clause-told : goal.returns-in-Operator1-clause-told
+returns-in-Operator1-clause-told c =
+    node_one _ c.in-Some.ensures c.in-Term.language (ap as_sort c.in-Term.is) c.in-Operator1.is c.contract_1.ensures.told
 
-pub returns-then-shape-eq-OPERATOR_2 : goal.returns-then-shape-eq-OPERATOR_2
-returns-then-shape-eq-OPERATOR_2 c =
-    let shape_is : c.row_at-shape.result.shape ≡ (row_of (get_or c.args.words.now 0 0 % 256)).shape =
-    ap (λ r. r.shape) c.row_at-shape.ensures in
-    let g = c.contract_2.ensures in record { placed = g.placed; told = node_two _ shape_is c.if-shape-eq-OPERATOR_2.true g.told }
+pub returns-in-Operator2-clause-told : goal.returns-in-Operator2-clause-told
+returns-in-Operator2-clause-told c =
+    node_two _ c.in-Some.ensures c.in-Term.language (ap as_sort c.in-Term.is) (part_to_end c.args.node.now 1) c.in-Operator2.is c.split.ensures
+    c.contract_2.ensures.told
 
-pub of_if-requires : goal.of_if-requires
-of_if-requires c =
-    let shape_is : c.row_at-shape.result.shape ≡ (row_of (get_or c.args.words.now 0 0 % 256)).shape =
-    ap (λ r. r.shape) c.row_at-shape.ensures in
-    let node : (shape n : ℕ) → c.row_at-shape.result.shape ≡ shape → parts_by shape (part_count (get_or c.args.words.now 0 0)) ≡ n → NodeIn n
-    c.args.table.now c.args.words.now c.args.end =
-    λ shape n e p. parts.node c.requires.0 (omega (arith, c.if-words-lt1.false)) c.requires.1
-    (shape_parts (get_or c.args.words.now 0 0) shape (sym shape_is ∙ e) n p) in
-    node 6 3 c.if-shape-eq-IF0.true refl
+pub returns-in-If0-clause-told : goal.returns-in-If0-clause-told
+returns-in-If0-clause-told c =
+    node_if _ c.in-Some.ensures c.in-Term.language (ap as_sort c.in-Term.is) (part_to_end c.args.node.now 1) c.in-If0.is c.split-in-If0.ensures
+    c.split-in-If0-2.ensures c.of_if.ensures.told
 
-pub returns-then-shape-eq-IF0 : goal.returns-then-shape-eq-IF0
-returns-then-shape-eq-IF0 c =
-    let shape_is : c.row_at-shape.result.shape ≡ (row_of (get_or c.args.words.now 0 0 % 256)).shape =
-    ap (λ r. r.shape) c.row_at-shape.ensures in
-    let g = c.of_if.ensures in record { placed = g.placed; told = node_if _ shape_is c.if-shape-eq-IF0.true g.told }
+pub returns-in-Boundary-clause-told : goal.returns-in-Boundary-clause-told
+returns-in-Boundary-clause-told c =
+    node_boundary _ c.in-Some.ensures c.in-Term.language (ap as_sort c.in-Term.is) (part_to_end c.args.node.now 1) c.in-Boundary.is
+    c.split-in-Boundary.ensures c.converted.ensures.told
 
-pub converted-requires : goal.converted-requires
-converted-requires c =
-    let shape_is : c.row_at-shape.result.shape ≡ (row_of (get_or c.args.words.now 0 0 % 256)).shape =
-    ap (λ r. r.shape) c.row_at-shape.ensures in
-    let node : (shape n : ℕ) → c.row_at-shape.result.shape ≡ shape → parts_by shape (part_count (get_or c.args.words.now 0 0)) ≡ n → NodeIn n
-    c.args.table.now c.args.words.now c.args.end =
-    λ shape n e p. parts.node c.requires.0 (omega (arith, c.if-words-lt1.false)) c.requires.1
-    (shape_parts (get_or c.args.words.now 0 0) shape (sym shape_is ∙ e) n p) in
-    node 9 2 c.if-shape-eq-BOUNDARY.true refl
-
-pub returns-then-shape-eq-BOUNDARY : goal.returns-then-shape-eq-BOUNDARY
-returns-then-shape-eq-BOUNDARY c =
-    let shape_is : c.row_at-shape.result.shape ≡ (row_of (get_or c.args.words.now 0 0 % 256)).shape =
-    ap (λ r. r.shape) c.row_at-shape.ensures in
-    let g = c.converted.ensures in
-    record { placed = g.placed; told = node_boundary _ shape_is c.if-shape-eq-BOUNDARY.true g.told }
-
-pub returns : goal.returns
-returns c =
-    let shape_is : c.row_at-shape.result.shape ≡ (row_of (get_or c.args.words.now 0 0 % 256)).shape =
-    ap (λ r. r.shape) c.row_at-shape.ensures in
+pub returns-in_default-shape : goal.returns-in_default-shape
+returns-in_default-shape c =
+    let d = c.in_default-shape in
     record {
       placed = tt;
-      told = node_other _ shape_is c.if-shape-eq-WRONG.false c.if-shape-eq-OPERATOR_1.false c.if-shape-eq-OPERATOR_2.false
-          c.if-shape-eq-IF0.false c.if-shape-eq-BOUNDARY.false;
+      told =
+          node_other _ c.in-Some.ensures c.in-Term.language (ap as_sort c.in-Term.is) d.not-Operator1 d.not-Operator2 d.not-If0
+          d.not-Wrong d.not-Boundary;
     }

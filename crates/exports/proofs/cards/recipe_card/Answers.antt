@@ -1,32 +1,16 @@
 -- `exports::cards::recipe_card` meets its contract, for every table, every file, every limit and all three buffers. Assumes nothing.
-use Rattle.engine.specs.Lent.{lent}
-use Rattle.card.specs.Answered.{CardLent, card_lent}
-use Rattle.exports.proofs.Carrying.{card_place, card_words, card_bytes_lem, card_refused, card_ended}
+use mathlib.Core.Path.{ap}
+use native.Mathlib.Omega.{arith}
+use Rattle.nodes.specs.declared.refusals.Numbers.{Numbers}
+use Rattle.exports.proofs.Carrying.{card_place, card_words, card_bytes_lem}
 use Rattle.exports.proofs.cards.recipe_card.Goals as goal
 
-pub narrow-bytes-requires : goal.narrow-bytes-requires
-narrow-bytes-requires c = card_bytes_lem _ _ _ c.card-answer.ensures
+pub priced-requires : goal.priced-requires
+priced-requires c = card_words _ _ _ c.card.ensures c.in-Ok.x c.in-Ok.is
 
-pub refused_by-requires : goal.refused_by-requires
-refused_by-requires c = card_place _ _ _ c.card-answer.ensures c.in-Refused.u c.in-Refused.is
+pub overflow_cast-result : goal.overflow_cast-result
+overflow_cast-result c = record { fits = omega (arith, card_bytes_lem _ _ _ c.card.ensures c.in-Ok.x c.in-Ok.is) }
 
-pub ended-requires : goal.ended-requires
-ended-requires c = card_words _ _ _ c.card-answer.ensures c.in-Ended.x c.in-Ended.is
-
-pub returns-in-Refused : goal.returns-in-Refused
-returns-in-Refused c =
-    let lent-it : CardLent =
-    let a = c.args in card_lent (lent a.file.now a.limit a.first.now a.second.now) a.card.now in
-    let e = c.card-answer.ensures in
-    let told = card_refused _ lent-it _ e c.narrow-bytes.ensures c.told.ensures c.in-Refused.u c.in-Refused.is
-    c.refused_by.ensures in
-    record { answer = told; first = e.first_is; second = e.second_is; card = e.card_is }
-
-pub returns-in-Ended : goal.returns-in-Ended
-returns-in-Ended c =
-    let lent-it : CardLent =
-    let a = c.args in card_lent (lent a.file.now a.limit a.first.now a.second.now) a.card.now in
-    let e = c.card-answer.ensures in
-    let told = card_ended _ lent-it _ e c.narrow-bytes.ensures c.told-in-Ended.ensures c.in-Ended.x c.in-Ended.is
-    c.ended.ensures in
-    record { answer = told; first = e.first_is; second = e.second_is; card = e.card_is }
+pub unpriced-requires : goal.unpriced-requires
+unpriced-requires c =
+    omega (arith, ap (λ (n : Numbers). n.place) c.into.ensures, card_place _ _ _ c.card.ensures c.in-Err.why c.in-Err.is)

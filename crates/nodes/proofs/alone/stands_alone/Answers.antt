@@ -1,13 +1,13 @@
 -- `nodes::alone::stands_alone` meets its contract. Assumes nothing.
-use Prim.Native.Nat.{ℕ, ◌/◌}
-use mathlib.Core.Path.{sym, ap, ◌∙◌}
-use Rattle.nodes.proofs.Lone.{in_range, alone_range, below, not_below}
+use Rattle.std.proofs.Common.{◌∙◌}
+use Rattle.nodes.proofs.Lone.{not_alone, in_its_range, has_parts}
 use Rattle.nodes.proofs.alone.stands_alone.Goals as goal
 
-pub returns-then-operand-range : goal.returns-then-operand-range
-returns-then-operand-range c = below c.lone_range-range.result (c.args.w / 256) c.if-operand-range.true ∙ (let w =
-    c.args.w in ap (λ (n : ℕ). in_range n (w / 256)) c.lone_range-range.ensures ∙ sym (alone_range w))
+pub returns-then-is_empty : goal.returns-then-is_empty
+returns-then-is_empty c = c.takes.ensures ∙ in_its_range c.args.w c.in-Some.row c.in-Some.ensures c.if-is_empty.ensures
 
-pub returns : goal.returns
-returns c = not_below c.lone_range-range.result (c.args.w / 256) c.if-operand-range.false ∙ (let w =
-    c.args.w in ap (λ (n : ℕ). in_range n (w / 256)) c.lone_range-range.ensures ∙ sym (alone_range w))
+pub returns-else-is_empty : goal.returns-else-is_empty
+returns-else-is_empty c = c.if-is_empty.false ∙ has_parts c.args.w c.in-Some.row c.in-Some.ensures c.if-is_empty.ensures
+
+pub returns-in-None : goal.returns-in-None
+returns-in-None c = not_alone c.args.w c.in-None.ensures

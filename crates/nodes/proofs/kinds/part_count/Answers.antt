@@ -1,14 +1,12 @@
 -- `nodes::kinds::part_count` meets its contract. Assumes nothing.
-use mathlib.Core.Path.{◌≡◌, ap, ◌∙◌}
-use Prim.Native.Nat.{◌%◌}
-use native.Mathlib.Omega.{arith}
-use Rattle.nodes.specs.declared.kinds.Row as code
-use Rattle.nodes.specs.Table.{row_of}
-use Rattle.nodes.proofs.Lambdas.{row_count, count_few}
+use Rattle.nodes.proofs.Rows.{parts_told, no_parts_told, few_parts}
 use Rattle.nodes.proofs.kinds.part_count.Goals as goal
 
-pub returns : goal.returns
-returns c =
-    let a = c.args in
-    let e : c.row_at-row.result.count ≡ (row_of (a.w % 256)).count = ap (λ (r : code.Row). r.count) c.row_at-row.ensures in
-    record { value = e ∙ row_count a.w; most = omega (arith, e, count_few (a.w % 256)) }
+pub returns-in-Some-clause-value : goal.returns-in-Some-clause-value
+returns-in-Some-clause-value c = parts_told c.args.w c.in-Some.row c.in-Some.ensures
+
+pub returns-in-Some-clause-most : goal.returns-in-Some-clause-most
+returns-in-Some-clause-most c = few_parts c.args.w c.in-Some.row c.in-Some.ensures
+
+pub returns-in-None-clause-value : goal.returns-in-None-clause-value
+returns-in-None-clause-value c = no_parts_told c.args.w c.in-None.ensures

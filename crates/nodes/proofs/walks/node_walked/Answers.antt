@@ -1,5 +1,5 @@
 -- `nodes::walks::node_walked` meets its contract, for every slice and every place. Assumes nothing.
-use native.Mathlib.Omega.{arith}
+use Rattle.std.proofs.Common.{◌∙◌, arith}
 use Rattle.nodes.proofs.Readers.{node_fits, past_end, node_part}
 use Rattle.nodes.proofs.walks.node_walked.Goals as goal
 
@@ -7,10 +7,10 @@ pub returns-then-words-at : goal.returns-then-words-at
 returns-then-words-at c = let a = c.args in past_end a.words.now a.at c.if-words-at.true
 
 pub overflow_add-result : goal.overflow_add-result
-overflow_add-result c = omega (arith, (node_fits c.args.words.now c.args.at _ c.node_size-n.ensures))
+overflow_add-result c = omega (arith, (node_fits c.args.words.now c.args.at _ (c.unwrap_or-n.ensures ∙ c.node_size.ensures)))
 
 pub slice_bounds-result-end-2 : goal.slice_bounds-result-end-2
-slice_bounds-result-end-2 c = omega (arith, (node_fits c.args.words.now c.args.at _ c.node_size-n.ensures))
+slice_bounds-result-end-2 c = omega (arith, (node_fits c.args.words.now c.args.at _ (c.unwrap_or-n.ensures ∙ c.node_size.ensures)))
 
 pub returns : goal.returns
-returns c = let a = c.args in node_part a.words.now a.at _ c.node_size-n.ensures
+returns c = let a = c.args in node_part a.words.now a.at _ (c.unwrap_or-n.ensures ∙ c.node_size.ensures)

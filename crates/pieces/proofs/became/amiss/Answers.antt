@@ -1,8 +1,13 @@
 -- `pieces::became::amiss` meets its contract. Assumes nothing.
+use mathlib.Core.Path.{refl}
+use Rattle.calculus.specs.Words.{put}
+use Rattle.calculus.specs.Reduction.{amiss}
 use Rattle.pieces.proofs.became.amiss.Goals as goal
 
-pub returns-then-scheme : goal.returns-then-scheme
-returns-then-scheme c = rw (c.if-scheme.true, c.scheme_wrong.ensures)
+pub returns-in-Ml : goal.returns-in-Ml
+unfolding amiss
+returns-in-Ml c = rw c.in-Ml.is record { placed = tt; told = refl }
 
-pub returns : goal.returns
-returns c = rw c.if-scheme.false
+pub returns-in-Scheme : goal.returns-in-Scheme
+unfolding amiss put
+returns-in-Scheme c = rw (c.word.ensures, c.in-Scheme.is) record { placed = tt; told = (_, refl, refl) }

@@ -1,8 +1,8 @@
 -- `pieces::became::number_in` meets its contract. Assumes nothing.
+use mathlib.Core.Path.{refl}
+use Rattle.calculus.specs.Words.{put}
 use Rattle.pieces.proofs.became.number_in.Goals as goal
 
-pub returns-then-scheme : goal.returns-then-scheme
-returns-then-scheme c = rw c.if-scheme.true
-
-pub returns : goal.returns
-returns c = rw c.if-scheme.false
+pub returns-clause-told : goal.returns-clause-told
+unfolding put
+returns-clause-told c = (_, refl, refl)

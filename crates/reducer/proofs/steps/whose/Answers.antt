@@ -1,18 +1,7 @@
 -- `reducer::steps::whose` meets its contract. Assumes nothing.
-use native.Mathlib.Omega.{arith}
-use Rattle.reducer.proofs.Stepping.{from_the_start, at_any_rate}
+use Rattle.reducer.proofs.Stepping.{turns_whole}
 use Rattle.reducer.proofs.steps.whose.Goals as goal
+use Rattle.std.proofs.Common.{of_calls}
 
-pub turn-found-requires : goal.turn-found-requires
-turn-found-requires c = c.requires
-
-pub returns-in_default : goal.returns-in_default
-returns-in_default c =
-    let t = c.turn-found.ensures in
-    record { spanned = t.spanned; is = at_any_rate t.is _ _ _ c.in_default.is }
-
-pub turn-requires : goal.turn-requires
-turn-requires c = (c.requires.0, omega arith)
-
-pub returns : goal.returns
-returns c = record { spanned = c.turn.ensures.spanned; is = from_the_start c.turn.ensures.is }
+pub returns-clause-is : goal.returns-clause-is
+returns-clause-is c = turns_whole _ c.turn_from.ensures.is (λ p. search of_calls) c.or_else.ensures

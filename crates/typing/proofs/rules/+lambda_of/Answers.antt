@@ -1,22 +1,29 @@
 -- `typing::rules::lambda_of` meets its contract: each way out is one law of Variables. The measure is the number of lambdas between. Assumes
 -- nothing.
-use Rattle.std.proofs.Common.{refl}
-use Rattle.typing.proofs.Variables.{no_scope, scope_past_end, own, foreign, outer}
+use Rattle.std.proofs.Common.{arith}
+use Rattle.typing.proofs.Variables.{no_scope, scope_past_end, row_sort, no_kind, by_sort, outer}
 use Rattle.typing.proofs.rules.+lambda_of.Goals as goal
+use Rattle.typing.proofs.rules.+lambda_of.Goals.{then-scope-eq0-via-then-scope-eq0, then-scope-eq0-via-else-scope-eq0+then-types-scope}
 
 pub returns-then-scope-eq0 : goal.returns-then-scope-eq0
-returns-then-scope-eq0 t c = no_scope _ _ _ _ _ c.if-scope-eq0.true
+returns-then-scope-eq0 t c =
+    elim c.then-scope-eq0.branch [
+      | then-scope-eq0-via-then-scope-eq0 w ↦ no_scope _ _ _ _ _ w.if-scope-eq0.true
+      | then-scope-eq0-via-else-scope-eq0+then-types-scope w ↦ scope_past_end _ _ _ _ _ w.if-scope-eq0.false w.if-types-scope.true
+    ]
 
-pub returns-then-all-scope : goal.returns-then-all-scope
-returns-then-all-scope t c = scope_past_end _ _ _ _ _ c.if-scope-eq0.false c.if-all-scope.true
+pub returns-then-between-gt0 : goal.returns-then-between-gt0
+returns-then-between-gt0 t c =
+    outer _ _ _ _ _ c.if-scope-eq0.false (λ e. omega (arith, e)) _ _ c.from-out.ensures c.lambda_of.ensures
 
-pub returns-then-row_at-sort : goal.returns-then-row_at-sort
-returns-then-row_at-sort t c =
-    own _ _ _ _ _ c.if-scope-eq0.false c.if-all-scope.false _ c.row_at.ensures c.if-between-eq0.true c.if-row_at-sort.true
-
-pub returns-then-between-eq0 : goal.returns-then-between-eq0
-returns-then-between-eq0 t c =
-    foreign _ _ _ _ _ c.if-scope-eq0.false c.if-all-scope.false _ c.row_at.ensures c.if-between-eq0.true c.if-row_at-sort.false
+pub returns-in_err-row : goal.returns-in_err-row
+returns-in_err-row t c =
+    rw c.from_residual.ensures
+    (no_kind _ _ _ _ _ c.if-scope-eq0.false (row_sort c.args.types.words.now c.args.scope _ c.in_err-row.ensures) (omega arith))
 
 pub returns : goal.returns
-returns t c = outer _ _ _ _ _ c.if-scope-eq0.false c.if-all-scope.false c.if-between-eq0.false _ _ refl c.lambda_of.ensures
+returns t c =
+    let h =
+    by_sort _ _ _ _ _ c.if-scope-eq0.false c.if-types-scope.false _ (row_sort c.args.types.words.now c.args.scope _ c.in_ok-row.ensures)
+    (omega arith) in
+    rw c.then_some.ensures (rw c.is_of.ensures h)

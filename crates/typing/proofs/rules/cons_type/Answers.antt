@@ -2,8 +2,8 @@
 use Rattle.typing.proofs.Operations.{cons_other, cons_rule}
 use Rattle.typing.proofs.rules.cons_type.Goals as goal
 
-pub returns-then-e-eq0 : goal.returns-then-e-eq0
-returns-then-e-eq0 c = cons_other _ _ _ _ _ c.element-e.ensures c.if-e-eq0.true
+pub returns-in_err-e : goal.returns-in_err-e
+returns-in_err-e c = rw c.from_residual.ensures (cons_other _ _ _ _ _ c.element.ensures c.in_err-e.was)
 
 pub returns : goal.returns
-returns c = cons_rule _ _ _ _ _ c.element-e.ensures c.if-e-eq0.false _ c.if_same.ensures
+returns c = cons_rule _ _ _ _ _ c.element.ensures _ c.in_ok-e.was _ c.if_same.ensures

@@ -1,18 +1,22 @@
 -- `typing::rules::result_1` meets its contract: each way out is one law of RuleResults. Assumes nothing.
-use Rattle.typing.proofs.RuleResults.{one_fix, one_other, one_hd, one_tl, one_null}
+use Rattle.typing.proofs.RuleResults.{tl_other, null_other, one_hd, one_tl, one_null}
 use Rattle.typing.proofs.rules.result_1.Goals as goal
 
-pub returns-then-w-eq-ML_FIX : goal.returns-then-w-eq-ML_FIX
-returns-then-w-eq-ML_FIX c = one_fix _ _ _ _ _ c.if-w-eq-ML_FIX.true _ c.fix_type.ensures
+pub returns-in-Hd : goal.returns-in-Hd
+returns-in-Hd c = rw c.in-Hd.is (one_hd _ _ c.args.at _ _ c.element.ensures)
 
-pub returns-then-e-eq0 : goal.returns-then-e-eq0
-returns-then-e-eq0 c = one_other _ _ _ _ _ c.if-w-eq-ML_FIX.false _ c.element-e.ensures c.if-e-eq0.true
+pub returns-in_err-element-in-Tl : goal.returns-in_err-element-in-Tl
+returns-in_err-element-in-Tl c =
+    rw (c.in-Tl.is, c.from_residual.ensures) (tl_other _ _ c.args.at _ _ c.element-in-Tl.ensures c.in_err-element-in-Tl.was)
 
-pub returns-then-w-eq-ML_HD : goal.returns-then-w-eq-ML_HD
-returns-then-w-eq-ML_HD c = one_hd _ _ _ _ _ c.if-w-eq-ML_FIX.false _ c.element-e.ensures c.if-e-eq0.false c.if-w-eq-ML_HD.true
+pub returns-in_ok-element-in-Tl : goal.returns-in_ok-element-in-Tl
+returns-in_ok-element-in-Tl c = rw c.in-Tl.is (one_tl _ _ c.args.at _ _ c.element-in-Tl.ensures _ c.in_ok-element-in-Tl.was)
 
-pub returns-then-w-eq-ML_TL : goal.returns-then-w-eq-ML_TL
-returns-then-w-eq-ML_TL c = one_tl _ _ _ _ _ c.if-w-eq-ML_FIX.false _ c.element-e.ensures c.if-e-eq0.false c.if-w-eq-ML_TL.true
+pub returns-in_err-element-in-Null : goal.returns-in_err-element-in-Null
+returns-in_err-element-in-Null c =
+    rw (c.in-Null.is, c.from_residual-in_err-element-in-Null.ensures)
+    (λ h. null_other _ _ c.args.at _ _ c.element-in-Null.ensures c.in_err-element-in-Null.was)
 
-pub returns : goal.returns
-returns c = one_null _ _ _ _ _ c.if-w-eq-ML_FIX.false _ c.element-e.ensures c.if-e-eq0.false c.if-w-eq-ML_HD.false c.if-w-eq-ML_TL.false
+pub returns-in_ok-element-in-Null : goal.returns-in_ok-element-in-Null
+returns-in_ok-element-in-Null c =
+    rw c.in-Null.is (λ h. one_null _ _ c.args.at _ _ c.element-in-Null.ensures _ c.in_ok-element-in-Null.was h)

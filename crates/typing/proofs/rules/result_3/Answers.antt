@@ -2,8 +2,8 @@
 use Rattle.typing.proofs.RuleResults.{three_test, three_rule}
 use Rattle.typing.proofs.rules.result_3.Goals as goal
 
-pub returns-then-former_at-ne-NUMBERS : goal.returns-then-former_at-ne-NUMBERS
-returns-then-former_at-ne-NUMBERS c = three_test _ _ _ _ _ _ c.former_at.ensures c.if-former_at-ne-NUMBERS.true
+pub returns-in_err-number : goal.returns-in_err-number
+returns-in_err-number c = rw c.from_residual.ensures (three_test _ _ _ _ _ _ c.number.ensures c.in_err-number.was)
 
 pub returns : goal.returns
-returns c = three_rule _ _ _ _ _ _ c.former_at.ensures c.if-former_at-ne-NUMBERS.false _ c.if_same.ensures
+returns c = three_rule _ _ _ _ _ _ c.number.ensures _ c.in_ok-number.was _ c.if_same.ensures

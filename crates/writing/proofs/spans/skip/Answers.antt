@@ -3,25 +3,21 @@ use native.Mathlib.Omega.{arith}
 use Rattle.writing.proofs.Measures.{span_turn, span_end, span_over}
 use Rattle.writing.proofs.spans.skip.Goals as goal
 
-pub loop-i-init : goal.loop-i-init
-loop-i-init c = (omega arith, omega arith, omega arith)
-
-pub returns-then-left-eq0 : goal.returns-then-left-eq0
-returns-then-left-eq0 c =
+pub returns-then-left-eq0-clause-is : goal.returns-then-left-eq0-clause-is
+returns-then-left-eq0-clause-is c =
     let l = c.loop-i in
-    record { within = l.invariant.0; is = omega (arith, l.invariant.2, span_over c.args.words.now l.left l.i c.if-left-eq0.true) }
+    omega (arith, l.invariant.is, span_over c.args.words.now l.left l.i c.if-left-eq0.true)
 
 pub loop-i-preserved : goal.loop-i-preserved
 loop-i-preserved c =
     let l = c.loop-i in
-    let ws = c.args.words.now in
-    let n = c.part_count in (
-      omega arith,
-      omega (arith, l.invariant.1, n.ensures.most),
-      span_turn ws l.left l.i n.result _ c.if-left-eq0.false c.loop-i-test.true n.ensures.value l.invariant.2,
-    )
+    let n = c.part_count in
+    record {
+      most = omega (arith, l.invariant.most, n.ensures.most);
+      is = span_turn c.args.words.now l.left l.i n.result _ c.if-left-eq0.false c.loop-i-test.true n.ensures.value l.invariant.is;
+    }
 
-pub returns : goal.returns
-returns c =
+pub returns-clause-is : goal.returns-clause-is
+returns-clause-is c =
     let l = c.loop-i in
-    record { within = l.invariant.0; is = omega (arith, l.invariant.2, span_end c.args.words.now l.left l.i c.loop-i-test.false) }
+    omega (arith, l.invariant.is, span_end c.args.words.now l.left l.i c.loop-i-test.false)

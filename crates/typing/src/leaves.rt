@@ -1,0 +1,54 @@
+// The typing at a term that has no part which is a term.
+
+ghost use Rattle.calculus.specs.Trees.{ml, sc};
+ghost use Rattle.typing.specs.Answers.{inferred, formed};
+ghost use Rattle.typing.specs.Infers.{Leaf, Infers};
+
+use crate::rules::binder;
+use crate::{Fault, Typed};
+use nodes::kinds::{Language, Shape};
+use types::{Types, type_end};
+
+// The ML term at `at`, whose word has the shape, inside the lambda at `scope`.
+pub fn leaf(types: Types, shape: Shape, scope: usize, at: usize) -> Result<Typed, Fault>
+    requires { Leaf types.words.now at shape }
+    ensures { Infers ml types.entry.words.now at scope types.entry.link.now types.entry.link.now (inferred result) }
+{
+    match shape {
+        Shape::Variable => {
+            let lambda = binder(types, Language::Ml, scope, at)?;
+            Ok(Typed {
+                reference: lambda + 1,
+                end: at + 1,
+            })
+        }
+        Shape::Number => Ok(Typed {
+            reference: at,
+            end: at + 1,
+        }),
+        Shape::Nil => Ok(Typed {
+            reference: at,
+            end: type_end(types.words, at + 1),
+        }),
+        Shape::Wrong => Ok(Typed {
+            reference: at + 1,
+            end: type_end(types.words, at + 1),
+        }),
+        _ => Err(Fault { at }),
+    }
+}
+
+// The same of a Scheme term. Not one function with `leaf`: a Scheme term has no type to answer with.
+pub fn scheme_leaf(types: Types, shape: Shape, scope: usize, at: usize) -> Result<usize, Fault>
+    requires { Leaf types.words.now at shape }
+    ensures { Infers sc types.entry.words.now at scope types.entry.link.now types.entry.link.now (formed result) }
+{
+    match shape {
+        Shape::Variable => {
+            binder(types, Language::Scheme, scope, at)?;
+            Ok(at + 1)
+        }
+        Shape::Number | Shape::Nil | Shape::Wrong => Ok(at + 1),
+        _ => Err(Fault { at }),
+    }
+}
