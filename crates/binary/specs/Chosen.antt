@@ -1,6 +1,6 @@
 -- What each function is to answer: for an operator of two parts or an if0, by the words of its parts, what it becomes.
 use Rattle.std.specs.Prelude.{ℕ, ◌+◌, ◌≤◌, cond, leb, List, ◌≡◌, Option, None, Some}
-use Rattle.calculus.specs.Trees.{Op2, APP, ADD, SUB, CONS, Term, num, wrong, numbers, if0}
+use Rattle.calculus.specs.Trees.{Lang, Op2, APP, ADD, SUB, CONS, Term, num, wrong, numbers, if0}
 use Rattle.calculus.specs.Words.{largest, words}
 use Rattle.calculus.specs.Reduction as calculus
 use Rattle.calculus.specs.Reduction.{becomes, amiss, on_numbers, contract, contract2}
@@ -33,10 +33,10 @@ SmallBoth None = Unit {0}
 SmallBoth (Some p) = (p.0 ≤ largest) × (p.1 ≤ largest)
 
 -- What both parts come to, whatever is made of two numbers.
-pub record BothNumbers (i : Language) (x y : List ℕ) (r : Option (ℕ × ℕ)) : Type 0 where
+pub record BothNumbers (x y : List ℕ) (r : Option (ℕ × ℕ)) : Type 0 where
   pub small : SmallBoth r
-  pub of : (a b : Term (as_lang i)) → x ≡ words a → y ≡ words b → (f : ℕ → ℕ → calculus.Became (as_lang i))
-      → on_numbers (as_lang i) a b f ≡ both r (amiss (as_lang i) 1) f
+  pub of : (l : Lang) (a b : Term l) → x ≡ words a → y ≡ words b → (f : ℕ → ℕ → calculus.Became l)
+      → on_numbers l a b f ≡ both r (amiss l 1) f
 
 -- Application.
 pub record OfApply (i : Language) (x y : List ℕ) (r : Became) : Type 0 where

@@ -11,7 +11,7 @@ use nodes::kinds::{LARGEST, Language, Operator2};
 use nodes::words::N;
 use pieces::became::{Became, Piece, amiss, number_in};
 use pieces::codes::Wrong;
-use pieces::values::{Value, value_of};
+use pieces::values::{Value, body_of, value_of};
 
 // The words of the type of numbers.
 const NUMBERS: &[u32] = &[N];
@@ -27,38 +27,41 @@ fn sum(language: Language, a: u32, b: u32) -> Became<'static>
     }
     match language {
         Language::Ml => Became::Becomes(Piece::Led(Wrong::Over.word(language), NUMBERS)),
-        Language::Scheme => amiss(language, Wrong::Over),
+        Language::Scheme => amiss(language, Wrong::Over.code()),
     }
 }
 
 // Both numbers, if both parts are numbers.
-fn numbers(language: Language, first: &[u32], second: &[u32]) -> Option<(u32, u32)>
+#[inline(always)]
+fn numbers(first: &[u32], second: &[u32]) -> Option<(u32, u32)>
     requires { Few first.now × Few second.now }
-    ensures { BothNumbers language first.now second.now result }
+    ensures { BothNumbers first.now second.now result }
 {
-    match (value_of(language, first), value_of(language, second)) {
+    match (value_of(first), value_of(second)) {
         (Value::Number(a), Value::Number(b)) => Some((a, b)),
         _ => None,
     }
 }
 
 // Application of a function to an argument.
+#[inline(always)]
 fn of_apply<'a>(language: Language, function: &'a [u32], argument: &'a [u32]) -> Became<'a>
     requires { Few function.now × Few argument.now }
     ensures placed { BecameIn result }
     ensures told { OfApply language function.now argument.now result }
 {
-    match value_of(language, function) {
-        Value::Lambda(body) => Became::Becomes(Piece::Substituted {
+    match value_of(function) {
+        Value::Lambda(parts) => Became::Becomes(Piece::Substituted {
             language,
-            body,
+            body: body_of(language, parts),
             value: argument,
         }),
-        _ => amiss(language, Wrong::NoFunction),
+        _ => amiss(language, Wrong::NoFunction.code()),
     }
 }
 
 // An operator of two parts.
+#[inline(always)]
 pub fn contract_2<'a>(
     language: Language,
     operator: Operator2,
@@ -73,8 +76,8 @@ pub fn contract_2<'a>(
         Operator2::Apply => of_apply(language, first, second),
         Operator2::Cons => Became::Nothing,
         Operator2::Add | Operator2::Subtract => {
-            let Some((a, b)) = numbers(language, first, second) else {
-                return amiss(language, Wrong::NoNumber);
+            let Some((a, b)) = numbers(first, second) else {
+                return amiss(language, Wrong::NoNumber.code());
             };
             match operator {
                 Operator2::Add => sum(language, a, b),
@@ -85,6 +88,7 @@ pub fn contract_2<'a>(
 }
 
 // if0, by its test.
+#[inline(always)]
 pub fn of_if<'a>(
     language: Language,
     test: &[u32],
@@ -95,9 +99,9 @@ pub fn of_if<'a>(
     ensures placed { BecameIn result }
     ensures told { OfIf language test.now second.now third.now result }
 {
-    match value_of(language, test) {
+    match value_of(test) {
         Value::Number(0) => Became::Becomes(Piece::Part(second)),
         Value::Number(_) => Became::Becomes(Piece::Part(third)),
-        _ => amiss(language, Wrong::NoNumber),
+        _ => amiss(language, Wrong::NoNumber.code()),
     }
 }

@@ -7,7 +7,7 @@ use native.Mathlib.Omega.{arith}
 use denote.Bor.{Bor}
 use Rattle.calculus.specs.Trees.{Ty, N, list, ◌to◌, Lang, ml, sc, Term, num, ms, sm, cons}
 use Rattle.calculus.specs.Words.{word, put, put_ty, words, words_ty}
-use Rattle.calculus.specs.Kinds.{type}
+use Rattle.calculus.specs.Kinds.{type, term}
 use Rattle.calculus.specs.Reduction.{becomes, on_lambda, on_list, on_lump, to_ml, to_scheme}
 use Rattle.calculus.proofs.Sizes.{put_ty_append, put_append}
 use Rattle.nodes.specs.declared.kinds.Language.{Language}
@@ -37,55 +37,55 @@ pub misfit_scheme : {w : Wrong} {ts : List ℕ} → Misfit Scheme w ts Nothing
 misfit_scheme = record { of = λ t q. refl }
 
 -- At the type N.
-pub number_number : (i : Language) {ts vs : List ℕ} {n : ℕ} {r : Became} → Looks (other i) vs (Number n) → Tells r (becomes (num {l = as_lang i} n))
+pub number_number : (i : Language) {ts vs : List ℕ} {n : ℕ} {r : Became} → Looks vs (Number n) → Tells r (becomes (num {l = as_lang i} n))
     → AtType i ts vs r N
 unfolding to_ml to_scheme
-number_number Ml s t = record { of = λ v p q. rw (on_shown _ _ (s.of v q)) t }
-number_number Scheme s t = record { of = λ v p q. rw (on_shown _ _ (s.of v q)) t }
+number_number Ml s t = record { of = λ v p q. rw (on_shown _ _ (s.of sc v q)) t }
+number_number Scheme s t = record { of = λ v p q. rw (on_shown _ _ (s.of ml v q)) t }
 
-pub number_other : (i : Language) {ts vs : List ℕ} {v : Value} {r : Became} → Looks (other i) vs v → ((n : ℕ) → v ≡ Number n → ⊥)
+pub number_other : (i : Language) {ts vs : List ℕ} {v : Value} {r : Became} → Looks vs v → ((n : ℕ) → v ≡ Number n → ⊥)
     → Misfit i NoNumber ts r
     → AtType i ts vs r N
 unfolding to_ml to_scheme
-number_other Ml s h m = record { of = λ v p q. rw (no_number _ _ (s.of v q) h) (m.of N p) }
-number_other Scheme s h m = record { of = λ v p q. rw (no_number _ _ (s.of v q) h) (m.of N p) }
+number_other Ml s h m = record { of = λ v p q. rw (no_number _ _ (s.of sc v q) h) (m.of N p) }
+number_other Scheme s h m = record { of = λ v p q. rw (no_number _ _ (s.of ml v q) h) (m.of N p) }
 
 -- At an owner's L.
 pub lump_ml : {w : ℕ} {vs : List ℕ} → AtLump Ml w vs Nothing
 unfolding to_ml
 lump_ml = record { of = λ o e v q. refl }
 
-pub lump_other : {w : ℕ} {vs : List ℕ} {v : Value} → Looks Ml vs v → ((u : ℕ) (p : Bor (List ℕ)) → v ≡ Lump u p → ⊥) → AtLump Scheme w vs Nothing
+pub lump_other : {w : ℕ} {vs : List ℕ} {v : Value} → Looks vs v → ((u : ℕ) (p : Bor (List ℕ)) → v ≡ Lump u p → ⊥) → AtLump Scheme w vs Nothing
 unfolding to_scheme
-lump_other s h = record { of = λ o e v q. rw (no_lump _ _ (s.of v q) h) refl }
+lump_other s h = record { of = λ o e v q. rw (no_lump _ _ (s.of ml v q) h) refl }
 
-pub lump_kept : {w u : ℕ} {vs : List ℕ} {p : Bor (List ℕ)} → Looks Ml vs (Lump u p) → (u ≡ w → ⊥) → AtLump Scheme w vs Nothing
+pub lump_kept : {w u : ℕ} {vs : List ℕ} {p : Bor (List ℕ)} → Looks vs (Lump u p) → (u ≡ w → ⊥) → AtLump Scheme w vs Nothing
 unfolding to_scheme on_lump
 lump_kept s h =
     record {
       of = λ o e v q.
-          let z = lump_shown (s.of v q) in rw (z.2, ne_eqb o z.0 (λ y. h (omega (arith, z.3, e, y)))) refl;
+          let z = lump_shown (s.of ml v q) in rw (z.2, ne_eqb o z.0 (λ y. h (omega (arith, z.3, e, y)))) refl;
     }
 
-pub lump_opened : {w u : ℕ} {vs : List ℕ} {p : Bor (List ℕ)} → Looks Ml vs (Lump u p) → u ≡ w → AtLump Scheme w vs (Becomes (Part p))
+pub lump_opened : {w u : ℕ} {vs : List ℕ} {p : Bor (List ℕ)} → Looks vs (Lump u p) → u ≡ w → AtLump Scheme w vs (Becomes (Part p))
 unfolding to_scheme on_lump
 lump_opened s h =
     record {
       of = λ o e v q.
-          let z = lump_shown (s.of v q) in rw (z.2, eq-eqb o z.0 (omega (arith, z.3, e, h))) (_, refl, sym z.4);
+          let z = lump_shown (s.of ml v q) in rw (z.2, eq-eqb o z.0 (omega (arith, z.3, e, h))) (_, refl, sym z.4);
     }
 
 -- At a type {t}.
-pub nil_ml : {ts vs : List ℕ} {p ps : Bor (List ℕ)} → Looks Scheme vs (Nil p) → AtList Ml ts ps.now vs (Becomes (Led 24 ps))
+pub nil_ml : {ts vs : List ℕ} {p ps : Bor (List ℕ)} → Looks vs (Nil p) → AtList Ml ts ps.now vs (Becomes (Led 24 ps))
 unfolding to_ml on_list put
 nil_ml s =
     record {
-      of = λ t e. record { of = λ v p q. rw (nil_shown (s.of v q)).1 (_, refl, ap (λ (x : List ℕ). 24 ∷ x) (sym e)) };
+      of = λ t e. record { of = λ v p q. rw (nil_shown (s.of sc v q)).1 (_, refl, ap (λ (x : List ℕ). 24 ∷ x) (sym e)) };
     }
 
-pub nil_scheme : {ts ps vs : List ℕ} {p : Bor (List ℕ)} → Looks Ml vs (Nil p) → AtList Scheme ts ps vs (Becomes (Word 39))
+pub nil_scheme : {ts ps vs : List ℕ} {p : Bor (List ℕ)} → Looks vs (Nil p) → AtList Scheme ts ps vs (Becomes (Word 39))
 unfolding to_scheme on_list put
-nil_scheme s = record { of = λ t e. record { of = λ v p q. rw (nil_shown (s.of v q)).1 (_, refl, refl) } }
+nil_scheme s = record { of = λ t e. record { of = λ v p q. rw (nil_shown (s.of ml v q)).1 (_, refl, refl) } }
 
 cons_words_lem : (q m : ℕ) (l : Lang) (t : Ty) (a b : Term l)
     → q ∷ m ∷ put_ty t (put a (m ∷ 3 ∷ put_ty t (put b []))) ≡ q ∷ ((m ∷ put_ty t []) ++ (put a [] ++ ((m ∷ 3 ∷ put_ty t []) ++ put b [])))
@@ -104,23 +104,31 @@ module _ {x y z : List ℕ} (t : Ty) (e : x ≡ words_ty t) where
   unfolding put put_ty
   cons_in_scheme a b h g = rw (e, h, g) (cons_words_lem 40 45 ml t a b)
 
-pub cons_brought : (i : Language) {ts vs : List ℕ} {p q ps : Bor (List ℕ)} → Looks (other i) vs (Cons p q)
+pub cons_brought : (i : Language) {ts vs : List ℕ} {a p q ps : Bor (List ℕ)} → Looks vs (Cons a) → Split a.now p.now q.now
     → AtList i ts ps.now vs (Becomes (piece.Cons i ps p q))
 unfolding to_ml to_scheme on_list
-cons_brought Ml s =
+cons_brought Ml s d =
     record {
-      of = λ t e. record { of = λ v p q. let z = cons_shown (s.of v q) in rw z.2 (_, refl, cons_in_ml t e z.0 z.1 z.3 z.4) };
+      of = λ t e. record {
+        of = λ v p q.
+            let z = cons_shown (s.of sc v q) in
+            let y = d.of (term sc) z.0 (words z.1) z.3 in rw z.2 (_, refl, cons_in_ml t e z.0 z.1 y.0 y.1);
+      };
     }
-cons_brought Scheme s =
+cons_brought Scheme s d =
     record {
-      of = λ t e. record { of = λ v p q. let z = cons_shown (s.of v q) in rw z.2 (_, refl, cons_in_scheme t e z.0 z.1 z.3 z.4) };
+      of = λ t e. record {
+        of = λ v p q.
+            let z = cons_shown (s.of ml v q) in
+            let y = d.of (term ml) z.0 (words z.1) z.3 in rw z.2 (_, refl, cons_in_scheme t e z.0 z.1 y.0 y.1);
+      };
     }
 
-pub list_other : (i : Language) {ts ps vs : List ℕ} {v : Value} {r : Became} → Looks (other i) vs v → ((p : Bor (List ℕ)) → v ≡ Nil p → ⊥)
-    → ((p q : Bor (List ℕ)) → v ≡ Cons p q → ⊥) → Misfit i NoList ts r → AtList i ts ps vs r
+pub list_other : (i : Language) {ts ps vs : List ℕ} {v : Value} {r : Became} → Looks vs v → ((p : Bor (List ℕ)) → v ≡ Nil p → ⊥)
+    → ((p : Bor (List ℕ)) → v ≡ Cons p → ⊥) → Misfit i NoList ts r → AtList i ts ps vs r
 unfolding to_ml to_scheme
-list_other Ml s h g m = record { of = λ t e. record { of = λ v p q. rw (no_list _ _ _ (s.of v q) h g) (m.of (list t) p) } }
-list_other Scheme s h g m = record { of = λ t e. record { of = λ v p q. rw (no_list _ _ _ (s.of v q) h g) (m.of (list t) p) } }
+list_other Ml s h g m = record { of = λ t e. record { of = λ v p q. rw (no_list _ _ _ (s.of sc v q) h g) (m.of (list t) p) } }
+list_other Scheme s h g m = record { of = λ t e. record { of = λ v p q. rw (no_list _ _ _ (s.of ml v q) h g) (m.of (list t) p) } }
 
 -- At a type t to u.
 function_words_lem : (x y z : ℕ) (l : Lang) (t u : Ty) (v : Term l) (k : List ℕ)
@@ -131,7 +139,7 @@ function_words_lem x y z l t u v k =
     ∙ ap (λ (w : List ℕ). put_ty u [] ++ (y ∷ w)) (put_append v [] (z ∷ put_ty t k) ∙ ap (λ (w : List ℕ). put v [] ++ (z ∷ w))
     (put_ty_append t [] k)))
 
-pub function_brought : (i : Language) {ts ps : List ℕ} {b f u vs : Bor (List ℕ)} → Looks (other i) vs.now (Lambda b) → Split ps f.now u.now
+pub function_brought : (i : Language) {ts ps : List ℕ} {b f u vs : Bor (List ℕ)} → Looks vs.now (Lambda b) → Split ps f.now u.now
     → AtFunction i ts ps vs.now (Becomes (Function i f u vs))
 unfolding to_ml to_scheme on_lambda put
 function_brought Ml s d =
@@ -140,7 +148,7 @@ function_brought Ml s d =
         of = λ v p q.
             let z = d.of type t (words_ty u) e in
             let y = put_ty_append t [] _ ∙ ap (λ (w : List ℕ). put_ty t [] ++ w) (function_words_lem 30 35 45 sc t u v (16 ∷ [])) in
-            rw (lambda_shown (s.of v q)).2 (_, refl, rw (z.0, z.1, q) (ap (λ (w : List ℕ). 18 ∷ w) y));
+            rw (lambda_shown (s.of sc v q)).2 (_, refl, rw (z.0, z.1, q) (ap (λ (w : List ℕ). 18 ∷ w) y));
       };
     }
 function_brought Scheme s d =
@@ -148,13 +156,13 @@ function_brought Scheme s d =
       of = λ t u e. record {
         of = λ v p q.
             let z = d.of type t (words_ty u) e in
-            rw (lambda_shown (s.of v q)).2
+            rw (lambda_shown (s.of ml v q)).2
             (_, refl, rw (z.0, z.1, q) (ap (λ (w : List ℕ). 34 ∷ w) (function_words_lem 45 19 30 ml t u v (32 ∷ []))));
       };
     }
 
-pub function_other : (i : Language) {ts ps vs : List ℕ} {v : Value} {r : Became} → Looks (other i) vs v → ((p : Bor (List ℕ)) → v ≡ Lambda p → ⊥)
+pub function_other : (i : Language) {ts ps vs : List ℕ} {v : Value} {r : Became} → Looks vs v → ((p : Bor (List ℕ)) → v ≡ Lambda p → ⊥)
     → Misfit i NoFunction ts r → AtFunction i ts ps vs r
 unfolding to_ml to_scheme
-function_other Ml s h m = record { of = λ t u e. record { of = λ v p q. rw (no_lambda _ _ (s.of v q) h) (m.of (t to u) p) } }
-function_other Scheme s h m = record { of = λ t u e. record { of = λ v p q. rw (no_lambda _ _ (s.of v q) h) (m.of (t to u) p) } }
+function_other Ml s h m = record { of = λ t u e. record { of = λ v p q. rw (no_lambda _ _ (s.of sc v q) h) (m.of (t to u) p) } }
+function_other Scheme s h m = record { of = λ t u e. record { of = λ v p q. rw (no_lambda _ _ (s.of ml v q) h) (m.of (t to u) p) } }

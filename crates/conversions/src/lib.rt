@@ -11,7 +11,6 @@ use nodes::words::{ML_NIL, SCHEME_NIL};
 use pieces::became::{Became, Piece, number_in};
 use pieces::codes::Wrong;
 use pieces::values::{Value, split, value_of};
-use pieces::words::other;
 
 // A value that has not the type: a wrong in ML.
 fn misfit(into: Language, wrong: Wrong, at: &[u32]) -> Became<'_>
@@ -31,7 +30,7 @@ fn at_number<'a>(into: Language, at: &'a [u32], value: &[u32]) -> Became<'a>
     ensures placed { BecameIn result }
     ensures told { AtType into at.now value.now result N }
 {
-    match value_of(other(into), value) {
+    match value_of(value) {
         Value::Number(n) => number_in(into, n),
         _ => misfit(into, Wrong::NoNumber, at),
     }
@@ -45,7 +44,7 @@ fn at_lump(into: Language, owner: u32, value: &[u32]) -> Became<'_>
 {
     match into {
         Language::Ml => Became::Nothing,
-        Language::Scheme => match value_of(Language::Ml, value) {
+        Language::Scheme => match value_of(value) {
             Value::Lump(sealed, inside) if sealed == owner => Became::Becomes(Piece::Part(inside)),
             _ => Became::Nothing,
         },
@@ -58,17 +57,20 @@ fn at_list<'a>(into: Language, at: &'a [u32], element: &'a [u32], value: &'a [u3
     ensures placed { BecameIn result }
     ensures told { AtList into at.now element.now value.now result }
 {
-    match value_of(other(into), value) {
+    match value_of(value) {
         Value::Nil(_) => match into {
             Language::Ml => Became::Becomes(Piece::Led(ML_NIL, element)),
             Language::Scheme => Became::Becomes(Piece::Word(SCHEME_NIL)),
         },
-        Value::Cons(head, tail) => Became::Becomes(Piece::Cons {
-            into,
-            element,
-            head,
-            tail,
-        }),
+        Value::Cons(parts) => {
+            let (head, tail) = split(parts);
+            Became::Becomes(Piece::Cons {
+                into,
+                element,
+                head,
+                tail,
+            })
+        }
         _ => misfit(into, Wrong::NoList, at),
     }
 }
@@ -79,7 +81,7 @@ fn at_function<'a>(into: Language, at: &'a [u32], parts: &'a [u32], value: &'a [
     ensures placed { BecameIn result }
     ensures told { AtFunction into at.now parts.now value.now result }
 {
-    match value_of(other(into), value) {
+    match value_of(value) {
         Value::Lambda(_) => {
             let (from, to) = split(parts);
             Became::Becomes(Piece::Function {
@@ -94,6 +96,7 @@ fn at_function<'a>(into: Language, at: &'a [u32], parts: &'a [u32], value: &'a [
 }
 
 // ms or sm of a value at a type.
+#[inline]
 pub fn converted<'a>(into: Language, at: &'a [u32], value: &'a [u32]) -> Became<'a>
     requires { Few at.now × Few value.now }
     ensures placed { BecameIn result }

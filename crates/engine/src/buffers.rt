@@ -3,7 +3,7 @@
 ghost use Rattle.std.specs.Prelude.{take};
 ghost use Rattle.engine.specs.Buffered.{Room, held, Settled};
 
-use writing::Writer;
+use writing::{Writer, copy};
 
 // The first n words of the first buffer stay; every other word of both becomes zero.
 #[tactic(auto, using(writing::proofs::Stores::padded_is, calculus::proofs::Padding::padded_none))]
@@ -21,7 +21,7 @@ pub fn settle(front: bool, first: &mut [u32], second: &mut [u32], n: usize)
         first.old second.old first.new second.new }
 {
     if !front {
-        first[..n].copy_from_slice(&second[..n]);
+        copy(&second[..n], &mut first[..n]);
     }
     keep(first, second, n);
 }

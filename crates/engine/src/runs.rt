@@ -11,6 +11,7 @@ use crate::reductions::reduce;
 use checker::admit;
 use ends::Report;
 use nodes::refusals::Refusal;
+use writing::copy;
 
 // A refusal: both buffers all zero.
 fn refused(r: Refusal, first: &mut [u32], second: &mut [u32]) -> Result<Report, Refusal>
@@ -34,7 +35,7 @@ pub fn begin(
     if ends::capacity(first.len(), second.len()) < count {
         return refused(Refusal::Capacity, first, second);
     }
-    first[..count].copy_from_slice(terms);
+    copy(terms, &mut first[..count]);
     Ok(reduce(first, second, count, limit))
 }
 

@@ -1,17 +1,19 @@
--- The short way: that a word stands alone is told by its row. Assumes nothing.
-use Rattle.std.proofs.Common.{ℕ, ◌%◌, ◌/◌, Bool, true, false, cond, ◌&&◌, Option, None, Some, ◌≡◌, refl, sym, ◌∙◌, ap, length}
+-- The short way: that a word stands alone is told by its row, and that the kinds without parts are eight. Assumes nothing.
+use Rattle.std.proofs.Common.{ℕ, ◌%◌, ◌/◌, ◌<◌, ◌≤◌, Bool, true, false, cond, ◌&&◌, ◌||◌, Option, None, Some, ◌≡◌, refl, sym, ◌∙◌, ap, arith, length}
 use Rattle.std.proofs.Math.Option.{none, some}
 use Rattle.std.proofs.Math.Option as math
 use lib.Dec.{eqb}
+use borrow.Author.Tests.{ne_eqb}
 use Rattle.calculus.specs.Verdicts.{found}
 use Rattle.calculus.specs.Trees.{ml, sc}
 use Rattle.calculus.specs.Kinds.{Sort, type, term, row_for, sort_of}
 use Rattle.calculus.specs.Kinds as calculus
 use Rattle.calculus.specs.Nodes.{alone}
 use Rattle.nodes.specs.declared.kinds.Row as code_row
-use Rattle.nodes.specs.Table.{as_sort, as_sorts, same_sort, Row, read, entry, row_of, told, in_range, row_due}
+use Rattle.nodes.specs.Table.{as_sort, as_sorts, same_sort, Row, read, entry, row_of, told, in_range, row_due, rows}
 use Rattle.nodes.proofs.Dues.{sort_told, no_kind, due_told}
 use Rattle.nodes.proofs.Rows.{as_many}
+use Rattle.nodes.proofs.Table.{past, every_kind}
 
 alone_due : (w : ℕ) → alone w ≡ told (row_due (sort_of w) w) false (λ r. eqb (length r.parts) 0)
 unfolding alone
@@ -62,3 +64,43 @@ module _ (w : ℕ) (r : code_row.Row) (known : read (Some r) ≡ row_of (w % 256
       by : (b : Bool) → cond b false false ≡ false
       by true = refl
       by false = refl
+
+-- The kinds of which the row has no parts are these eight. That a kind is none of them is told by a fact for each.
+abbrev pub is_lone : ℕ → Bool
+is_lone k = eqb k 1 || (eqb k 2 || (eqb k 16 || (eqb k 17 || (eqb k 32 || (eqb k 33 || (eqb k 39 || eqb k 44))))))
+
+abbrev pub NoneOf : ℕ → Type 0
+NoneOf k =
+    (((((((Unit {0} × ¬ (k ≡ 1)) × ¬ (k ≡ 2)) × ¬ (k ≡ 16)) × ¬ (k ≡ 17)) × ¬ (k ≡ 32)) × ¬ (k ≡ 33)) × ¬ (k ≡ 39)) × ¬ (k ≡ 44)
+
+not_lone : (k : ℕ) → NoneOf k → is_lone k ≡ false
+not_lone k n =
+    rw (
+      ne_eqb k 1 n.0.0.0.0.0.0.0.1,
+      ne_eqb k 2 n.0.0.0.0.0.0.1,
+      ne_eqb k 16 n.0.0.0.0.0.1,
+      ne_eqb k 17 n.0.0.0.0.1,
+      ne_eqb k 32 n.0.0.0.1,
+      ne_eqb k 33 n.0.0.1,
+      ne_eqb k 39 n.0.1,
+      ne_eqb k 44 n.1,
+    )
+
+none_past : (k : ℕ) → rows ≤ k → is_lone k ≡ false
+none_past k h =
+    let no : (n : ℕ) → n < 64 → ¬ (k ≡ n) = λ n g e. omega (arith, g, e, h) in
+    not_lone k (
+      (
+        ((((((tt, no 1 (omega arith)), no 2 (omega arith)), no 16 (omega arith)), no 17 (omega arith)), no 32 (omega arith)), no 33 (omega arith)),
+        no 39 (omega arith),
+      ),
+      no 44 (omega arith),
+    )
+
+pub lone_kinds : (k : ℕ) → told (row_of k) false (λ r. eqb (length r.parts) 0) ≡ is_lone k
+unfolding row_of
+lone_kinds k =
+    every_kind (λ j. told (row_of j) false (λ r. eqb (length r.parts) 0)) is_lone refl (λ j h. rw (past j h, none_past j h)) k
+
+pub no_other : (k : ℕ) → NoneOf k → told (row_of k) false (λ r. eqb (length r.parts) 0) ≡ false
+no_other k n = lone_kinds k ∙ not_lone k n

@@ -10,22 +10,25 @@ use Rattle.calculus.specs.Verdicts.{found}
 use Rattle.calculus.specs.Scope.{part_count}
 use Rattle.calculus.specs.Kinds.{Sort, type, term, Row, table, row_in, sort_of_kind}
 use Rattle.calculus.specs.Trees.{ml, sc}
-use Rattle.nodes.specs.declared.kinds.Row as code
-use Rattle.nodes.specs.Table.{read, row_of, told, rows, listed}
+use Rattle.nodes.specs.declared.kinds.Entry as code_entry
+use Rattle.nodes.specs.Table.{read_entry, row_of, told, rows, listed}
 use Rattle.nodes.specs.Table as nodes
 
--- A list whose items read as the rows from a kind on: its k-th item reads as the row that many kinds on.
-read_in : (xs : List (Option code.Row)) (i n : ℕ) → map read xs ≡ listed row_of i n → (k : ℕ) → k < n → (d : Option code.Row)
-    → read (slice_index_or xs k d) ≡ row_of (i + k)
-read_in xs i zero e k h d = absurd (not-suc-le-zero h)
-read_in [] i (suc n) e k h d = absurd (omega (arith, ap length e))
-read_in (x ∷ xs) i (suc n) e zero h d = rw add-zero (ap (λ (l : List (Option nodes.Row)). get_or l 0 None) e)
-read_in (x ∷ xs) i (suc n) e (suc k) h d =
-    read_in xs (suc i) n (ap (λ (l : List (Option nodes.Row)). drop 1 l) e) k (le_of_suc-le-suc h) d ∙ ap row_of (suc-add i k ∙ sym (add-suc i k))
+-- A list whose items read as what a function makes of the numbers from one on: its k-th item reads as what it makes of that many numbers on.
+module _ {A B : Type 0} (f : A → B) (g : ℕ → B) where
+  read_in : (xs : List A) (i n : ℕ) → map f xs ≡ listed g i n → (k : ℕ) → k < n → (d : A) → f (slice_index_or xs k d) ≡ g (i + k)
+  read_in xs i zero e k h d = absurd (not-suc-le-zero h)
+  read_in [] i (suc n) e k h d = absurd (omega (arith, ap length e))
+  read_in (x ∷ xs) i (suc n) e zero h d = rw add-zero (ap (λ (l : List B). get_or l 0 (f x)) e)
+  read_in (x ∷ xs) i (suc n) e (suc k) h d =
+      read_in xs (suc i) n (ap (λ (l : List B). drop 1 l) e) k (le_of_suc-le-suc h) d ∙ ap g (suc-add i k ∙ sym (add-suc i k))
 
-pub read_at : (xs : List (Option code.Row)) (n : ℕ) → map read xs ≡ listed row_of 0 n → (k : ℕ) → k < n → (d : Option code.Row)
-    → read (slice_index_or xs k d) ≡ row_of k
-read_at xs n e k h d = read_in xs 0 n e k h d ∙ ap row_of (zero-add k)
+  pub read_at : (xs : List A) (n : ℕ) → map f xs ≡ listed g 0 n → (k : ℕ) → k < n → (d : A) → f (slice_index_or xs k d) ≡ g k
+  read_at xs n e k h d = read_in xs 0 n e k h d ∙ ap g (zero-add k)
+
+pub entry_at : (xs : List code_entry.Entry) (n : ℕ) → map (λ (e : code_entry.Entry). read_entry e) xs ≡ listed row_of 0 n → (k : ℕ) → k < n
+    → (d : code_entry.Entry) → read_entry (slice_index_or xs k d) ≡ row_of k
+entry_at xs n e k h d = read_at (λ (x : code_entry.Entry). read_entry x) row_of xs n e k h d
 
 module _ {A : Type 0} (f : ℕ → A) (d : A) where
   from_at : (n i k : ℕ) → k < n → get_or (listed f i n) k d ≡ f (i + k)
@@ -82,3 +85,18 @@ unfolding row_of
 count_few w =
     rw (sym (row_count w)) (leb-true (told (row_of (w % 256)) 0 (λ r. length r.parts)) 3
     (by_rows (λ o. leb (told o 0 (λ r. length r.parts)) 3) (λ o. true) refl refl (w % 256)))
+
+-- So many parts has a number below the table's end, by its item; and none has one past it.
+pub parts_listed : (xs : List code_entry.Entry) (n : ℕ)
+    → map (λ (e : code_entry.Entry). length e.parts.now) xs ≡ listed (λ k. told (row_of k) 0 (λ r. length r.parts)) 0 n
+    → (w : ℕ) → w % 256 < n → (d : code_entry.Entry) → length (slice_index_or xs (w % 256) d).parts.now ≡ part_count w
+parts_listed xs n e w h d =
+    read_at (λ (x : code_entry.Entry). length x.parts.now) (λ k. told (row_of k) 0 (λ r. length r.parts)) xs n e (w % 256) h d ∙ row_count w
+
+pub parts_few : (xs : List code_entry.Entry) (n : ℕ)
+    → map (λ (e : code_entry.Entry). length e.parts.now) xs ≡ listed (λ k. told (row_of k) 0 (λ r. length r.parts)) 0 n
+    → (w : ℕ) → w % 256 < n → (d : code_entry.Entry) → length (slice_index_or xs (w % 256) d).parts.now ≤ 3
+parts_few xs n e w h d = rw (parts_listed xs n e w h d) (count_few w)
+
+pub parts_past : (w : ℕ) → rows ≤ w % 256 → 0 ≡ part_count w
+parts_past w h = sym (ap (λ (o : Option nodes.Row). told o 0 (λ r. length r.parts)) (past (w % 256) h)) ∙ row_count w

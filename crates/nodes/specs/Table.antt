@@ -1,5 +1,6 @@
 -- The table of kinds as code has it, computed from the table of the calculus.
 use Rattle.std.specs.Prelude.{ℕ, zero, suc, Bool, true, false, ◌&&◌, List, [], ◌∷◌, Option, None, Some, leb}
+use Rattle.std.specs.Borrow.{Bor}
 use Rattle.calculus.specs.Verdicts.{found}
 use Rattle.calculus.specs.Trees.{N, L, list, ◌to◌, Lang, ml, sc, Op1, HD, TL, FIX, NULL?, TEST, Op2, APP, ADD, SUB, CONS}
 use Rattle.calculus.specs.Scope.{same_lang}
@@ -17,6 +18,8 @@ use Rattle.nodes.specs.declared.kinds.Operator2.TheVariants.{Apply, Add, Subtrac
 use Rattle.nodes.specs.declared.kinds.Shape.{Shape}
 use Rattle.nodes.specs.declared.kinds.Shape.TheVariants as s
 use Rattle.nodes.specs.declared.kinds.Row as code_row
+use Rattle.nodes.specs.declared.kinds.Kind as code_kind
+use Rattle.nodes.specs.declared.kinds.Entry as code_entry
 
 -- A language, a sort and sorts of the code, as the calculus has them.
 abbrev pub as_lang : Language → Lang
@@ -89,6 +92,14 @@ abbrev pub read : Option code_row.Row → Option Row
 read None = None
 read (Some r) = Some (record { sort = as_sort r.sort; shape = r.shape; parts = as_sorts r.parts.now; low = r.low; high = r.high })
 
+-- What the table says of a number, as a row, if it is a kind.
+abbrev pub row_with : Bor (List code.Sort) → Option code_kind.Kind → Option Row
+row_with ps None = None
+row_with ps (Some k) = Some (record { sort = as_sort k.sort; shape = k.shape; parts = as_sorts ps.now; low = k.low; high = k.high })
+
+abbrev pub read_entry : code_entry.Entry → Option Row
+read_entry e = row_with e.parts e.kind
+
 -- The row of a kind.
 abbrev pub entry : {s : Sort} → calculus.Row s → Row
 entry {s} r =
@@ -113,9 +124,9 @@ in_range low high o = leb low o && leb o high
 abbrev pub row_due : Sort → ℕ → Option Row
 row_due s w = found (row_for s w) None (λ r. Some (entry r))
 
--- How many numbers there are up to the last kind.
+-- How many numbers have a place in the table.
 abbrev pub rows : ℕ
-rows = 46
+rows = 64
 
 abbrev pub listed {ℓ} : {A : Type ℓ} → (ℕ → A) → ℕ → ℕ → List A
 listed f k zero = []

@@ -2,7 +2,7 @@
 
 ghost use Rattle.std.specs.Prelude.{◌≡◌, ◌%◌, ◌≤◌};
 ghost use Rattle.calculus.specs.Scope.{part_count};
-ghost use Rattle.nodes.specs.Table.{as_sort, same_sort, in_range, read, row_of, shape_of};
+ghost use Rattle.nodes.specs.Table.{as_sort, same_sort, in_range, read, read_entry, row_of, shape_of};
 
 // The two languages of a recipe. The default is what the unused places of a stack of languages hold.
 #[derive(Clone, Copy, Default, PartialEq, Eq)]
@@ -80,40 +80,64 @@ const LAST_OWNER: u32 = 255;
 
 const LAST_TEST: u32 = 3;
 
+// What the table says of a number: its parts' sorts, none where it is no kind, so that its parts are counted without a question; and the rest, if
+// it is one.
+#[derive(Clone, Copy)]
+pub struct Entry {
+    pub parts: &'static [Sort],
+    pub kind: Option<Kind>,
+}
+
+// A kind without its parts: its sort, its shape, and the least and the greatest operand.
+#[derive(Clone, Copy)]
+pub struct Kind {
+    pub sort: Sort,
+    pub shape: Shape,
+    pub low: u32,
+    pub high: u32,
+}
+
+const NONE: Entry = Entry {
+    parts: &[],
+    kind: None,
+};
+
 // A row whose operand is 0, and one whose operand has a range.
 macro_rules! row {
     ($sort:ident, $shape:expr, $parts:expr) => {
         row!($sort, $shape, $parts, 0, 0)
     };
     ($sort:ident, $shape:expr, $parts:expr, $low:expr, $high:expr) => {
-        Some(Row {
-            sort: $sort,
-            shape: $shape,
+        Entry {
             parts: &$parts,
-            low: $low,
-            high: $high,
-        })
+            kind: Some(Kind {
+                sort: $sort,
+                shape: $shape,
+                low: $low,
+                high: $high,
+            }),
+        }
     };
 }
 
-// The table: a row for each kind, none for a number that is no kind.
-pub static KINDS: [Option<Row>; 46] = [
-    None,
+// The table: a row for each kind, and NONE for a number that is no kind. A kind after 45 is one more row in the place of a NONE.
+pub static KINDS: [Entry; 64] = [
+    NONE,
     row!(TYPE, Shape::Numbers, []), // 1 N
     row!(TYPE, Shape::Lump, [], 0, LAST_OWNER), // 2 L
     row!(TYPE, Shape::List, [TYPE]), // 3 list
     row!(TYPE, Shape::Function, [TYPE, TYPE]), // 4 function
-    None,
-    None,
-    None,
-    None,
-    None,
-    None,
-    None,
-    None,
-    None,
-    None,
-    None,
+    NONE,
+    NONE,
+    NONE,
+    NONE,
+    NONE,
+    NONE,
+    NONE,
+    NONE,
+    NONE,
+    NONE,
+    NONE,
     row!(ML, Shape::Variable, [], 0, LARGEST), // 16 variable
     row!(ML, Shape::Number, [], 0, LARGEST), // 17 number
     row!(ML, Shape::Lambda, [TYPE, ML]), // 18 lambda
@@ -129,7 +153,7 @@ pub static KINDS: [Option<Row>; 46] = [
     row!(ML, Shape::Operator1(Operator1::Null), [ML]), // 28 null?
     row!(ML, Shape::Wrong, [TYPE], 1, LAST_CODE), // 29 wrong
     row!(ML, Shape::Boundary, [TYPE, SCHEME]), // 30 ms
-    None,
+    NONE,
     row!(SCHEME, Shape::Variable, [], 0, LARGEST), // 32 variable
     row!(SCHEME, Shape::Number, [], 0, LARGEST), // 33 number
     row!(SCHEME, Shape::Lambda, [SCHEME]), // 34 lambda
@@ -154,6 +178,24 @@ pub static KINDS: [Option<Row>; 46] = [
     ), // 43 test
     row!(SCHEME, Shape::Wrong, [], 1, LAST_CODE), // 44 wrong
     row!(SCHEME, Shape::Boundary, [TYPE, ML]), // 45 sm
+    NONE,
+    NONE,
+    NONE,
+    NONE,
+    NONE,
+    NONE,
+    NONE,
+    NONE,
+    NONE,
+    NONE,
+    NONE,
+    NONE,
+    NONE,
+    NONE,
+    NONE,
+    NONE,
+    NONE,
+    NONE,
 ];
 
 impl Row {
@@ -172,13 +214,29 @@ impl Row {
     }
 }
 
+impl Entry {
+    // The row, if the number is a kind.
+    fn row(self) -> Option<Row>
+        ensures { read result ≡ read_entry self }
+    {
+        let kind = self.kind?;
+        Some(Row {
+            sort: kind.sort,
+            shape: kind.shape,
+            parts: self.parts,
+            low: kind.low,
+            high: kind.high,
+        })
+    }
+}
+
 // The row of a word's kind.
 pub fn row_at(w: u32) -> Option<Row>
     ensures { read result ≡ row_of (w % 256) }
 {
     let kind = (w % 256) as usize;
     if kind < KINDS.len() {
-        KINDS[kind]
+        KINDS[kind].row()
     } else {
         None
     }
@@ -197,8 +255,10 @@ pub fn part_count(w: u32) -> usize
     ensures value { result ≡ part_count w }
     ensures most { result ≤ 3 }
 {
-    match row_at(w) {
-        Some(row) => row.parts.len(),
-        None => 0,
+    let kind = (w % 256) as usize;
+    if kind < KINDS.len() {
+        KINDS[kind].parts.len()
+    } else {
+        0
     }
 }

@@ -5,11 +5,10 @@ ghost use Rattle.calculus.specs.Trees.{num};
 ghost use Rattle.calculus.specs.Words.{largest};
 ghost use Rattle.calculus.specs.Reduction.{becomes, amiss};
 ghost use Rattle.nodes.specs.Table.{as_lang};
-ghost use Rattle.pieces.specs.Codes.{code};
 ghost use Rattle.pieces.specs.Pieces.{BecameIn, Becoming, Tells};
 
-use crate::codes::Wrong;
 use nodes::kinds::Language;
+use nodes::words::wrong;
 
 // Three outcomes, as the calculus has them: nothing and a raise are answers there, and no failures.
 #[derive(Clone, Copy)]
@@ -50,13 +49,14 @@ pub enum Piece<'a> {
     },
 }
 
-// A value that no rule takes: a wrong in Scheme.
-pub fn amiss<'a>(language: Language, wrong: Wrong) -> Became<'a>
-    ensures { Becoming result (amiss (as_lang language) (code wrong)) }
+// A value that no rule takes: a wrong in Scheme, by its code.
+pub fn amiss<'a>(language: Language, code: u32) -> Became<'a>
+    requires { code ≤ 65535 }
+    ensures { Becoming result (amiss (as_lang language) code) }
 {
     match language {
         Language::Ml => Became::Nothing,
-        Language::Scheme => Became::Becomes(Piece::Word(wrong.word(language))),
+        Language::Scheme => Became::Becomes(Piece::Word(wrong(language, code))),
     }
 }
 

@@ -9,7 +9,7 @@ use denote.Bor.{Bor}
 use mir.Val.{bool_byte}
 use Rattle.calculus.specs.Trees.{Lang, ml, sc, Test, is_fun, is_list, is_null, is_num, Op1, HD, TL, FIX, NULL?, TEST, Term, num, op1, fix}
 use Rattle.calculus.specs.Words.{word, by, put, put_ty, words, test_number}
-use Rattle.calculus.specs.Kinds.{test_of}
+use Rattle.calculus.specs.Kinds.{term, test_of}
 use Rattle.calculus.specs.Reduction.{Form, form, becomes, amiss, answer, on_lambda, on_list, contract1}
 use Rattle.nodes.specs.declared.kinds.Language.{Language}
 use Rattle.nodes.specs.declared.kinds.Language.TheVariants.{Ml, Scheme}
@@ -23,26 +23,28 @@ use Rattle.pieces.specs.declared.became.Piece.TheVariants.{Part, Led, Led2, Subs
 use Rattle.pieces.specs.declared.values.Value.{Value}
 use Rattle.pieces.specs.declared.values.Value.TheVariants.{Number, Lambda, Nil, Cons}
 use Rattle.pieces.specs.Pieces.{Tells}
-use Rattle.pieces.specs.Values.{Shows, a_number, a_lambda, a_nil, a_cons, no_value, Looks}
+use Rattle.pieces.specs.Values.{Split, BodyOf, Shows, a_number, a_lambda, a_nil, a_cons, no_value, Looks}
 use Rattle.pieces.proofs.Looks.{lambda_shown, nil_shown, cons_shown, no_lambda, no_list}
 use Rattle.unary.specs.Chosen.{OfHead, OfTail, OfFix, OfNull, OfTest, Tested, OfOne}
 
 -- hd and tl.
 module _ {i : Language} where
-  pub head_cons : {p q : Bor (List ℕ)} → OfHead i (Cons p q) (Becomes (Part p))
+  pub head_cons : {p q : Bor (List ℕ)} {k : List ℕ} → Split p.now q.now k → OfHead i (Cons p) (Becomes (Part q))
   unfolding contract1 on_list
-  head_cons = record { of = λ a s. let z = cons_shown s in rw z.2 (_, refl, sym z.3) }
+  head_cons d =
+      record { of = λ a s. let z = cons_shown s in rw z.2 (_, refl, sym (d.of (term (as_lang i)) z.0 (words z.1) z.3).0) }
 
   pub head_nil : {p : Bor (List ℕ)} → OfHead i (Nil p) (Becomes (Led (word (by (as_lang i) 29 44) 4) p))
   unfolding contract1 on_list put
   head_nil =
       record { of = λ a s. let z = nil_shown s in rw z.1 (_, refl, ap (λ (v : List ℕ). word (by (as_lang i) 29 44) 4 ∷ v) (sym z.2)) }
 
-  pub tail_cons : {p q : Bor (List ℕ)} → OfTail i (Cons p q) (Becomes (Part q))
+  pub tail_cons : {p r : Bor (List ℕ)} {k : List ℕ} → Split p.now k r.now → OfTail i (Cons p) (Becomes (Part r))
   unfolding contract1 on_list
-  tail_cons = record { of = λ a s. let z = cons_shown s in rw z.2 (_, refl, sym z.4) }
+  tail_cons d =
+      record { of = λ a s. let z = cons_shown s in rw z.2 (_, refl, sym (d.of (term (as_lang i)) z.0 (words z.1) z.3).1) }
 
-  module _ {v : Value} {r : Became} (h : (p : Bor (List ℕ)) → v ≡ Nil p → ⊥) (g : (p q : Bor (List ℕ)) → v ≡ Cons p q → ⊥)
+  module _ {v : Value} {r : Became} (h : (p : Bor (List ℕ)) → v ≡ Nil p → ⊥) (g : (p : Bor (List ℕ)) → v ≡ Cons p → ⊥)
       (t : Tells r (amiss (as_lang i) 3)) where
     pub head_other : OfHead i v r
     unfolding contract1
@@ -61,9 +63,10 @@ unfolding contract1 on_list amiss
 tail_nil_scheme t = record { of = λ a s. rw (nil_shown s).1 t }
 
 -- fix, and null? of ML.
-pub fix_lambda : {body node : Bor (List ℕ)} → OfFix node.now (Lambda body) (Becomes (Substituted Ml body node))
+pub fix_lambda : {p body node : Bor (List ℕ)} → BodyOf ml p.now body.now → OfFix node.now (Lambda p) (Becomes (Substituted Ml body node))
 unfolding contract1 on_lambda
-fix_lambda = record { of = λ a q s. let z = lambda_shown s in rw z.2 (_, refl, (fix a, z.1, refl, z.3, q, refl)) }
+fix_lambda g =
+    record { of = λ a q s. let z = lambda_shown s in rw z.2 (_, refl, (fix a, z.1, refl, g.of z.0 z.1 z.3, q, refl)) }
 
 pub fix_other : {v : Value} {ws : List ℕ} → ((p : Bor (List ℕ)) → v ≡ Lambda p → ⊥) → OfFix ws v Nothing
 unfolding contract1
@@ -73,11 +76,11 @@ pub null_nil : {p : Bor (List ℕ)} {r : Became} → Tells r (becomes (num {l = 
 unfolding contract1 on_list
 null_nil t = record { of = λ a s. rw (nil_shown s).1 t }
 
-pub null_cons : {p q : Bor (List ℕ)} {r : Became} → Tells r (becomes (num {l = ml} 1)) → OfNull (Cons p q) r
+pub null_cons : {p : Bor (List ℕ)} {r : Became} → Tells r (becomes (num {l = ml} 1)) → OfNull (Cons p) r
 unfolding contract1 on_list
 null_cons t = record { of = λ a s. rw (cons_shown s).2 t }
 
-pub null_other : {v : Value} → ((p : Bor (List ℕ)) → v ≡ Nil p → ⊥) → ((p q : Bor (List ℕ)) → v ≡ Cons p q → ⊥) → OfNull v Nothing
+pub null_other : {v : Value} → ((p : Bor (List ℕ)) → v ≡ Nil p → ⊥) → ((p : Bor (List ℕ)) → v ≡ Cons p → ⊥) → OfNull v Nothing
 unfolding contract1
 null_other h g = record { of = λ a s. rw (no_list _ _ _ s h g) refl }
 
@@ -87,7 +90,7 @@ unfolding answer
 no_function (a_number n) h = refl
 no_function (a_lambda p t b g) h = absurd (h p refl)
 no_function (a_nil p t g) h = refl
-no_function (a_cons p q x y g k) h = refl
+no_function (a_cons p x y g) h = refl
 no_function no_value h = refl
 
 no_nil : {v : Value} {f : Form sc} → Shows sc v f → ((p : Bor (List ℕ)) → v ≡ Nil p → ⊥) → answer is_null f ≡ 1
@@ -95,16 +98,16 @@ unfolding answer
 no_nil (a_number n) h = refl
 no_nil (a_lambda p t b g) h = refl
 no_nil (a_nil p t g) h = absurd (h p refl)
-no_nil (a_cons p q x y g k) h = refl
+no_nil (a_cons p x y g) h = refl
 no_nil no_value h = refl
 
-neither : {v : Value} {f : Form sc} → Shows sc v f → ((p : Bor (List ℕ)) → v ≡ Nil p → ⊥) → ((p q : Bor (List ℕ)) → v ≡ Cons p q → ⊥)
+neither : {v : Value} {f : Form sc} → Shows sc v f → ((p : Bor (List ℕ)) → v ≡ Nil p → ⊥) → ((p : Bor (List ℕ)) → v ≡ Cons p → ⊥)
     → answer is_list f ≡ 1
 unfolding answer
 neither (a_number n) h i = refl
 neither (a_lambda p t b g) h i = refl
 neither (a_nil p t g) h i = absurd (h p refl)
-neither (a_cons p q x y g k) h i = absurd (i p q refl)
+neither (a_cons p x y g) h i = absurd (i p refl)
 neither no_value h i = refl
 
 no_digits : {v : Value} {f : Form sc} → Shows sc v f → ((n : ℕ) → v ≡ Number n → ⊥) → answer is_num f ≡ 1
@@ -112,14 +115,14 @@ unfolding answer
 no_digits (a_number n) h = absurd (h n refl)
 no_digits (a_lambda p t b g) h = refl
 no_digits (a_nil p t g) h = refl
-no_digits (a_cons p q x y g k) h = refl
+no_digits (a_cons p x y g) h = refl
 no_digits no_value h = refl
 
 module _ {v : Value} where
   pub is_no_function : ((p : Bor (List ℕ)) → v ≡ Lambda p → ⊥) → OfTest 0 v false
   is_no_function h = record { of = λ a s. no_function s h }
 
-  pub is_no_list : ((p : Bor (List ℕ)) → v ≡ Nil p → ⊥) → ((p q : Bor (List ℕ)) → v ≡ Cons p q → ⊥) → OfTest 1 v false
+  pub is_no_list : ((p : Bor (List ℕ)) → v ≡ Nil p → ⊥) → ((p : Bor (List ℕ)) → v ≡ Cons p → ⊥) → OfTest 1 v false
   is_no_list h g = record { of = λ a s. neither s h g }
 
   pub is_not_nil : ((p : Bor (List ℕ)) → v ≡ Nil p → ⊥) → OfTest 2 v false
@@ -133,7 +136,7 @@ pub nil_is_list : {p : Bor (List ℕ)} → OfTest 1 (Nil p) true
 unfolding answer
 nil_is_list = record { of = λ a s. rw (nil_shown s).1 refl }
 
-pub cons_is_list : {p q : Bor (List ℕ)} → OfTest 1 (Cons p q) true
+pub cons_is_list : {p : Bor (List ℕ)} → OfTest 1 (Cons p) true
 unfolding answer
 cons_is_list = record { of = λ a s. rw (cons_shown s).2 refl }
 
@@ -212,10 +215,10 @@ module _ {ws : List ℕ} {v : Value} {r : Became} where
       let z : get_or ws 0 0 / 256 ≡ test_number k = ap (λ (x : List ℕ). get_or x 0 0 / 256) q ∙ omega arith in
       rw (the_test k) at (rw z at (t.of a s))
 
-module _ {i : Language} {ps ws : List ℕ} {v : Value} (s : Looks i ps v) (ps_is : ps ≡ drop 1 ws) where
+module _ (i : Language) {ps ws : List ℕ} {v : Value} (s : Looks ps v) (ps_is : ps ≡ drop 1 ws) where
   shown : (p : Op1 (as_lang i)) (a : Term (as_lang i)) → ws ≡ words (op1 p a) → Shows (as_lang i) v (form a)
   unfolding put
-  shown p a q = s.of a (ps_is ∙ ap (drop 1) q)
+  shown p a q = s.of (as_lang i) a (ps_is ∙ ap (drop 1) q)
 
   pub one_head : {r : Became} → OfHead i v r → OfOne i Hd ws r
   one_head t = record { of = λ p a e q. head_only _ (as_lang i) p a e (t.of a (shown p a q)) }

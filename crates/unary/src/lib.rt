@@ -10,7 +10,7 @@ use nodes::kinds::{Language, Operator1};
 use nodes::words::LIST;
 use pieces::became::{Became, Piece, amiss, number_in};
 use pieces::codes::Wrong;
-use pieces::values::{Value, value_of};
+use pieces::values::{Value, body_of, split, value_of};
 
 // hd. The wrong that hd of nil becomes has, in ML, the type of its elements.
 fn head(language: Language, list: Value) -> Became
@@ -19,9 +19,9 @@ fn head(language: Language, list: Value) -> Became
     ensures told { OfHead language list.entry result }
 {
     match list {
-        Value::Cons(head, _) => Became::Becomes(Piece::Part(head)),
+        Value::Cons(parts) => Became::Becomes(Piece::Part(split(parts).0)),
         Value::Nil(element) => Became::Becomes(Piece::Led(Wrong::OfNil.word(language), element)),
-        _ => amiss(language, Wrong::NoList),
+        _ => amiss(language, Wrong::NoList.code()),
     }
 }
 
@@ -32,29 +32,30 @@ fn tail(language: Language, list: Value) -> Became
     ensures told { OfTail language list.entry result }
 {
     match list {
-        Value::Cons(_, tail) => Became::Becomes(Piece::Part(tail)),
+        Value::Cons(parts) => Became::Becomes(Piece::Part(split(parts).1)),
         Value::Nil(element) => match language {
             Language::Ml => Became::Becomes(Piece::Led2(
                 Wrong::OfNil.word(language),
                 LIST,
                 element,
             )),
-            Language::Scheme => amiss(language, Wrong::OfNil),
+            Language::Scheme => amiss(language, Wrong::OfNil.code()),
         },
-        _ => amiss(language, Wrong::NoList),
+        _ => amiss(language, Wrong::NoList.code()),
     }
 }
 
 // fix: the lambda's body with the whole node for the variable.
+#[inline(always)]
 fn of_fix<'a>(node: &'a [u32], value: Value<'a>) -> Became<'a>
     requires { Few node.now × Small value }
     ensures placed { BecameIn result }
     ensures told { OfFix node.now value.entry result }
 {
     match value {
-        Value::Lambda(body) => Became::Becomes(Piece::Substituted {
+        Value::Lambda(parts) => Became::Becomes(Piece::Substituted {
             language: Language::Ml,
-            body,
+            body: body_of(Language::Ml, parts),
             value: node,
         }),
         _ => Became::Nothing,
@@ -68,7 +69,7 @@ fn of_null(list: Value) -> Became<'static>
 {
     match list {
         Value::Nil(_) => number_in(Language::Ml, 0),
-        Value::Cons(_, _) => number_in(Language::Ml, 1),
+        Value::Cons(_) => number_in(Language::Ml, 1),
         _ => Became::Nothing,
     }
 }
@@ -80,7 +81,7 @@ fn holds(test: u32, value: Value) -> bool
 {
     match test {
         0 => matches!(value, Value::Lambda(_)),
-        1 => matches!(value, Value::Nil(_) | Value::Cons(_, _)),
+        1 => matches!(value, Value::Nil(_) | Value::Cons(_)),
         2 => matches!(value, Value::Nil(_)),
         _ => matches!(value, Value::Number(_)),
     }
@@ -96,6 +97,7 @@ fn of_test(test: u32, value: Value) -> Became<'static>
 }
 
 // An operator of one part.
+#[inline(always)]
 pub fn contract_1(language: Language, operator: Operator1, node: &[u32]) -> Became<'_>
     requires { Few node.now }
     ensures placed { BecameIn result }
@@ -104,7 +106,7 @@ pub fn contract_1(language: Language, operator: Operator1, node: &[u32]) -> Beca
     let [word, part @ ..] = node else {
         return Became::Nothing;
     };
-    let value = value_of(language, part);
+    let value = value_of(part);
     match operator {
         Operator1::Hd => head(language, value),
         Operator1::Tl => tail(language, value),

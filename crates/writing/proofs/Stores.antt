@@ -7,7 +7,7 @@ use native.Mathlib.Omega.{arith}
 use native.Mathlib.Decide.{dec_le, dec_lt}
 use lib.ListN.{length, take, drop, get_or, set, replicate, length-append, length-replicate, replicate-append-replicate, take-append-drop}
 use lib.ListN.{drop_of_length-le}
-use lib.Seq.{sets, sets-eq, length-sets, take_all, take_at, set_out, set_comm, length-take-le, drop-drop, drop-cons, set-append_seam}
+use lib.Seq.{sets, sets-eq, length-sets, take_all, take_at, set_out, set_comm, length-take-le, drop-drop, drop-cons, take-suc, set-append_seam}
 use borrow.Rule.Slice.PartMut.{put_mid}
 use Rattle.calculus.specs.File.{padded}
 use Rattle.writing.specs.declared.Writer.{Writer}
@@ -102,6 +102,22 @@ module _ {A : Type 0} where
       ∙ ap (λ (n : ℕ). set (replicate i x ++ get_or b i x ∷ more) n x) (sym (length-replicate {A = A} i x))
       ∙ set-append_seam (replicate i x) (get_or b i x) more x
       ∙ sym (append_assoc (replicate i x) (x ∷ []) more) ∙ rw (one, add-one i)
+
+  -- One item more is copied; and when all are.
+  pub copy_more : (xs b : List A) (i : ℕ) (d : A) → i < length xs → length b ≡ length xs
+      → set (take i xs ++ drop i b) i (get_or xs i d) ≡ take (i + 1) xs ++ drop (i + 1) b
+  copy_more xs b i d h e =
+      let size : length (take i xs) ≡ i = length-take-le i xs (omega arith) in
+      let more : List A = drop (suc i) b in
+      ap (λ (l : List A). set (take i xs ++ l) i (get_or xs i d)) (drop-cons b i d (omega arith))
+      ∙ ap (λ (n : ℕ). set (take i xs ++ get_or b i d ∷ more) n (get_or xs i d)) (sym size)
+      ∙ set-append_seam (take i xs) (get_or b i d) more (get_or xs i d)
+      ∙ sym (append_assoc (take i xs) (get_or xs i d ∷ []) more) ∙ rw (sym (take-suc xs i d h), add-one i)
+
+  pub copied : (xs b : List A) (i : ℕ) → length xs ≤ i → length b ≡ length xs → take i xs ++ drop i b ≡ xs
+  copied xs b i h e =
+      let past : length b ≤ i = omega (arith, h, e) in
+      rw (take_all i xs h, drop_of_length-le b past) (append-nil xs)
 
   -- Items put from a buffer's start, and x after them: those items, and x after them.
   filled_after : (b b' xs : List A) (k : ℕ) (x : A) → Wrote b 0 xs k b' → filled_to (length b') x (take k b') ≡ filled_to (length b) x xs

@@ -2,12 +2,33 @@
 
 #![tactic(auto)]
 
-ghost use Rattle.std.specs.Prelude.{◌≡◌, [], ◌∷◌, ◌+◌, ◌<◌, length};
+ghost use Rattle.std.specs.Prelude.{◌≡◌, [], ◌∷◌, ◌+◌, ◌<◌, ◌≤◌, length};
 ghost use Rattle.writing.specs.Given.{most_count};
 ghost use Rattle.writing.specs.Puts.{Puts, Filled};
 
 pub mod spans;
 pub mod substitution;
+
+// Items over as many others. A loop, since the library's copy of slices is a call of memmove, a name that the archive for C would need from outside.
+#[tactic(auto, using(crate::proofs::Stores::copy_more, crate::proofs::Stores::copied))]
+pub fn copy<T: Copy>(items: &[T], target: &mut [T])
+    requires { length target.old ≡ length items.now }
+    ensures { target.new ≡ items.now }
+{
+    for i in 0..items.len() {
+        target[i] = items[i];
+    }
+}
+
+// How many of so many items come before a place that is a multiple of 16; none of few items.
+fn uneven(at: usize, count: usize) -> usize
+    ensures { result ≤ count }
+{
+    if count < 64 {
+        return 0;
+    }
+    (16 - at % 16) % 16
+}
 
 // A buffer that is written, and the place of the next item, which may be past its end.
 #[derive(Drop)]
@@ -43,16 +64,29 @@ impl<'a, T: Copy> Writer<'a, T> {
         self.at += 1;
     }
 
-    // All of these items.
+    // All of these items at once.
     #[tactic(auto, using(crate::proofs::Stores::put_part))]
-    pub fn extend(&mut self, items: &[T])
+    fn put_all(&mut self, items: &[T])
         requires { self.old.at + length items.now < most_count }
         ensures { Puts self.old items.now self.new }
     {
         let start = self.at.min(self.buffer.len());
         let end = (self.at + items.len()).min(self.buffer.len());
-        self.buffer[start..end].copy_from_slice(&items[..end - start]);
+        copy(&items[..end - start], &mut self.buffer[start..end]);
         self.at += items.len();
+    }
+
+    // All of these items. Of a long stretch a few first, so that the stores after them straddle no line of the cache.
+    pub fn extend(&mut self, items: &[T])
+        requires { self.old.at + length items.now < most_count }
+        ensures { Puts self.old items.now self.new }
+    {
+        let first = uneven(self.at, items.len());
+        if first == 0 {
+            return self.put_all(items);
+        }
+        self.put_all(&items[..first]);
+        self.put_all(&items[first..]);
     }
 
     // What ends a text: each place from the next item's on has this item. A loop, since std's `fill` promises that only by a law of the clones of T.

@@ -12,8 +12,8 @@ returns-in-Cons-clause-told c = rw c.in-Cons.is two_cons
 pub returns-in_default-clause-told : goal.returns-in_default-clause-told
 returns-in_default-clause-told c =
     elim c.in-Add.is [
-      | inl z ↦ rw z (add_amiss c.in_default.ensures c.amiss.ensures.told)
-      | inr z ↦ rw z (subtract_amiss c.in_default.ensures c.amiss.ensures.told)
+      | inl z ↦ rw z (add_amiss c.in_default.ensures (rw c.code.ensures.value at c.amiss.ensures.told))
+      | inr z ↦ rw z (subtract_amiss c.in_default.ensures (rw c.code.ensures.value at c.amiss.ensures.told))
     ]
 
 pub returns-in-Add-operator-clause-told : goal.returns-in-Add-operator-clause-told

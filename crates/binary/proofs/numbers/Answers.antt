@@ -4,7 +4,7 @@ use Rattle.binary.proofs.numbers.Goals as goal
 
 pub returns-in-Number-Number : goal.returns-in-Number-Number
 returns-in-Number-Number c =
-    both_numbers (rw c.in-Number-Number.is-0 at c.value_of.ensures) (rw c.in-Number-Number.is-1 at c.value_of-2.ensures)
+    both_numbers c.requires.0 c.requires.1 (rw c.in-Number-Number.is-0 at c.value_of.ensures) (rw c.in-Number-Number.is-1 at c.value_of-2.ensures)
 
 pub returns-in_default : goal.returns-in_default
 returns-in_default c = no_second (rw c.in_default.is-0 at c.value_of.ensures) c.value_of-2.ensures c.in_default.not-Number-1

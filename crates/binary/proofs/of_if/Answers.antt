@@ -9,4 +9,6 @@ pub returns-in-Number-clause-told : goal.returns-in-Number-clause-told
 returns-in-Number-clause-told c = if_more c.in-Number.ensures c.in-Number.field-0-test.1
 
 pub returns-in_default : goal.returns-in_default
-returns-in_default c = record { placed = c.amiss.ensures.placed; told = if_other c.value_of.ensures c.in_default.not-Number c.amiss.ensures.told }
+returns-in_default c =
+    let a = rw c.code.ensures.value at c.amiss.ensures in
+    record { placed = a.placed; told = if_other c.value_of.ensures c.in_default.not-Number a.told }

@@ -11,4 +11,4 @@ returns-in-Ml-clause-told c = rw (c.word.ensures, c.in-Ml.is) (over_in_ml _ refl
 
 pub returns-in-Scheme-clause-told : goal.returns-in-Scheme-clause-told
 returns-in-Scheme-clause-told c =
-    rw c.in-Scheme.is (over_in_scheme (rw c.in-Scheme.is at c.amiss.ensures.told) c.if-a-b-le-LARGEST.false)
+    rw c.in-Scheme.is (over_in_scheme (rw (c.in-Scheme.is, c.code.ensures.value) at c.amiss.ensures.told) c.if-a-b-le-LARGEST.false)

@@ -13,7 +13,7 @@ returns-in_default-matches c = rw c.in-0.is (is_no_function c.in_default-matches
 pub returns-in-Nil : goal.returns-in-Nil
 returns-in-Nil c =
     rw c.in-1.is
-    (elim c.in-Nil.is [ inl z ↦ rw z.1 nil_is_list | inr z ↦ rw z.2 cons_is_list ])
+    (elim c.in-Nil.is [ inl z ↦ rw z.1 nil_is_list | inr z ↦ rw z.1 cons_is_list ])
 
 pub returns-in_default-matches-2 : goal.returns-in_default-matches-2
 returns-in_default-matches-2 c = rw c.in-1.is (is_no_list c.in_default-matches-2.not-Nil c.in_default-matches-2.not-Cons)

@@ -1,12 +1,16 @@
 -- `nodes::kinds::part_count` meets its contract. Assumes nothing.
-use Rattle.nodes.proofs.Rows.{parts_told, no_parts_told, few_parts}
+use Rattle.std.proofs.Common.{rules}
+use Rattle.nodes.specs.Table.{row_of}
+use Rattle.nodes.proofs.Table.{parts_listed, parts_few, parts_past}
 use Rattle.nodes.proofs.kinds.part_count.Goals as goal
 
-pub returns-in-Some-clause-value : goal.returns-in-Some-clause-value
-returns-in-Some-clause-value c = parts_told c.args.w c.in-Some.row c.in-Some.ensures
+pub returns-then-kind-lt64-clause-value : goal.returns-then-kind-lt64-clause-value
+unfolding row_of
+returns-then-kind-lt64-clause-value c = search (rules, parts_listed, c.if-kind-lt64.true)
 
-pub returns-in-Some-clause-most : goal.returns-in-Some-clause-most
-returns-in-Some-clause-most c = few_parts c.args.w c.in-Some.row c.in-Some.ensures
+pub returns-then-kind-lt64-clause-most : goal.returns-then-kind-lt64-clause-most
+unfolding row_of
+returns-then-kind-lt64-clause-most c = search (rules, parts_few, c.if-kind-lt64.true)
 
-pub returns-in-None-clause-value : goal.returns-in-None-clause-value
-returns-in-None-clause-value c = no_parts_told c.args.w c.in-None.ensures
+pub returns-else-kind-lt64-clause-value : goal.returns-else-kind-lt64-clause-value
+returns-else-kind-lt64-clause-value c = parts_past c.args.w c.if-kind-lt64.false

@@ -10,4 +10,4 @@ returns-in-Ml c = rw c.in-Ml.is record { placed = tt; told = refl }
 
 pub returns-in-Scheme : goal.returns-in-Scheme
 unfolding amiss put
-returns-in-Scheme c = rw (c.word.ensures, c.in-Scheme.is) record { placed = tt; told = (_, refl, refl) }
+returns-in-Scheme c = rw (c.wrong.ensures, c.in-Scheme.is) record { placed = tt; told = (_, refl, refl) }
