@@ -12,7 +12,7 @@ use native.Mathlib.Decide.{dec_lt}
 use native.Mathlib.Nat.{add-zero}
 use native.Mathlib.Omega.{arith}
 use Rattle.std.proofs.Common.{Option, None, Some}
-use Rattle.std.specs.Option.{option_and_then}
+use Rattle.std.specs.Option.{option_map}
 use Rattle.calculus.specs.Trees.{Ty, N, L, list, ◌to◌}
 use Rattle.calculus.specs.Words.{put_ty, size_ty}
 use Rattle.calculus.specs.Kinds.{Sort, type, Tree, put_tree}
@@ -64,7 +64,7 @@ module _ (w : List ℕ) (p : ℕ) where
 pub former_in : (w : List ℕ) (p : ℕ) (x : Former) → former_at w p ≡ Some x → (0 < p) × (p < length w)
 former_in w p x e = by (shape_at w p) refl e
   where
-    by : (o : Option Shape) → shape_at w p ≡ o → option_and_then former_of o ≡ Some x → (0 < p) × (p < length w)
+    by : (o : Option Shape) → shape_at w p ≡ o → option_map former_of o ≡ Some x → (0 < p) × (p < length w)
     by None q e = let y : ◌≡◌ {A = ℕ} 0 1 = cc in absurd (omega arith)
     by (Some z) q e = shape_in w p z q
 
@@ -82,8 +82,8 @@ means_former w ls lo hi p (list t) m = m.0
 means_former w ls lo hi p (t to u) m = by m.1
   where
     by : Codomain w ls lo hi p (size_ty t) u → former_at w p ≡ Some f.Function
-    by (inl x) = ap (option_and_then former_of) x.0
-    by (inr x) = ap (option_and_then former_of) x.0
+    by (inl x) = ap (option_map former_of) x.0
+    by (inr x) = ap (option_map former_of) x.0
 
 pub means_in : (w ls : List ℕ) (lo hi p : ℕ) (t : Ty) → Means w ls lo hi p t → (0 < p) × (p < length w)
 means_in w ls lo hi p t m = former_in w p (former_ty t) (means_former w ls lo hi p t m)
@@ -99,9 +99,9 @@ tree_shape sort w p t k h d =
 
 pub written_means : (w ls : List ℕ) (lo hi p : ℕ) (t : Ty) → 0 < p → Written w p t → Means w ls lo hi p t
 unfolding Means put_ty
-written_means w ls lo hi p N h x = ap (option_and_then former_of) (tree_shape type w p N x.0 h x.1)
-written_means w ls lo hi p (L o) h x = (ap (option_and_then former_of) (tree_shape type w p (L o) x.0 h x.1), first_word w p _ x.1)
-written_means w ls lo hi p (list t) h x = (ap (option_and_then former_of) (tree_shape type w p (list t) x.0 h x.1), (x.0, past_word p 3 w _ x.1))
+written_means w ls lo hi p N h x = ap (option_map former_of) (tree_shape type w p N x.0 h x.1)
+written_means w ls lo hi p (L o) h x = (ap (option_map former_of) (tree_shape type w p (L o) x.0 h x.1), first_word w p _ x.1)
+written_means w ls lo hi p (list t) h x = (ap (option_map former_of) (tree_shape type w p (list t) x.0 h x.1), (x.0, past_word p 3 w _ x.1))
 written_means w ls lo hi p (t to u) h x =
     let d = past_word p 4 w _ x.1 in
     ((put_ty u x.0, d), inr (tree_shape type w p (t to u) x.0 h x.1, (x.0, past_tree type t (p + 1) w _ d)))

@@ -75,6 +75,11 @@ former_number f.Numbers = 1
 former_number f.Lump = 2
 former_number f.List = 3
 former_number f.Function = 4
+former_number f.Variable = 5
+former_number f.Operation = 6
+former_number f.If0 = 7
+former_number f.Wrong = 8
+former_number f.Boundary = 9
 
 pub other_former : {h : Found Former} {x y : Former} → h ≡ Some x → (former_number x ≡ former_number y → ⊥) → h ≡ Some y → ⊥
 other_former p n q = n (ap former_number (some_is (sym p ∙ q)))

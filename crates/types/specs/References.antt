@@ -1,6 +1,6 @@
 -- What a reference to a type means: a place of the file's words, read by the shape of the word there.
 use Rattle.std.specs.Prelude.{ℕ, suc, ◌+◌, ◌%◌, ◌<◌, ◌≤◌, cond, List, ◌⊎◌, ◌≡◌, Option, Some, None, eqb, get_or, drop}
-use Rattle.std.specs.Option.{option_and_then}
+use Rattle.std.specs.Option.{option_map}
 use Rattle.calculus.specs.Trees.{Ty, N, L, list, ◌to◌}
 use Rattle.calculus.specs.Words.{word, put_ty, size_ty}
 use Rattle.nodes.specs.declared.kinds.Shape.{Shape}
@@ -13,20 +13,25 @@ use Rattle.types.specs.declared.Former.TheVariants as f
 unfoldable pub shape_at : List ℕ → ℕ → Option Shape
 shape_at w p = cond (eqb p 0) None (shape_of (get_or w p 0 % 256))
 
--- How the type that a word of a shape means is formed: N of a number and of an operator of one part, a list of nil, a function of a lambda.
-abbrev pub former_of : Shape → Option Former
-former_of s.Numbers = Some f.Numbers
-former_of s.Number = Some f.Numbers
-former_of (s.Operator1 o) = Some f.Numbers
-former_of s.Lump = Some f.Lump
-former_of s.List = Some f.List
-former_of s.Nil = Some f.List
-former_of s.Function = Some f.Function
-former_of s.Lambda = Some f.Function
-former_of other = None
+-- How the type that a word of a shape means is formed: N of a number and of an operator of one part, a list of nil, a function of a lambda. The
+-- words that mean no type are told apart by their shapes, the operators of two parts as one.
+abbrev pub former_of : Shape → Former
+former_of s.Numbers = f.Numbers
+former_of s.Number = f.Numbers
+former_of (s.Operator1 o) = f.Numbers
+former_of s.Lump = f.Lump
+former_of s.List = f.List
+former_of s.Nil = f.List
+former_of s.Function = f.Function
+former_of s.Lambda = f.Function
+former_of s.Variable = f.Variable
+former_of (s.Operator2 o) = f.Operation
+former_of s.If0 = f.If0
+former_of s.Wrong = f.Wrong
+former_of s.Boundary = f.Boundary
 
 abbrev pub former_at : List ℕ → ℕ → Option Former
-former_at w p = option_and_then former_of (shape_at w p)
+former_at w p = option_map former_of (shape_at w p)
 
 -- The type is written at the place.
 abbrev pub Written : List ℕ → ℕ → Ty → Type 0

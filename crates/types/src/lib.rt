@@ -5,7 +5,7 @@
 
 #![tactic(auto)]
 
-ghost use Rattle.std.specs.Prelude.{◌≡◌, ◌+◌, ◌^◌, ◌<◌, ◌≤◌, IfSome, length, drop};
+ghost use Rattle.std.specs.Prelude.{◌≡◌, ◌+◌, ◌^◌, ◌<◌, ◌≤◌, IfSome, length, drop, option_map};
 ghost use Rattle.nodes.specs.declared.refusals.Refusal.TheVariants.{Mistyped};
 ghost use Rattle.types.specs.References.{shape_at, former_of, former_at, codomain};
 ghost use Rattle.types.specs.Comparisons.{Matched, TypeEnd, lumps_compared, Compares, Compared, Equality};
@@ -13,13 +13,19 @@ ghost use Rattle.types.specs.Comparisons.{Matched, TypeEnd, lumps_compared, Comp
 use nodes::kinds::{Shape, shape_of};
 use nodes::refusals::Refusal;
 
-// How a type is formed.
+// How a type is formed; and, behind that, the words that mean no type: a variable, an operator of two parts, whichever it is, an if0, a wrong and a
+// boundary.
 #[derive(Clone, Copy, PartialEq, Eq)]
 pub enum Former {
     Numbers,
     Lump,
     List,
     Function,
+    Variable,
+    Operation,
+    If0,
+    Wrong,
+    Boundary,
 }
 
 // Where two types differ: the place of the first word of the first type that is not the second's. A type of its own, as `?` picks the refusal by
@@ -58,14 +64,13 @@ fn compare_words(x: &[u32], y: &[u32], at: usize) -> Result<usize, Difference>
         return Ok(at + 1);
     };
     match shape {
-        Shape::List => compare_words(&x[1..], &y[1..], at + 1),
-        Shape::Function => {
-            let end = compare_words(&x[1..], &y[1..], at + 1)?;
-            let n = end - at;
-            compare_words(&x[n..], &y[n..], end)
-        }
-        _ => Ok(at + 1),
+        Shape::List => return compare_words(&x[1..], &y[1..], at + 1),
+        Shape::Function => {}
+        _ => return Ok(at + 1),
     }
+    let end = compare_words(&x[1..], &y[1..], at + 1)?;
+    let n = end - at;
+    compare_words(&x[n..], &y[n..], end)
 }
 
 // The place past the type that is written at a place.
@@ -88,26 +93,37 @@ pub fn shape_at(words: &[u32], p: usize) -> Option<Shape>
     shape_of(words[p])
 }
 
-// How the type that a word of a shape means is formed, if it means one.
-fn former_of(shape: Shape) -> Option<Former>
+// How the type that a word of a shape means is formed, or which word it is that means none.
+fn former_of(shape: Shape) -> Former
     ensures { result ≡ former_of shape }
 {
     match shape {
-        Shape::Numbers | Shape::Number | Shape::Operator1(_) => Some(Former::Numbers),
-        Shape::Lump => Some(Former::Lump),
-        Shape::List | Shape::Nil => Some(Former::List),
-        Shape::Function | Shape::Lambda => Some(Former::Function),
-        _ => None,
+        Shape::Numbers | Shape::Number | Shape::Operator1(_) => Former::Numbers,
+        Shape::Lump => Former::Lump,
+        Shape::List | Shape::Nil => Former::List,
+        Shape::Function | Shape::Lambda => Former::Function,
+        Shape::Variable => Former::Variable,
+        Shape::Operator2(_) => Former::Operation,
+        Shape::If0 => Former::If0,
+        Shape::Wrong => Former::Wrong,
+        Shape::Boundary => Former::Boundary,
     }
 }
 
-// How the type that a reference means is formed.
+// The same of a shape that there may not be.
+fn formed(shape: Option<Shape>) -> Option<Former>
+    ensures { result ≡ option_map former_of shape }
+{
+    let shape = shape?;
+    Some(former_of(shape))
+}
+
+// The same of the word at a place, if there is a reference and the word is of a kind.
 pub fn former_at(words: &[u32], p: usize) -> Option<Former>
     ensures value { result ≡ former_at words.now p }
     ensures there { IfSome result (λ f. p < length words.now) }
 {
-    let shape = shape_at(words, p)?;
-    former_of(shape)
+    formed(shape_at(words, p))
 }
 
 // Compares the types that are written behind two places.
@@ -131,42 +147,53 @@ fn compare_lumps(words: &[u32], p: usize, q: usize) -> Result<(), Difference>
 
 // What references mean among these words, and whether they mean the same.
 impl Types<'_> {
-    // The result type of the function type at p, whose argument type ends before `end`.
+    // The result type of the function type at p, whose argument type ends before `end`, by the shape of the word at p.
     #[tactic(auto, unfolding(crate::specs::References::codomain))]
-    pub fn codomain(self, p: usize, end: usize) -> usize
-        ensures { result ≡ codomain self.entry.words.now self.entry.link.now p end }
+    fn codomain_by(&self, shape: Option<Shape>, p: usize, end: usize) -> usize
+        requires here { shape ≡ shape_at self.now.words.now p }
+        requires there { IfSome shape (λ s. p < length self.now.words.now) }
+        ensures { result ≡ codomain self.now.words.now self.now.link.now p end }
     {
-        match shape_at(self.words, p) {
+        match shape {
             Some(Shape::Lambda) => usize::from(self.link[p]),
             _ => end,
         }
     }
 
-    // Compares the types of two references that have fewer arrows in a row than `room`. Two that mean no type do not differ.
-    fn compare_within(self, p: usize, q: usize, room: usize) -> Result<(), Difference>
-        ensures { Compares self.entry.words.now self.entry.link.now p q room result }
+    // The same, by the words alone.
+    pub fn codomain(self, p: usize, end: usize) -> usize
+        ensures { result ≡ codomain self.entry.words.now self.entry.link.now p end }
     {
-        let former = former_at(self.words, p);
-        if room == 0 || former != former_at(self.words, q) {
+        self.codomain_by(shape_at(self.words, p), p, end)
+    }
+
+    // Compares the types of two references that have fewer arrows in a row than `room`. Two that mean no type do not differ if their words are
+    // such ones alike.
+    fn compare_within(&self, p: usize, q: usize, room: usize) -> Result<(), Difference>
+        ensures { Compares self.now.words.now self.now.link.now p q room result }
+    {
+        let first = shape_at(self.words, p);
+        let second = shape_at(self.words, q);
+        let former = formed(first);
+        if room == 0 || former != formed(second) {
             return Err(Difference { at: p });
         }
         let Some(former) = former else {
             return Ok(());
         };
         match former {
-            Former::Numbers => Ok(()),
-            Former::Lump => compare_lumps(self.words, p, q),
+            Former::Lump => return compare_lumps(self.words, p, q),
             Former::List => {
                 compare_behind(self.words, p, q)?;
-                Ok(())
+                return Ok(());
             }
-            Former::Function => {
-                let end = compare_behind(self.words, p, q)?;
-                let t = self.codomain(p, end);
-                let u = self.codomain(q, q + (end - p));
-                self.compare_within(t, u, room - 1)
-            }
+            Former::Function => {}
+            _ => return Ok(()),
         }
+        let end = compare_behind(self.words, p, q)?;
+        let t = self.codomain_by(first, p, end);
+        let u = self.codomain_by(second, q, q + (end - p));
+        self.compare_within(t, u, room - 1)
     }
 
     // Compares the types of two references. No type of a file has as many arrows in a row as twice its words.

@@ -70,7 +70,7 @@ module _ {w ls : List ℕ} {at next : ℕ} {r : Answer ml} (p : Found ℕ) (e : 
       finds HD q k = subst (λ (y : Operator1). Result1 y w ls at t p) q f
       finds TL q k = subst (λ (y : Operator1). Result1 y w ls at t p) q f
       finds FIX q k = subst (λ (y : Operator1). Result1 y w ls at t p) q f
-      finds NULL? q k = subst (λ (y : Operator1). Result1 y w ls at t p) q f (k ∙ ap (λ (y : Operator1). Some (s.Operator1 y)) q)
+      finds NULL? q k = subst (λ (y : Operator1). Result1 y w ls at t p) q f x k
 
   pub by_result2 : {t u : ℕ} {x : Operator2} → Finds2 (as_op2 x) w ls t u p → Concluded2 ml w ls x at t u next r
   by_result2 {t} {u} {x} f =

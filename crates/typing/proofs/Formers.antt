@@ -53,6 +53,11 @@ if_list_is (Some f.Numbers) p q e = absurd (none_some e)
 if_list_is (Some f.Lump) p q e = absurd (none_some e)
 if_list_is (Some f.List) p q e = (refl, some_is e)
 if_list_is (Some f.Function) p q e = absurd (none_some e)
+if_list_is (Some f.Variable) p q e = absurd (none_some e)
+if_list_is (Some f.Operation) p q e = absurd (none_some e)
+if_list_is (Some f.If0) p q e = absurd (none_some e)
+if_list_is (Some f.Wrong) p q e = absurd (none_some e)
+if_list_is (Some f.Boundary) p q e = absurd (none_some e)
 
 if_numbers_is : (h : Found Former) (p q : ℕ) → if_numbers h p ≡ Some q → (h ≡ Some f.Numbers) × (p ≡ q)
 if_numbers_is None p q e = absurd (none_some e)
@@ -60,6 +65,11 @@ if_numbers_is (Some f.Numbers) p q e = (refl, some_is e)
 if_numbers_is (Some f.Lump) p q e = absurd (none_some e)
 if_numbers_is (Some f.List) p q e = absurd (none_some e)
 if_numbers_is (Some f.Function) p q e = absurd (none_some e)
+if_numbers_is (Some f.Variable) p q e = absurd (none_some e)
+if_numbers_is (Some f.Operation) p q e = absurd (none_some e)
+if_numbers_is (Some f.If0) p q e = absurd (none_some e)
+if_numbers_is (Some f.Wrong) p q e = absurd (none_some e)
+if_numbers_is (Some f.Boundary) p q e = absurd (none_some e)
 
 -- The type is a list type, with its element type behind; or it is none.
 module _ (w : List ℕ) (t : ℕ) (r : Found ℕ) (e : r ≡ element_of w t) where

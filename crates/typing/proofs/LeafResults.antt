@@ -3,11 +3,11 @@ use Prim.Native.Nat.{ℕ, suc, ◌+◌, ◌/◌}
 use mathlib.Core.List.{List}
 use mathlib.Core.Logic.{◌⊎◌, inl, inr}
 use mathlib.Core.Option.{Option, none, some}
-use mathlib.Core.Path.{◌≡◌, refl, ap, subst}
+use mathlib.Core.Path.{◌≡◌, refl, ap, ◌∙◌, subst}
 use lib.ListN.{length, get_or, drop}
 use native.Mathlib.Omega.{arith}
-use Rattle.std.specs.Option.{option_and_then}
-use Rattle.std.proofs.Common.{Result, Ok, Err}
+use Rattle.std.specs.Option.{option_map}
+use Rattle.std.proofs.Common.{Option as Found, Some, Result, Ok, Err}
 use Rattle.calculus.specs.Trees.{Lang, ml, sc, Static, Term, var, num, nil}
 use Rattle.calculus.specs.Words.{word, by as by_language, put, size, size_ty}
 use Rattle.calculus.specs.Kinds.{term}
@@ -26,7 +26,7 @@ use Rattle.typing.specs.declared.Fault.{Fault}
 use Rattle.typing.specs.Answers.{Reference, Answer, whole, bad, Refers, WrittenStatic, Advances, Answers}
 use Rattle.typing.specs.Variables.{Scope, Bound, Variable}
 use Rattle.typing.specs.Infers.{Leaf, Infers}
-use Rattle.typing.proofs.Telling.{Of, AtNode, leaf_at, leaf_told, word_told, as_variable}
+use Rattle.typing.proofs.Telling.{Of, leaf_told, word_told, as_variable}
 
 module _ (w : List ℕ) (at : ℕ) (ls : List ℕ) (scope : ℕ) where
   -- What there is to show of a term; and it, shown of each term of the language that may be written there.
@@ -43,7 +43,7 @@ module _ (w : List ℕ) (at : ℕ) (ls : List ℕ) (scope : ℕ) where
   pub no_term_there : {l : Lang} → Of l w at (λ e. ⊥) → Infers l w at scope ls ls (bad at)
   no_term_there none_seen = shown tt (λ e k d. absurd (none_seen e k d))
 
-  module _ (N : AtNode w at) where
+  module _ {h : Found Shape} (N : Leaf w at h) where
     index : (l : Lang) (i : ℕ) → get_or w at 0 ≡ word (by_language l 16 32) i → get_or w at 0 / 256 ≡ i
     index ml i q = omega (arith, q)
     index sc i q = omega (arith, q)
@@ -90,7 +90,7 @@ module _ (w : List ℕ) (at : ℕ) (ls : List ℕ) (scope : ℕ) where
     a_number seen = shown (past ml at) (λ e k d. by e (seen e k d))
       where
         by : (e : Term ml) → Shaped ml s.Number e → Answered ml (whole at (at + 1)) e
-        by e (node.a_number {n = n}) Γ k d s = (at, refl, ap (option_and_then former_of) (tree_shape (term ml) w at (num n) k N.behind d))
+        by e (node.a_number {n = n}) Γ k d s = (at, refl, ap (option_map former_of) (tree_shape (term ml) w at (num n) k N.behind d))
 
     module _ {end : ℕ} (S : TypeEnd w (at + 1) end) where
       past_type : (q : ℕ) → Advances {l = ml} at (length w) (whole q end)
@@ -104,7 +104,7 @@ module _ (w : List ℕ) (at : ℕ) (ls : List ℕ) (scope : ℕ) where
           by e (node.a_nil {t = t}) Γ k d s =
               let y : Written w (at + 1) t = (k, past_word at _ w _ d) in
               let n : end ≡ at + suc (size_ty t) = omega (arith, S.is t y) in
-              (at, ap (whole at) n, (ap (option_and_then former_of) (tree_shape (term ml) w at (nil t) k N.behind d), y))
+              (at, ap (whole at) n, (ap (option_map former_of) (tree_shape (term ml) w at (nil t) k N.behind d), y))
 
       pub a_wrong : Of ml w at (Shaped ml s.Wrong) → Infers ml w at scope ls ls (whole (at + 1) end)
       unfolding infer fault size put Answers
@@ -143,7 +143,7 @@ module _ (w : List ℕ) (at : ℕ) (ls : List ℕ) (scope : ℕ) where
         by : (e : Term sc) → Shaped sc s.Wrong e → (size e ≡ 1) × ((Γ : Lambdas) → infer Γ e ≡ some tt)
         by e (node.a_wrong c t) = (refl, λ Γ. refl)
 
-  pub a_scheme_word : {h : Shape} → Leaf w at h → (h ≡ s.Number) ⊎ ((h ≡ s.Nil) ⊎ (h ≡ s.Wrong)) → Infers sc w at scope ls ls (whole tt (at + 1))
-  a_scheme_word L (inl q) = scheme_number (leaf_at L) (leaf_told L s.Number q sc)
-  a_scheme_word L (inr (inl q)) = scheme_nil (leaf_at L) (leaf_told L s.Nil q sc)
-  a_scheme_word L (inr (inr q)) = scheme_wrong (leaf_at L) (leaf_told L s.Wrong q sc)
+    pub a_scheme_word : (x : Shape) → h ≡ Some x → (x ≡ s.Number) ⊎ ((x ≡ s.Nil) ⊎ (x ≡ s.Wrong)) → Infers sc w at scope ls ls (whole tt (at + 1))
+    a_scheme_word x e (inl q) = scheme_number (leaf_told N s.Number (e ∙ ap Some q) sc)
+    a_scheme_word x e (inr (inl q)) = scheme_nil (leaf_told N s.Nil (e ∙ ap Some q) sc)
+    a_scheme_word x e (inr (inr q)) = scheme_wrong (leaf_told N s.Wrong (e ∙ ap Some q) sc)

@@ -6,12 +6,12 @@ use mathlib.Core.Option.{Option, none, some}
 use mathlib.Core.Path.{◌≡◌, refl, sym, ap, ◌∙◌, subst}
 use native.Mathlib.Omega.{arith}
 use Rattle.std.proofs.Common.{Option as Found, Some, None}
-use Rattle.std.specs.Option.{option_and, option_and_then}
+use Rattle.std.specs.Option.{option_and, option_map}
 use Rattle.calculus.specs.Trees.{Ty, N, list, Lang, ml, sc, Static, Op1, HD, TL, NULL?, ADD, SUB}
 use Rattle.calculus.specs.Inference.{same_type, result1, sum_type}
 use Rattle.calculus.proofs.Inference.{same_iff}
 use Rattle.calculus.specs.Verdicts.{found}
-use Rattle.nodes.specs.declared.kinds.Operator1.TheVariants.{Null}
+use Rattle.nodes.specs.declared.kinds.Operator1.{Operator1}
 use Rattle.nodes.specs.declared.kinds.Shape.TheVariants as s
 use Rattle.types.specs.References.{shape_at, former_of, Written, Means}
 use Rattle.types.specs.Comparisons.{Equality}
@@ -46,9 +46,9 @@ module _ (w ls : List ℕ) (at t : ℕ) (found : Found ℕ) (he : found ≡ elem
     unfolding Finds
     one_tl = by_element TL (Some t) (λ y lo hi my k. (t, refl, my))
 
-    pub one_null : shape_at w at ≡ Some (s.Operator1 Null) → Finds1 NULL? w ls t (Some at)
+    pub one_null : (o : Operator1) → shape_at w at ≡ Some (s.Operator1 o) → Finds1 NULL? w ls t (Some at)
     unfolding Finds Means
-    one_null h = by_element NULL? (Some at) (λ y lo hi my k. (at, refl, ap (option_and_then former_of) h))
+    one_null o h = by_element NULL? (Some at) (λ y lo hi my k. (at, refl, ap (option_map former_of) h))
 
   pub one_hd : Finds1 HD w ls t found
   unfolding Finds

@@ -63,9 +63,6 @@ pub record AtNode (w : List ℕ) (at : ℕ) : Type 0 where
 pub node_at_lem : {w ls : List ℕ} {at : ℕ} → Begins w at ls → at < length w → AtNode w at
 node_at_lem B h = record { behind = B.behind; within = h; few = B.few }
 
-pub leaf_at : {w : List ℕ} {at : ℕ} {h : Shape} → Leaf w at h → AtNode w at
-leaf_at L = record { behind = L.behind; within = L.within; few = L.few }
-
 module _ (w : List ℕ) (at : ℕ) where
   -- The word of a node is the first one from its place on.
   pub word_told : {l : Lang} (e : Term l) (k : List ℕ) → drop at w ≡ put e k → get_or w at 0 ≡ get_or (put e k) 0 0
@@ -86,25 +83,28 @@ module _ (w : List ℕ) (at : ℕ) where
     pub no_shape : h ≡ None → (l : Lang) → Of l w at (λ e. ⊥)
     no_shape z l e k d = none_some (sym z ∙ shape_told l e k d)
 
--- A leaf of a shape; and one that is none of these.
-pub leaf_told : {w : List ℕ} {at : ℕ} {h : Shape} → Leaf w at h → (x : Shape) → h ≡ x → (l : Lang) → Of l w at (Shaped l x)
-leaf_told {w} {at} {h} L x q l = told w at L.behind (Some h) (sym L.known) x (ap Some q) l
+-- A leaf of a shape; one that is none of these; and one of none.
+pub leaf_told : {w : List ℕ} {at : ℕ} {h : Found Shape} → Leaf w at h → (x : Shape) → h ≡ Some x → (l : Lang) → Of l w at (Shaped l x)
+leaf_told {w} {at} {h} L x q l = told w at L.behind h (sym L.known) x q l
 
-pub no_leaf : {w : List ℕ} {at : ℕ} {h : Shape} → Leaf w at h → (h ≡ s.Variable → ⊥) → (h ≡ s.Number → ⊥) → (h ≡ s.Nil → ⊥)
-    → (h ≡ s.Wrong → ⊥) → (l : Lang) → Of l w at (λ e. ⊥)
-no_leaf {w} {at} {h} L n1 n2 n7 n8 l e k d = by e (some_is (shape_told w at L.behind (Some h) (sym L.known) l e k d))
+pub no_leaf : {w : List ℕ} {at : ℕ} {h : Found Shape} → Leaf w at h → (x : Shape) → h ≡ Some x → (x ≡ s.Variable → ⊥) → (x ≡ s.Number → ⊥)
+    → (x ≡ s.Nil → ⊥) → (x ≡ s.Wrong → ⊥) → (l : Lang) → Of l w at (λ e. ⊥)
+no_leaf {w} {at} {h} L x j n1 n2 n7 n8 l e k d = by e (shape_told w at L.behind h (sym L.known) l e k d)
   where
-    by : {l : Lang} (e : Term l) → h ≡ shape (term l) e → ⊥
-    by (var i) q = n1 q
-    by (num n) q = n2 q
+    by : {l : Lang} (e : Term l) → h ≡ Some (shape (term l) e) → ⊥
+    by (var i) q = n1 (some_is (sym j ∙ q))
+    by (num n) q = n2 (some_is (sym j ∙ q))
     by (lam t b) q = L.no_lambda q
     by (op1 o a) q = L.no_operator_1 (operator1 o) q
     by (op2 o a b) q = L.no_operator_2 (operator2 o) q
     by (if0 a b c) q = L.no_if0 q
-    by (nil t) q = n7 q
-    by (wrong c t) q = n8 q
+    by (nil t) q = n7 (some_is (sym j ∙ q))
+    by (wrong c t) q = n8 (some_is (sym j ∙ q))
     by (ms t a) q = L.no_boundary q
     by (sm t a) q = L.no_boundary q
+
+pub leaf_of_none : {w : List ℕ} {at : ℕ} {h : Found Shape} → Leaf w at h → h ≡ None → (l : Lang) → Of l w at (λ e. ⊥)
+leaf_of_none {w} {at} {h} L z l = no_shape w at L.behind h (sym L.known) z l
 
 pub parted_1 : (l : Lang) (w : List ℕ) (at : ℕ) (x : Operator1) → Of l w at (Shaped l (s.Operator1 x)) → Of l w at (Parted l)
 parted_1 l w at x seen e k d = as_one_part (Parted l) x (λ o a q. parted_one o a) e (seen e k d)

@@ -1,5 +1,5 @@
 -- What ML inference and Scheme well-formedness answer.
-use Rattle.std.specs.Prelude.{ℕ, ◌+◌, ◌<◌, ◌≤◌, List, ◌≡◌, length, get_or, drop, Some}
+use Rattle.std.specs.Prelude.{ℕ, ◌+◌, ◌<◌, ◌≤◌, List, ◌≡◌, length, get_or, drop, Option as Found, Some}
 use Rattle.calculus.specs.Trees.{Lang, Term}
 use Rattle.calculus.specs.Words.{put, size}
 use Rattle.calculus.specs.Typing.{Lambdas}
@@ -12,7 +12,7 @@ use Rattle.nodes.specs.declared.kinds.Shape.TheVariants as s
 use Rattle.types.specs.Links.{LinkTo, KeptBefore}
 use Rattle.types.specs.References.{shape_at}
 use Rattle.typing.specs.declared.Typed.{Typed}
-use Rattle.typing.specs.Answers.{Answer, Advances, Answers}
+use Rattle.typing.specs.Answers.{Answer, EndsAt, Advances, Answers}
 use Rattle.typing.specs.Variables.{Scope}
 
 -- What each of the two functions asks: a place of the file's words, behind the first, and a link for each word.
@@ -22,17 +22,21 @@ pub record Begins (w : List ℕ) (at : ℕ) (ls : List ℕ) : Type 0 where
   pub few : length w ≤ 4096
   pub linked : length ls ≡ length w
 
--- A place of the file's words, behind the first; the word there has a shape, which is none of those that have a part which is a term.
-pub record Leaf (w : List ℕ) (at : ℕ) (shape : Shape) : Type 0 where
+-- A place of the file's words, behind the first; the shape of the word there, if it is of a kind, is none of those that have a part which is a
+-- term.
+pub record Leaf (w : List ℕ) (at : ℕ) (shape : Found Shape) : Type 0 where
   pub behind : 0 < at
   pub within : at < length w
-  pub few : length w ≤ 4096
-  pub known : shape_at w at ≡ Some shape
-  pub no_lambda : shape ≡ s.Lambda → ⊥
-  pub no_operator_1 : (o : Operator1) → shape ≡ s.Operator1 o → ⊥
-  pub no_operator_2 : (o : Operator2) → shape ≡ s.Operator2 o → ⊥
-  pub no_if0 : shape ≡ s.If0 → ⊥
-  pub no_boundary : shape ≡ s.Boundary → ⊥
+  pub known : shape_at w at ≡ shape
+  pub no_lambda : shape ≡ Some s.Lambda → ⊥
+  pub no_operator_1 : (o : Operator1) → shape ≡ Some (s.Operator1 o) → ⊥
+  pub no_operator_2 : (o : Operator2) → shape ≡ Some (s.Operator2 o) → ⊥
+  pub no_if0 : shape ≡ Some s.If0 → ⊥
+  pub no_boundary : shape ≡ Some s.Boundary → ⊥
+
+-- A variable is one word: an answer for it, in either language, ends behind it.
+abbrev pub VariableEnds : {l : Lang} → Found Shape → ℕ → Answer l → Type 0
+VariableEnds shape at r = shape ≡ Some s.Variable → EndsAt (at + 1) r
 
 -- An ML lambda links to the type of its body, and no other link changes.
 pub record Function (at : ℕ) (body : Typed) (before after : List ℕ) (r : Typed) : Type 0 where

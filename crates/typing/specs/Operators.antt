@@ -58,12 +58,13 @@ abbrev pub Finds2 : Op2 → List ℕ → List ℕ → ℕ → ℕ → Found ℕ 
 Finds2 o w ls t u r =
     (s v : Ty) (lo hi : ℕ) → hi ≤ length w → Means w ls lo hi t s → Means w ls lo hi u v → Finds w ls lo hi (result2 ml o s v) r
 
--- An operator in code, of one part, at a place; Scheme's tests have no type. An operator of two parts; and if0.
+-- An operator in code, of one part, at a place; Scheme's tests have no type. A null? has N of whichever operator of one part stands there. An
+-- operator of two parts; and if0.
 abbrev pub Result1 : Operator1 → List ℕ → List ℕ → ℕ → ℕ → Found ℕ → Type 0
 Result1 Hd w ls at t r = Finds1 HD w ls t r
 Result1 Tl w ls at t r = Finds1 TL w ls t r
 Result1 Fix w ls at t r = Finds1 FIX w ls t r
-Result1 Null w ls at t r = shape_at w at ≡ Some (s.Operator1 Null) → Finds1 NULL? w ls t r
+Result1 Null w ls at t r = (o : Operator1) → shape_at w at ≡ Some (s.Operator1 o) → Finds1 NULL? w ls t r
 Result1 Test w ls at t r = Unit {0}
 
 abbrev pub as_op2 : Operator2 → Op2

@@ -98,7 +98,7 @@ pub fn infer(words: &[u32], at: usize, link: &mut [u16], scope: usize) -> Result
             conclusion(at, found, second.end)
         }
         Shape::Boundary => at_ms(at, well_formed(words, type_end(words, at + 1), link, scope)),
-        _ => leaf(Types { words, link }, shape, scope, at),
+        _ => leaf(Types { words, link }, Some(shape), scope, at),
     }
 }
 
@@ -132,6 +132,6 @@ fn well_formed(words: &[u32], at: usize, link: &mut [u16], scope: usize) -> Resu
             let one = infer(words, start, link, scope);
             at_sm(Types { words, link }, at, one)
         }
-        _ => scheme_leaf(Types { words, link }, shape, scope, at),
+        _ => scheme_leaf(Types { words, link }, Some(shape), scope, at),
     }
 }

@@ -43,17 +43,17 @@ returns-in-List t c =
     (other_shape h (λ e. omega (arith, e)))
     c.compare_words.ensures (other_shape h (λ e. omega (arith, e)))
 
-pub returns-in_err-end-in-Function : goal.returns-in_err-end-in-Function
-returns-in_err-end-in-Function t c =
+pub returns-in_err-end : goal.returns-in_err-end
+returns-in_err-end t c =
     let h = c.in-Some.is ∙ ap Some c.in-Function.is in
-    let k = one_word (goal.at.returns-in_err-end-in-Function t c).After-shape_of in
+    let k = one_word (goal.at.returns-in_err-end t c).After-shape_of in
     rw (passed_on _ c.from_residual.ensures.1)
-    (first_differ _ _ _ k (other_shape h (λ e. omega (arith, e))) (other_shape h (λ e. omega (arith, e))) c.compare_words-in-Function.ensures _
-    c.in_err-end-in-Function.was)
+    (first_differ _ _ _ k (other_shape h (λ e. omega (arith, e))) (other_shape h (λ e. omega (arith, e))) c.compare_words-2.ensures _
+    c.in_err-end.was)
 
-pub returns-in_ok-end-in-Function : goal.returns-in_ok-end-in-Function
-returns-in_ok-end-in-Function t c =
+pub returns : goal.returns
+returns t c =
     let h = c.in-Some.is ∙ ap Some c.in-Function.is in
-    let k = one_word (goal.at.returns-in_ok-end-in-Function t c).After-shape_of in
-    functions _ _ _ k (other_shape h (λ e. omega (arith, e))) (other_shape h (λ e. omega (arith, e))) c.compare_words-in-Function.ensures _
-    c.in_ok-end-in-Function.was (other_shape h (λ e. omega (arith, e))) _ c.compare_words-in-Function-2.ensures
+    let k = one_word (goal.at.returns t c).After-shape_of in
+    functions _ _ _ k (other_shape h (λ e. omega (arith, e))) (other_shape h (λ e. omega (arith, e))) c.compare_words-2.ensures _
+    c.in_ok-end.was (other_shape h (λ e. omega (arith, e))) _ c.compare_words-3.ensures

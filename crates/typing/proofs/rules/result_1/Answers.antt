@@ -15,8 +15,8 @@ returns-in_ok-element-in-Tl c = rw c.in-Tl.is (one_tl _ _ c.args.at _ _ c.elemen
 pub returns-in_err-element-in-Null : goal.returns-in_err-element-in-Null
 returns-in_err-element-in-Null c =
     rw (c.in-Null.is, c.from_residual-in_err-element-in-Null.ensures)
-    (λ h. null_other _ _ c.args.at _ _ c.element-in-Null.ensures c.in_err-element-in-Null.was)
+    (λ o h. null_other _ _ c.args.at _ _ c.element-in-Null.ensures c.in_err-element-in-Null.was)
 
 pub returns-in_ok-element-in-Null : goal.returns-in_ok-element-in-Null
 returns-in_ok-element-in-Null c =
-    rw c.in-Null.is (λ h. one_null _ _ c.args.at _ _ c.element-in-Null.ensures _ c.in_ok-element-in-Null.was h)
+    rw c.in-Null.is (λ o h. one_null _ _ c.args.at _ _ c.element-in-Null.ensures _ c.in_ok-element-in-Null.was o h)
