@@ -16,6 +16,7 @@ use Rattle.calculus.specs.File.{padded, first_after}
 use Rattle.calculus.proofs.Bounds.{operate_bounded}
 use Rattle.calculus.proofs.Padding.{padded_take, padded_length}
 use Rattle.calculus.proofs.Verdicts.{not_both}
+use Rattle.engine.specs.Buffered.{Settled}
 use Rattle.engine.specs.Lent.{Lent}
 use Rattle.ends.specs.Results.{Line, line_of, end_of, told, end_number}
 use Rattle.ends.specs.declared.End.{End}
@@ -32,22 +33,22 @@ use Rattle.pricing.proofs.Billing.{billed_by}
 use Rattle.pricing.proofs.Laws.{own_run, billed_items}
 use Rattle.card.proofs.Laws.{carding_is}
 use Rattle.card.specs.Carding.{Card, card_of, card_at, laid_in}
-use Rattle.card.specs.Answered.{outcome, spoken, charges_in, bytes_in, card_lent, CardReturned, card_returned}
-use Rattle.card.specs.Parts.{AtEnd, card_by, Laid, fits, short, Lays, Answers, CardingButBuffers}
+use Rattle.card.specs.Answered.{outcome, spoken, charges_in, bytes_in, card_lent, CardReturned, card_returned, Answered, Carding}
+use Rattle.card.specs.Parts.{AtEnd, card_by, Laid, fits, short, Lays}
 use Rattle.card.specs.declared.Uncarded.{Uncarded}
 use Rattle.card.specs.declared.Uncarded.TheVariants.{Price}
 use Rattle.card.specs.declared.Carded.{Carded}
 
-no_card_is : {why : Uncarded} (c : Carded) → ◌≡◌ {A = Result Carded Uncarded} (Err why) (Ok c) → ⊥
+pub no_card_is : {why : Uncarded} (c : Carded) → ◌≡◌ {A = Result Carded Uncarded} (Err why) (Ok c) → ⊥
 no_card_is c q = false≢true (sym (ap is_err q))
 
 -- By what pricing says.
 module _ (prices : Prices) (l : Lent) (card : List ℕ) where
   carded_by : (v : Verdict Bill) (w : Verdict Card) (g : CardReturned) → priced prices l ≡ v → and_then v (laid_in (length card)) ≡ w
-      → Answers w (card_lent l card) g → CardingButBuffers prices (card_lent l card) g
+      → Answered w (card_lent l card) g → Carding prices (card_lent l card) g
   carded_by v w g q e h =
       let is = carding_is prices l.bytes l.limit (length l.first) (length l.second) (length card) v q in
-      subst (λ (y : Verdict Card). Answers y (card_lent l card) g) (sym (is ∙ e)) h
+      subst (λ (y : Verdict Card). Answered y (card_lent l card) g) (sym (is ∙ e)) h
 
   -- What pricing answered, and what it left in both buffers.
   module _ {p : Result Priced Unpriced} {first₁ second₁ : List ℕ} (h : Pricing prices l (pricing.returned p first₁ second₁)) where
@@ -55,12 +56,12 @@ module _ (prices : Prices) (l : Lent) (card : List ℕ) where
     tells o = sym (ap (λ (y : Result Priced Unpriced). pricing.spoken (pricing.outcome y)) o) ∙ h.answer_is
 
     -- Refused as pricing refuses it.
-    pub refused_as : {card' : List ℕ} (u : Unpriced) → p ≡ Err u
-        → CardingButBuffers prices (card_lent l card) (card_returned (Err (Price u)) first₁ second₁ card')
-    refused_as {card'} u o = by (priced prices l) refl (tells o)
+    pub refused_as : {card' : List ℕ} (u : Unpriced) → p ≡ Err u → card' ≡ padded (length card) []
+        → Carding prices (card_lent l card) (card_returned (Err (Price u)) first₁ second₁ card')
+    refused_as {card'} u o z = by (priced prices l) refl (tells o)
       where
         by : (v : Verdict Bill) → priced prices l ≡ v → pricing.spoken (Err u) ≡ and_then (ran (priced prices l)) (λ x. passed (line_of x))
-            → CardingButBuffers prices (card_lent l card) (card_returned (Err (Price u)) first₁ second₁ card')
+            → Carding prices (card_lent l card) (card_returned (Err (Price u)) first₁ second₁ card')
         by (passed b) q t =
             absurd (not_both _ _ (line_of b.run) (t ∙ ap (λ (v : Verdict Bill). and_then (ran v) (λ x. passed (line_of x))) q))
         by (refused n k) q t =
@@ -69,9 +70,9 @@ module _ (prices : Prices) (l : Lent) (card : List ℕ) where
               answer_is = t ∙ ap (λ (v : Verdict Bill). and_then (ran v) (λ x. passed (line_of x))) q;
               charges_are = refl;
               bytes_are = refl;
-              first_is = λ c e. absurd (no_card_is c e);
-              second_is = λ c e. absurd (no_card_is c e);
-              card_is = λ c e. absurd (no_card_is c e);
+              first_is = h.first_is ∙ ap (λ (v : Verdict Bill). first_after (length l.first) (ran v)) q;
+              second_is = h.second_is;
+              card_is = z;
             }
 
     -- A run that ended.
@@ -115,9 +116,12 @@ module _ (prices : Prices) (l : Lent) (card : List ℕ) where
                 record { items = i.0; nine = i.4; is = words_left ∙ i.1 };
           }
 
-      module _ {r : Result Carded Uncarded} {card' : List ℕ} (e : Lays x (take x.report.left first₁) card r card') where
+      -- Both buffers stay as they are, or are all zero after refusal 14.
+      module _ {r : Result Carded Uncarded} {first₂ second₂ card' : List ℕ} (e : Lays x (take x.report.left first₁) card r card')
+          (kept : (c : Carded) → r ≡ Ok c → (first₂ ≡ first₁) × (second₂ ≡ second₁))
+          (cleared : (u : Uncarded) → r ≡ Err u → Settled [] first₁ second₁ first₂ second₂) where
         abbrev Done : Type 0
-        Done = CardingButBuffers prices (card_lent l card) (card_returned r first₁ second₁ card')
+        Done = Carding prices (card_lent l card) (card_returned r first₂ second₂ card')
 
         charged_by : x.charges ≡ charges_of (passed b)
         charged_by = sym (ap pricing.charges_in o) ∙ h.charges_are ∙ ap charges_of billed.1
@@ -135,19 +139,20 @@ module _ (prices : Prices) (l : Lent) (card : List ℕ) where
               answer_is = ap (λ (y : Result Carded Uncarded). spoken (outcome y)) a ∙ ap passed billed.2;
               charges_are = ap charges_in a ∙ charged_by;
               bytes_are = ap bytes_in a ∙ ap length t;
-              first_is = λ c q. first_is;
-              second_is = λ c q. h.second_is;
-              card_is = λ c q. ap (λ (n : ℕ). take n card') (ap bytes_in (sym q ∙ a)) ∙ f ∙ t;
+              first_is = (kept _ a).0 ∙ first_is;
+              second_is = (kept _ a).1 ∙ h.second_is;
+              card_is = f ∙ ap (padded (length card)) t;
             }
-        laid text t (short k a) =
+        laid text t (short k a z) =
+            let s = cleared _ a in
             carded_by (passed b) (refused 14 0) _ billed.1 (rw (lt-leb (length (card_of b)) (length card) (omega (arith, k, ap length t))))
             record {
               answer_is = ap (λ (y : Result Carded Uncarded). spoken (outcome y)) a;
               charges_are = ap charges_in a;
               bytes_are = ap bytes_in a;
-              first_is = λ c q. absurd (no_card_is c (sym a ∙ q));
-              second_is = λ c q. absurd (no_card_is c (sym a ∙ q));
-              card_is = λ c q. absurd (no_card_is c (sym a ∙ q));
+              first_is = s.first_is ∙ rw (ap length first_is, padded_length (length l.first) b.run.left);
+              second_is = s.second_is ∙ rw (ap length h.second_is, padded_length (length l.second) []);
+              card_is = z;
             }
 
         at_value : x.report.end ≡ Value → Done

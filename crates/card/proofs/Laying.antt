@@ -1,6 +1,6 @@
 -- The card at an end: laid out, too long for its buffer, or none. Assumes nothing.
 use Prim.Native.Nat.{ℕ, ◌≤◌, ◌<◌}
-use mathlib.Core.List.{List}
+use mathlib.Core.List.{List, []}
 use mathlib.Core.Path.{◌≡◌, refl, ap, ◌∙◌}
 use native.Mathlib.Omega.{arith}
 use lib.ListN.{length, take}
@@ -33,14 +33,13 @@ module _ {left : List ℕ} {found : Items} (pre : FewItems left) (reads : Reads 
 module _ (p : Priced) (left card card₁ : List ℕ) {found : Items} {count : ℕ} (v : p.report.end ≡ Value) (pre : FewItems left)
     (reads : Reads left found) (long : count ≡ length (card_by p.charges (take found.count found.pulses)))
     (laid : card₁ ≡ padded (length card) (card_by p.charges (take found.count found.pulses))) where
-  pub too_long : length card₁ < count → Lays p left card (Err Short) card₁
-  too_long l =
+  same : length card₁ ≡ length card
+  same = ap length laid ∙ padded_length (length card) (card_by p.charges (take found.count found.pulses))
+
+  pub too_long : {card₂ : List ℕ} → length card₁ < count → card₂ ≡ padded (length card₁) [] → Lays p left card (Err Short) card₂
+  too_long l c =
       record {
-        valued = λ q ns e.
-            short
-            (omega
-            (arith, l, ap length laid, padded_length (length card) (card_by p.charges (take found.count found.pulses)), long, items_are ns e))
-            refl;
+        valued = λ q ns e. short (omega (arith, l, same, long, items_are ns e)) refl (c ∙ rw same);
         others = λ h. absurd (h v);
       }
     where
@@ -55,7 +54,4 @@ module _ (p : Priced) (left card card₁ : List ℕ) {found : Items} {count : �
           → Laid p text card (Ok (record { priced = p; bytes = count })) card₁
       by text e =
           let n : count ≡ length text = long ∙ ap length e in
-          let is : card₁ ≡ padded (length card) text = laid ∙ ap (padded (length card)) e in
-          let room : length text ≤ length card = omega (arith, l, n, ap length is, padded_length (length card) text) in
-          fits room (ap (λ (k : ℕ). Ok (record { priced = p; bytes = k })) n)
-          (ap (take (length text)) is ∙ padded_take (length card) (length text) text room refl)
+          fits (omega (arith, l, n, same)) (ap (λ (k : ℕ). Ok (record { priced = p; bytes = k })) n) (laid ∙ ap (padded (length card)) e)

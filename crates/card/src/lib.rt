@@ -2,9 +2,11 @@
 
 #![tactic(auto)]
 
+ghost use Rattle.std.specs.Prelude.{◌≡◌, [], length};
+ghost use Rattle.calculus.specs.File.{padded};
 ghost use Rattle.engine.specs.Lent.{lent};
 ghost use Rattle.card.specs.Answered.{card_lent, card_returned, Carding};
-ghost use Rattle.card.specs.Parts.{AtEnd, Lays, CardingButBuffers};
+ghost use Rattle.card.specs.Parts.{AtEnd, Lays};
 
 use charges::Prices;
 use ends::End;
@@ -13,7 +15,6 @@ use layout::lay_out;
 use nodes::refusals::{Numbers, plain};
 use pricing::items::read;
 use pricing::{Priced, Unpriced, price};
-use writing::Writer;
 
 // Why there is no card: the can has no price, or the buffer is shorter than its card.
 #[derive(Clone, Copy)]
@@ -29,8 +30,8 @@ impl From<Unpriced> for Uncarded {
 
     ghost from_gives = { λ why u. u ≡ Price why };
 
-    fn from(why: Unpriced) -> Uncarded {
-        Uncarded::Price(why)
+    fn from(unpriced: Unpriced) -> Uncarded {
+        Uncarded::Price(unpriced)
     }
 }
 
@@ -56,6 +57,14 @@ pub struct Carded {
     pub bytes: usize,
 }
 
+// Where there is no card its buffer is all zero.
+#[tactic(auto, using(calculus::proofs::Padding::padded_none))]
+fn clear(card: &mut [u8])
+    ensures { card.new ≡ padded (length card.old) [] }
+{
+    card.fill(0);
+}
+
 // The card of a priced run that left these words, or refusal 14: only at a value there is one.
 fn lay(priced: Priced, left: &[u32], card: &mut [u8]) -> Result<Carded, Uncarded>
     requires { AtEnd priced.report left.now }
@@ -66,33 +75,19 @@ fn lay(priced: Priced, left: &[u32], card: &mut [u8]) -> Result<Carded, Uncarded
             let found = read(left);
             let bytes = lay_out(&found.pulses[..found.count], priced.charges, card);
             if card.len() < bytes {
+                clear(card);
                 return Err(Uncarded::Short);
             }
             Ok(Carded { priced, bytes })
         }
-        End::Spent | End::Error | End::Full => Ok(Carded { priced, bytes: 0 }),
+        End::Spent | End::Error | End::Full => {
+            clear(card);
+            Ok(Carded { priced, bytes: 0 })
+        }
     }
 }
 
-// The card of a can, but for what is zero in the buffers.
-fn find_card(
-    prices: Prices,
-    file: &[u8],
-    limit: u32,
-    first: &mut [u32],
-    second: &mut [u32],
-    card: &mut [u8],
-) -> Result<Carded, Uncarded>
-    ensures { CardingButBuffers prices
-        (card_lent (lent file.now limit first.old second.old) card.old)
-        (card_returned result first.new second.new card.new) }
-{
-    let priced = price(prices, file, limit, first, second)?;
-    lay(priced, &first[..priced.report.left], card)
-}
-
 // The card of a can: for every table, every file, every limit and all three buffers, whatever they held.
-#[tactic(auto, using(writing::proofs::Stores::padded_is, calculus::proofs::Padding::padded_none))]
 pub fn card(
     prices: Prices,
     file: &[u8],
@@ -105,13 +100,17 @@ pub fn card(
         (card_lent (lent file.now limit first.old second.old) card.old)
         (card_returned result first.new second.new card.new) }
 {
-    let answer = find_card(prices, file, limit, first, second, card);
-    match answer {
-        Ok(carded) => Writer::from(card, carded.bytes).fill_rest(0),
-        Err(_) => {
-            keep(first, second, 0);
-            card.fill(0);
+    match price(prices, file, limit, first, second) {
+        Ok(priced) => match lay(priced, &first[..priced.report.left], card) {
+            Ok(carded) => Ok(carded),
+            Err(why) => {
+                keep(first, second, 0);
+                Err(why)
+            }
+        },
+        Err(why) => {
+            clear(card);
+            Err(why.into())
         }
     }
-    answer
 }

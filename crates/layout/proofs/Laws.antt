@@ -123,13 +123,13 @@ module _ (pump pulses charge : ℕ) (p : pump ≤ 9) (n : pulses ≤ 4294967295)
   two = field 14 (decimal pulses)
 
   digit_few : length (decimal pump) ≤ 2
-  digit_few = omega (arith, decimal_length 0 pump (omega arith) (omega arith))
+  digit_few = omega (arith, decimal_length 0 pump (omega arith))
 
   digits_few : length (decimal pulses) ≤ 14
-  digits_few = omega (arith, decimal_length 9 pulses (omega arith) (omega arith))
+  digits_few = omega (arith, decimal_length 9 pulses (omega arith))
 
   charge_few : length (decimal charge) ≤ 16
-  charge_few = omega (arith, decimal_length 12 charge (omega arith) (omega arith))
+  charge_few = omega (arith, decimal_length 12 charge (omega arith))
 
   one_long : length one ≡ 2
   one_long = field_length 2 (decimal pump) digit_few
@@ -174,7 +174,7 @@ module _ (total : ℕ) (h : total ≤ 38654705655000) where
   name = characters "TOTAL"
 
   total_few : length (decimal total) ≤ 27
-  total_few = omega (arith, decimal_length 13 total (omega arith) (omega arith))
+  total_few = omega (arith, decimal_length 13 total (omega arith))
 
   name_printed : Printed name
   name_printed =

@@ -11,7 +11,7 @@ use Rattle.calculus.proofs.Bounds.{operate_bounded}
 use Rattle.calculus.proofs.Padding.{padded_take, padded_length}
 use Rattle.ends.specs.Results.{Line, line_of}
 use Rattle.lister.specs.Listing.{text_of, listing}
-use Rattle.lister.specs.Numbered.{text_by, LeftWithin}
+use Rattle.lister.specs.Numbered.{text_by, LeftWithin, WantedFew}
 
 -- What a run is told in.
 abbrev told_of : Verdict Result → Verdict Line
@@ -29,6 +29,10 @@ module _ (bytes : List ℕ) where
   within (refused n p) q = tt
   within (passed r) q = omega (arith, left_few r q, padded_length 4096 r.left)
 
+  few : (v : Verdict Result) → ran ≡ v → WantedFew (told_of v)
+  few (refused n p) q = tt
+  few (passed r) q = (operate_bounded bytes 1000000 4096 4096 r q).1
+
   text_of_lem : (v : Verdict Result) → ran ≡ v → text_by (told_of v) (first_after 4096 v) ≡ text_of v
   text_of_lem (refused n p) q = refl
   text_of_lem (passed r) q = rw (padded_take 4096 (length r.left) r.left (left_few r q) refl)
@@ -39,6 +43,9 @@ module _ (bytes : List ℕ) where
 
     pub left_within : LeftWithin x first
     left_within = rw (told, held) (within ran refl)
+
+    pub wanted_few : WantedFew x
+    wanted_few = rw told (few ran refl)
 
     pub text_is : text_by x first ≡ listing bytes
     unfolding listing

@@ -1,5 +1,5 @@
 -- Fields, one after the other, and how many bytes they have. Assumes nothing.
-use Prim.Native.Nat.{ℕ, ◌+◌, ◌≤◌, ◌<◌}
+use Prim.Native.Nat.{ℕ, zero, suc, ◌+◌, ◌≤◌, ◌<◌}
 use mathlib.Core.List.{List, [], ◌∷◌, ◌++◌, append_assoc, append-nil}
 use mathlib.Core.Path.{◌≡◌, sym, ap, ◌∙◌}
 use native.Mathlib.Omega.{arith}
@@ -9,10 +9,17 @@ use lib.Seq.{take-suc}
 use Rattle.text.specs.Decimal.{decimal}
 use Rattle.text.proofs.Decimals.{decimal_length}
 use Rattle.lister.specs.Listing.{field, fields}
+use Rattle.lister.specs.Numbered.{Short}
 
 -- A number of 32 bits has at most ten digits.
 pub digits_few : (n : ℕ) → n < 4294967296 → length (decimal n) ≤ 10
-digits_few n h = decimal_length 9 n (omega arith) (omega arith)
+digits_few n h = decimal_length 9 n (omega arith)
+
+-- Each of such numbers is one.
+pub short_at : (ns : List ℕ) → Short ns → (i : ℕ) → i < length ns → get_or ns i 0 < 4294967296
+short_at [] s i h = absurd (omega (arith, h))
+short_at (n ∷ ns) s zero h = s.0
+short_at (n ∷ ns) s (suc i) h = short_at ns s.1 i (omega (arith, h))
 
 -- One field more.
 fields_append : (ns : List ℕ) (n : ℕ) → fields ns ++ field n ≡ fields (ns ++ n ∷ [])

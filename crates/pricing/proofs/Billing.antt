@@ -13,7 +13,6 @@ use Rattle.calculus.specs.Trees.{Ty, N, list, ml, Term}
 use Rattle.calculus.specs.Words.{put_ty, words_ty, size}
 use Rattle.std.specs.Prelude.{Result, Ok, Err}
 use Rattle.std.specs.Array.{AllOfLen}
-use Rattle.std.specs.Result.{is_err}
 use Rattle.calculus.specs.Verdicts.{Verdict, refused, passed, and_then}
 use Rattle.calculus.specs.Inference.{same_type}
 use Rattle.calculus.specs.Run as runs
@@ -22,7 +21,7 @@ use Rattle.calculus.specs.File.{words_of, check, run_in, padded, left_by}
 use Rattle.calculus.proofs.Checks.{passes_in_order}
 use Rattle.calculus.proofs.Inference.{same_iff}
 use Rattle.calculus.proofs.Comparison.{equal_by_words}
-use Rattle.calculus.proofs.Verdicts.{not_both, unless_iff, passed_injective}
+use Rattle.calculus.proofs.Verdicts.{not_both, unless_iff, passed_injective, refused_injective}
 use Rattle.calculus.proofs.Padding.{padded_take}
 use Rattle.checker.proofs.Admitting.{Admits}
 use Rattle.std.proofs.lemmas.List.FromFn.{fill_by_all}
@@ -42,8 +41,8 @@ use Rattle.pricing.specs.Items.{items_in}
 use Rattle.pricing.specs.Pricing.{Bill, charged_for, uncharged, bill, billed, pricing}
 use Rattle.pricing.specs.Refusals.{refusal}
 use Rattle.pricing.specs.Answered as spec
-use Rattle.pricing.specs.Answered.{Answered, priced}
-use Rattle.pricing.specs.Parts.{Declares, Says, Billed, Left, Costs, Reads, TermOf, RecipeOf, Recipes, Bills, PricingButBuffers}
+use Rattle.pricing.specs.Answered.{Answered, Pricing, priced}
+use Rattle.pricing.specs.Parts.{Declares, Says, Left, Costs, Reads, TermOf, RecipeOf, Recipes, Bills}
 use Rattle.pricing.specs.declared.items.Items.{Items}
 use Rattle.pricing.specs.declared.Priced.{Priced}
 use Rattle.pricing.specs.declared.Unpriced.{Unpriced}
@@ -64,9 +63,20 @@ declares {ws} {r} f g = record { of = λ τ e. by τ e r (same_type ml τ (list 
     by τ e false false p q = p ∙ sym q
     by τ e false true p q = absurd (false≢true (sym p ∙ g (e ∙ (equal_by_words.same τ (list N)).0 q ∙ words_are)))
 
--- The same verdict, said in another way.
+-- The same verdict, said in another way; buffers of the same lengths.
 says_as : {v w : Verdict Bill} {x : Result Priced Unpriced} → v ≡ w → Says v x → Says w x
 says_as {x = x} e h = subst (λ (y : Verdict Bill). Says y x) e h
+
+answered_as : {v w : Verdict Bill} {x : Result Priced Unpriced} {first second first' second' : List ℕ} → v ≡ w
+    → Answered v x first second first' second' → Answered w x first second first' second'
+answered_as {x = x} {first = first} {second = second} {first' = first'} {second' = second'} e h =
+    subst (λ (y : Verdict Bill). Answered y x first second first' second') e h
+
+answered_for : {v : Verdict Bill} {x : Result Priced Unpriced} {first second first₁ second₁ first' second' : List ℕ}
+    → length first₁ ≡ length first → length second₁ ≡ length second → Answered v x first₁ second₁ first' second'
+    → Answered v x first second first' second'
+answered_for f s h =
+    record { answer_is = h.answer_is; charges_are = h.charges_are; first_is = h.first_is ∙ rw f; second_is = h.second_is ∙ rw s }
 
 -- Where the outcome is an end there is a bill, and its run's result is that end's.
 pub billed_by : (v : Verdict Bill) (x : Report) → passed (told x) ≡ and_then (spec.ran v) (λ r. passed (line_of r))
@@ -74,18 +84,10 @@ pub billed_by : (v : Verdict Bill) (x : Report) → passed (told x) ≡ and_then
 billed_by (refused n p) x q = absurd (not_both n p (told x) (sym q))
 billed_by (passed b) x q = (b, refl, passed_injective (told x) (line_of b.run) q)
 
--- A refusal, whatever the buffers hold.
-refused_billed : {v : Verdict Bill} {why : Unpriced} {first second first' second' : List ℕ} → v ≡ refusal why
-    → Billed v (Err why) first second first' second'
-refused_billed {why = why} e =
-    record {
-      says = says_as (sym e) record { answer_is = refl; charges_are = refl };
-      first_is = λ p q. absurd (no_price p q);
-      second_is = λ p q. absurd (no_price p q);
-    }
-  where
-    no_price : (p : Priced) → ◌≡◌ {A = Result Priced Unpriced} (Err why) (Ok p) → ⊥
-    no_price p q = false≢true (sym (ap is_err q))
+-- Where the answer is a refusal, the verdict is that refusal.
+refused_by : (v : Verdict Bill) {why : Unpriced} → Says v (Err why) → v ≡ refusal why
+refused_by (refused n p) s = let i = refused_injective s.answer_is in rw (i.0, i.1)
+refused_by (passed b) s = absurd (not_both _ _ (line_of b.run) s.answer_is)
 
 padded_charges : (prices : Prices) (ns : List ℕ) → length ns ≤ 9 → charges prices (padded 9 ns) ≡ charges prices ns
 unfolding padded
@@ -200,45 +202,59 @@ module _ (limit : ℕ) (ws first second : List ℕ) {first₁ second₁ : List �
             (run_listed limit cap e t.ranged t.typed (ap (λ (z : runs.Result). z.end) same ∙ v));
       }
 
-  ran_billed : (prices : Prices) {p : Result Priced Unpriced} → Costs prices x (take x.left first₁) p → (e : Term ml) → TermOf (list N) ws e
-      → Billed (and_then (run_in limit cap (list N, e)) (λ r. bill prices r r.end)) p first second first₁ second₁
-  ran_billed prices {p} g e t =
-      let r = (result t).0 in
-      let v : Verdict Bill = bill prices r r.end in
-      let is : and_then (run_in limit cap (list N, e)) (λ r. bill prices r r.end) ≡ v =
-      ap (λ (w : Verdict runs.Result). and_then w (λ r. bill prices r r.end)) (result t).1 in
-      let s = g.of r (left t) in
-      subst (λ (w : Verdict Bill). Billed w p first second first₁ second₁) (sym is)
-      record { says = s; first_is = λ y q. (ran_in t).0 ∙ ap (padded (length first)) (left_own r s y q); second_is = λ y q. (ran_in t).1 }
-    where
-      left_own : (r : runs.Result) → Says (bill prices r r.end) p → (y : Priced) → p ≡ Ok y → r.left ≡ left_by (spec.ran (bill prices r r.end))
-      left_own r s y q =
-          let spoken = ap (λ (z : Result Priced Unpriced). spec.spoken (spec.outcome z)) q in
-          let b = billed_by (bill prices r r.end) y.report (sym spoken ∙ s.answer_is) in
-          ap (λ (z : runs.Result). z.left) (sym (own prices r r.end b.0 b.1)) ∙ ap (λ (w : Verdict Bill). left_by (spec.ran w)) (sym b.1)
+  -- With a price, both buffers as the run left them; or refused, with both as the refusal leaves them.
+  module _ (prices : Prices) {e : Term ml} (t : TermOf (list N) ws e) where
+    abbrev of_run : Verdict Bill
+    of_run = and_then (run_in limit cap (list N, e)) (λ r. bill prices r r.end)
+
+    ran_is : of_run ≡ bill prices (result t).0 (result t).0.end
+    ran_is = ap (λ (w : Verdict runs.Result). and_then w (λ r. bill prices r r.end)) (result t).1
+
+    ran_priced : {y : Priced} → Costs prices x (take x.left first₁) (Ok y) → Answered of_run (Ok y) first second first₁ second₁
+    ran_priced {y} g =
+        let r = (result t).0 in
+        let s = g.of r (left t) in
+        answered_as (sym ran_is)
+        record {
+          answer_is = s.answer_is;
+          charges_are = s.charges_are;
+          first_is = (ran_in t).0 ∙ ap (padded (length first)) (left_own r s);
+          second_is = (ran_in t).1;
+        }
+      where
+        left_own : (r : runs.Result) → Says (bill prices r r.end) (Ok y) → r.left ≡ left_by (spec.ran (bill prices r r.end))
+        left_own r s =
+            let b = billed_by (bill prices r r.end) y.report s.answer_is in
+            ap (λ (z : runs.Result). z.left) (sym (own prices r r.end b.0 b.1)) ∙ ap (λ (w : Verdict Bill). left_by (spec.ran w)) (sym b.1)
+
+    ran_refused : {why : Unpriced} {p : Result Priced Unpriced} {first' second' : List ℕ} → Costs prices x (take x.left first₁) (Err why)
+        → Answered (refusal why) p first₁ second₁ first' second' → Answered of_run p first second first' second'
+    ran_refused g a = answered_as (sym (ran_is ∙ refused_by _ (g.of (result t).0 (left t)))) (answered_for f s a)
 
 -- Refusal 8.
 run_refused : (prices : Prices) (limit : ℕ) (ws first second : List ℕ) {first₁ second₁ : List ℕ} {r : Refusal}
     → Begun limit ws (Err r) first second first₁ second₁ → (e : Term ml) → TermOf (list N) ws e
-    → Billed (and_then (run_in limit (capacity (length first) (length second)) (list N, e)) (λ r. bill prices r r.end)) (Err (u.Recipe r))
+    → Answered (and_then (run_in limit (capacity (length first) (length second)) (list N, e)) (λ r. bill prices r r.end)) (Err (u.Recipe r))
     first second first₁ second₁
 run_refused prices limit ws first second {r = r} b e t =
     let y = b.of e (list N) t.words_are (good t) in
-    refused_billed
-    (ap (λ (w : Verdict runs.Result). and_then w (λ r. bill prices r r.end))
-    (refused_by_lem (run_in limit (capacity (length first) (length second)) (list N, e)) r y.answer_is))
+    let v = refused_by_lem (run_in limit (capacity (length first) (length second)) (list N, e)) r y.answer_is in
+    answered_as (sym (ap (λ (w : Verdict runs.Result). and_then w (λ r. bill prices r r.end)) v))
+    record { answer_is = refl; charges_are = refl; first_is = y.first_is ∙ rw v; second_is = y.second_is }
 
 -- Refusal 9, or the run: by the declared type.
 module _ (prices : Prices) (limit : ℕ) (types terms first second : List ℕ) where
   abbrev of_term : Ty → Term ml → Verdict Bill
   of_term τ e = and_then (run_in limit (capacity (length first) (length second)) (τ, e)) (λ r. bill prices r r.end)
 
-  pub bill_other : {r : Bool} → Declares types r → r ≡ false → Bills prices limit types terms first second (Err u.Declared) first second
+  pub bill_other : {r : Bool} {p : Result Priced Unpriced} {first' second' : List ℕ} → Declares types r → r ≡ false
+      → Answered (refusal u.Declared) p first second first' second' → Bills prices limit types terms first second p first' second'
   unfolding billed
-  bill_other d f = record { of = λ τ e i. refused_billed (rw (← (d.of τ i.types_are), f)) }
+  bill_other d f a = record { of = λ τ e i. answered_as (sym (rw (← (d.of τ i.types_are), f))) a }
 
-  module _ {r : Bool} (d : Declares types r) (f : r ≡ true) {p : Result Priced Unpriced} {first' second' : List ℕ} where
-    bill_as : ((e : Term ml) → TermOf (list N) terms e → Billed (of_term (list N) e) p first second first' second')
+  module _ {r : Bool} (d : Declares types r) (f : r ≡ true) where
+    bill_as : {p : Result Priced Unpriced} {first' second' : List ℕ}
+        → ((e : Term ml) → TermOf (list N) terms e → Answered (of_term (list N) e) p first second first' second')
         → Bills prices limit types terms first second p first' second'
     unfolding billed
     bill_as a =
@@ -248,20 +264,25 @@ module _ (prices : Prices) (limit : ℕ) (types terms first second : List ℕ) w
               let q = (same_iff ml τ (list N)).0 t in
               let is : of_term (list N) e ≡ billed prices limit (capacity (length first) (length second)) (τ, e) =
               sym (rw t (ap (λ (σ : Ty). of_term σ e) q)) in
-              subst (λ (w : Verdict Bill). Billed w p first second first' second') is
-              (a e (subst (λ (σ : Ty). TermOf σ terms e) q i.term_is));
+              answered_as is (a e (subst (λ (σ : Ty). TermOf σ terms e) q i.term_is));
         }
 
-    pub bill_run : {x : Report} → Begun limit terms (Ok x) first second first' second' → length first' ≡ length first
-        → length second' ≡ length second → Costs prices x (take x.left first') p → Bills prices limit types terms first second p first' second'
-    bill_run b k l g = bill_as (ran_billed limit terms first second b k l prices g)
-
-    pub bill_refused : {x : Refusal} → Begun limit terms (Err x) first second first' second' → p ≡ Err (u.Recipe x)
-        → Bills prices limit types terms first second p first' second'
-    bill_refused {x} b q =
+    pub bill_refused : {x : Refusal} {p : Result Priced Unpriced} {first' second' : List ℕ} → Begun limit terms (Err x) first second first' second'
+        → p ≡ Err (u.Recipe x) → Bills prices limit types terms first second p first' second'
+    bill_refused {x} {first' = first'} {second' = second'} b q =
         bill_as
-        (λ e t. subst (λ (y : Result Priced Unpriced). Billed (of_term (list N) e) y first second first' second') (sym q)
+        (λ e t. subst (λ (y : Result Priced Unpriced). Answered (of_term (list N) e) y first second first' second') (sym q)
         (run_refused prices limit terms first second b e t))
+
+    -- Of a run that ended: with what it costs, or refused for it.
+    module _ {x : Report} {first₁ second₁ : List ℕ} (b : Begun limit terms (Ok x) first second first₁ second₁)
+        (k : length first₁ ≡ length first) (l : length second₁ ≡ length second) where
+      pub bill_run : {y : Priced} → Costs prices x (take x.left first₁) (Ok y) → Bills prices limit types terms first second (Ok y) first₁ second₁
+      bill_run g = bill_as (λ e t. ran_priced limit terms first second b k l prices t g)
+
+      pub bill_costly : {why : Unpriced} {p : Result Priced Unpriced} {first' second' : List ℕ} → Costs prices x (take x.left first₁) (Err why)
+          → Answered (refusal why) p first₁ second₁ first' second' → Bills prices limit types terms first second p first' second'
+      bill_costly g a = bill_as (λ e t. ran_refused limit terms first second b k l prices t g a)
 
 -- A recipe of type {N}.
 pub of_numbers : {types terms : List ℕ} {r : Bool} (m : Recipes types terms) → Declares types r → r ≡ true → TermOf (list N) terms m.term
@@ -305,20 +326,21 @@ module _ {bytes all : List ℕ} {types n : ℕ} (m : Admits bytes all types n) w
       }
 
 -- The whole operation: refused by the prices or by the check, or billed.
-module _ (prices : Prices) (l : Lent) where
-  pub priced_over : all_within prices ≡ false → PricingButBuffers prices l (spec.returned (Err u.Prices) l.first l.second)
+module _ (prices : Prices) (l : Lent) {p : Result Priced Unpriced} {first' second' : List ℕ} where
+  pub priced_over : all_within prices ≡ false → Answered (refusal u.Prices) p l.first l.second first' second'
+      → Pricing prices l (spec.returned p first' second')
   unfolding pricing
-  priced_over w = refused_billed (rw w)
+  priced_over w a = answered_as (sym (rw w)) a
 
   pub priced_refused : (r : Refusal) → all_within prices ≡ true → check l.bytes ≡ nodes.refusal r
-      → PricingButBuffers prices l (spec.returned (Err (u.Recipe r)) l.first l.second)
+      → Answered (refusal (u.Recipe r)) p l.first l.second first' second' → Pricing prices l (spec.returned p first' second')
   unfolding pricing
-  priced_refused r w q = refused_billed (rw (w, q))
+  priced_refused r w q a = answered_as (sym (rw (w, q))) a
 
-  pub priced_billed : {all : List ℕ} {types n : ℕ} {p : Result Priced Unpriced} {first' second' : List ℕ} → all_within prices ≡ true
-      → (m : Admits l.bytes all types n) → Bills prices l.limit (types_in m) (terms_in m) l.first l.second p first' second'
-      → PricingButBuffers prices l (spec.returned p first' second')
+  pub priced_billed : {all : List ℕ} {types n : ℕ} → all_within prices ≡ true → (m : Admits l.bytes all types n)
+      → Bills prices l.limit (types_in m) (terms_in m) l.first l.second p first' second'
+      → Pricing prices l (spec.returned p first' second')
   unfolding pricing
-  priced_billed {p = p} {first' = first'} {second' = second'} w m b =
+  priced_billed w m b =
       let is : billed prices l.limit (room l) m.recipe ≡ priced prices l = sym (rw (w, m.accepted)) in
-      subst (λ (v : Verdict Bill). Billed v p l.first l.second first' second') is (b.of m.recipe.0 m.recipe.1 (recipe_in m))
+      answered_as is (b.of m.recipe.0 m.recipe.1 (recipe_in m))

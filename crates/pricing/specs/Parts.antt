@@ -1,5 +1,5 @@
 -- What the parts of pricing promise one another. Nothing here has to be believed: `price` promises what specs/Answered.antt says.
-use Rattle.std.specs.Prelude.{ℕ, ◌≤◌, Bool, List, [], ◌≡◌, length, Result, Ok}
+use Rattle.std.specs.Prelude.{ℕ, ◌≤◌, Bool, List, [], ◌≡◌, length, Result}
 use Rattle.calculus.specs.Trees.{Ty, N, list, ml, Term}
 use Rattle.calculus.specs.Words.{words, words_ty}
 use Rattle.calculus.specs.Limits.{InRange}
@@ -8,14 +8,13 @@ use Rattle.calculus.specs.Verdicts.{Verdict, passed, and_then}
 use Rattle.calculus.specs.Inference.{same_type}
 use Rattle.calculus.specs.Run as runs
 use Rattle.calculus.specs.Run.{valued, capacity}
-use Rattle.calculus.specs.File.{first_after, second_after, padded}
-use Rattle.engine.specs.Lent.{Lent}
+use Rattle.calculus.specs.File.{padded}
 use Rattle.ends.specs.declared.Report.{Report}
 use Rattle.ends.specs.Results.{line_of, told}
 use Rattle.charges.specs.Prices.{Prices}
 use Rattle.pricing.specs.Items.{list_of}
 use Rattle.pricing.specs.Pricing.{Bill, bill, billed}
-use Rattle.pricing.specs.Answered.{outcome, spoken, charges_in, charges_of, ran, Returned, priced}
+use Rattle.pricing.specs.Answered.{outcome, spoken, charges_in, charges_of, ran, Answered}
 use Rattle.pricing.specs.declared.items.Items.{Items}
 use Rattle.pricing.specs.declared.Unpriced.{Unpriced}
 use Rattle.pricing.specs.declared.Priced.{Priced}
@@ -28,15 +27,10 @@ pub record Reads (ws : List ℕ) (x : Items) : Type 0 where
 pub record Declares (ws : List ℕ) (r : Bool) : Type 0 where
   pub of : (τ : Ty) → ws ≡ words_ty τ → r ≡ same_type ml τ (list N)
 
--- An answer is a verdict's; and both buffers hold what its run leaves, where it is no refusal.
+-- An answer is a verdict's, whatever the buffers hold.
 pub record Says (v : Verdict Bill) (x : Result Priced Unpriced) : Type 0 where
   pub answer_is : spoken (outcome x) ≡ and_then (ran v) (λ r. passed (line_of r))
   pub charges_are : charges_in x ≡ charges_of v
-
-pub record Billed (v : Verdict Bill) (x : Result Priced Unpriced) (first second first' second' : List ℕ) : Type 0 where
-  pub says : Says v x
-  pub first_is : (p : Priced) → x ≡ Ok p → first' ≡ first_after (length first) (ran v)
-  pub second_is : (p : Priced) → x ≡ Ok p → second' ≡ second_after (length second) (ran v)
 
 -- The report and the words left are those of a run with the result r; at a value the words are a list of numbers.
 pub record Left (x : Report) (left : List ℕ) (r : runs.Result) : Type 0 where
@@ -69,8 +63,4 @@ pub record Recipes (types terms : List ℕ) : Type 0 where
 pub record Bills (prices : Prices) (limit : ℕ) (types terms first second : List ℕ) (p : Result Priced Unpriced) (first' second' : List ℕ)
     : Type 0 where
   pub of : (τ : Ty) (e : Term ml) → RecipeOf types terms τ e
-      → Billed (billed prices limit (capacity (length first) (length second)) (τ, e)) p first second first' second'
-
--- The whole operation on what is lent, but for what both buffers hold where it is refused.
-abbrev pub PricingButBuffers : Prices → Lent → Returned → Type 0
-PricingButBuffers prices l g = Billed (priced prices l) g.answer l.first l.second g.first g.second
+      → Answered (billed prices limit (capacity (length first) (length second)) (τ, e)) p first second first' second'

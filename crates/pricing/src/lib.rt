@@ -6,8 +6,9 @@ pub mod items;
 
 ghost use Rattle.std.specs.Prelude.{◌≡◌, ◌≤◌, length};
 ghost use Rattle.engine.specs.Lent.{lent};
-ghost use Rattle.pricing.specs.Answered.{Pricing, returned};
-ghost use Rattle.pricing.specs.Parts.{Declares, Bills, Recipes, Costs, PricingButBuffers};
+ghost use Rattle.pricing.specs.Refusals.{refusal};
+ghost use Rattle.pricing.specs.Answered.{Answered, Pricing, returned};
+ghost use Rattle.pricing.specs.Parts.{Declares, Bills, Recipes, Costs};
 
 use charges::{Charges, Prices, charged, within};
 use checker::admit;
@@ -33,8 +34,8 @@ impl From<Refusal> for Unpriced {
 
     ghost from_gives = { λ r u. u ≡ Recipe r };
 
-    fn from(r: Refusal) -> Unpriced {
-        Unpriced::Recipe(r)
+    fn from(refusal: Refusal) -> Unpriced {
+        Unpriced::Recipe(refusal)
     }
 }
 
@@ -61,6 +62,14 @@ impl From<Unpriced> for Numbers {
 pub struct Priced {
     pub report: Report,
     pub charges: Charges,
+}
+
+// A refusal of pricing's own, or of what comes before the run: both buffers all zero.
+fn refused(why: Unpriced, first: &mut [u32], second: &mut [u32]) -> Result<Priced, Unpriced>
+    ensures { Answered (refusal why) result first.old second.old first.new second.new }
+{
+    keep(first, second, 0);
+    Err(why)
 }
 
 // Whether the words of a declared type are those of {N}.
@@ -106,39 +115,13 @@ fn bill(
     ensures { Bills prices limit types.now terms.now first.old second.old result first.new second.new }
 {
     if !is_numbers(types) {
-        return Err(Unpriced::Declared);
+        return refused(Unpriced::Declared, first, second);
     }
     let report = begin(terms, limit, first, second)?;
-    cost(prices, report, &first[..report.left])
-}
-
-// The price of a can, but for the buffers of a can that has none.
-fn find_price(
-    prices: Prices,
-    file: &[u8],
-    limit: u32,
-    first: &mut [u32],
-    second: &mut [u32],
-) -> Result<Priced, Unpriced>
-    ensures { PricingButBuffers prices
-        (lent file.now limit first.old second.old)
-        (returned result first.new second.new) }
-{
-    if !within(prices) {
-        return Err(Unpriced::Prices);
+    match cost(prices, report, &first[..report.left]) {
+        Ok(priced) => Ok(priced),
+        Err(why) => refused(why, first, second),
     }
-    let mut all = [0; 4096];
-    let recipe = admit(file, &mut all)?;
-    let words = &all[..recipe.count];
-    let start = 4 + recipe.type_count;
-    bill(
-        prices,
-        &words[4..start],
-        &words[start..],
-        limit,
-        first,
-        second,
-    )
 }
 
 // The price of a can: for every table, every file, every limit and every pair of buffers, whatever they held. Where there is none, the buffers are 0.
@@ -153,9 +136,23 @@ pub fn price(
         (lent file.now limit first.old second.old)
         (returned result first.new second.new) }
 {
-    let answer = find_price(prices, file, limit, first, second);
-    if answer.is_err() {
-        keep(first, second, 0);
+    if !within(prices) {
+        return refused(Unpriced::Prices, first, second);
     }
-    answer
+    let mut all = [0; 4096];
+    match admit(file, &mut all) {
+        Ok(recipe) => {
+            let words = &all[..recipe.count];
+            let start = 4 + recipe.type_count;
+            bill(
+                prices,
+                &words[4..start],
+                &words[start..],
+                limit,
+                first,
+                second,
+            )
+        }
+        Err(refusal) => refused(refusal.into(), first, second),
+    }
 }

@@ -1,6 +1,6 @@
 -- What saving answers: each way out of the code is one law. Assumes nothing.
 use Prim.Native.Nat.{ℕ, ◌+◌, ◌*◌, ◌≤◌, ◌<◌}
-use mathlib.Core.Bool.{false≢true}
+use mathlib.Core.Bool.{false, false≢true}
 use mathlib.Core.List.{List}
 use mathlib.Core.Path.{◌≡◌, refl, sym, ap, ◌∙◌}
 use native.Mathlib.Omega.{arith}
@@ -20,11 +20,11 @@ use Rattle.writing.proofs.Stores.{wrote_as}
 use Rattle.checker.specs.Checks.{checked, accepting, judging}
 use Rattle.saving.specs.Saving.{file_bytes, saving}
 use Rattle.saving.specs.Answered.{length_of, written_by}
-use Rattle.saving.specs.Parts.{FewWords, Answers, Writes}
+use Rattle.saving.specs.Parts.{FewWords, written, Answers, Writes}
 use Rattle.saving.specs.Refusals.{number_of, place_of, refusal}
 use Rattle.saving.specs.declared.Unsaved.{Unsaved}
 use Rattle.saving.specs.declared.Unsaved.TheVariants as u
-use Rattle.saving.proofs.Bytes.{file_length, file_bytes_lem, types_part, terms_part}
+use Rattle.saving.proofs.Bytes.{bytes_length, file_length, types_part, terms_part}
 
 -- What a verdict without its bytes came from.
 pub refused_by_lem : (v : Verdict (List ℕ)) (u : Unsaved) → refusal u ≡ length_of v → v ≡ refusal u
@@ -55,15 +55,18 @@ written_as {out' = out'} {file} {n} e h w =
     same : {k : ℕ} → ◌≡◌ {A = Result ℕ Unsaved} (Ok n) (Ok k) → n ≡ k
     same q = cc
 
+answers_as : {v v' : Verdict (List ℕ)} {x : Result ℕ Unsaved} {out' : List ℕ} → v ≡ v' → Answers v x out' → Answers v' x out'
+answers_as e a = record { answer_is = a.answer_is ∙ ap length_of e; out_is = λ n q. a.out_is n q ∙ ap written_by e }
+
 -- The words of the file, as the code judges them.
 module _ (types terms : List ℕ) where
   file_judged : judging (file_of types terms) (length types) ≡ judged types terms (4 + length types)
   file_judged = rw (types_part types terms, terms_part types terms)
 
   -- 12; 3 to 7; and past them 13, or the file.
-  pub too_long : (room : ℕ) → 4092 < length types + length terms → refused 12 0 ≡ saving types terms room
+  pub too_long : (room : ℕ) → leb (file_bytes (length types) (length terms)) 16384 ≡ false → refused 12 0 ≡ saving types terms room
   unfolding saving
-  too_long room h = rw (lt-leb (file_bytes (length types) (length terms)) 16384 (omega arith))
+  too_long room h = rw h
 
   module _ (room : ℕ) (few : FewWords types terms) where
     writing_as : (v : Verdict Recipe) → judged types terms (4 + length types) ≡ v
@@ -91,8 +94,17 @@ module _ (types terms : List ℕ) where
         by (refused n p) e h = absurd (not_both n p tt (sym h))
         by (passed x) e h = writing_as (passed x) e
 
+-- 13, or the bytes of a file's words.
+pub too_short : (ws out : List ℕ) {out' : List ℕ} → length out < 4 * length ws → Answers (written ws (length out)) (Err u.Short) out'
+too_short ws out h = refused_as (sym (rw (lt-leb (4 * length ws) (length out) h)))
+
+pub bytes_written : (ws out : List ℕ) {out' : List ℕ} {n : ℕ} → 4 * length ws ≤ length out → Wrote out 0 (bytes_of ws) n out'
+    → Answers (written ws (length out)) (Ok n) out'
+bytes_written ws out h w = written_as (rw (le-leb (4 * length ws) (length out) h)) (omega (arith, h, bytes_length ws)) w
+
 -- A save that is too long.
-pub refused_12 : (types terms out : List ℕ) {out' : List ℕ} → 4092 < length types + length terms → Writes types terms out (Err u.Long) out'
+pub refused_12 : (types terms out : List ℕ) {out' : List ℕ} → leb (file_bytes (length types) (length terms)) 16384 ≡ false
+    → Writes types terms out (Err u.Long) out'
 refused_12 types terms out h = refused_as (too_long types terms (length out) h)
 
 -- The words of the file, where they were filled in.
@@ -112,17 +124,16 @@ module _ (types terms : List ℕ) {all all' : List ℕ} {count : ℕ} (few : Few
       → Writes types terms out (Err (u.Recipe r)) out'
   refused_by_check out r q = refused_as (judged_out types terms (length out) few r (judged_as (Err r) q))
 
-  module _ (out : List ℕ) {out' : List ℕ} (q : passed tt ≡ accepting (judging (take count all') (length types))) where
-    pub refused_13 : length out < 4 * count → Writes types terms out (Err u.Short) out'
-    refused_13 h =
-        refused_as
-        (sym
-        (judged_in types terms (length out) few (judged_as (Ok tt) q)
-        ∙ rw (lt-leb (file_bytes (length types) (length terms)) (length out) (omega (arith, h, count_is)))))
+  pub judged_and_put : (out : List ℕ) {out' : List ℕ} {x : Result ℕ Unsaved}
+      → passed tt ≡ accepting (judging (take count all') (length types))
+      → Answers (written (take count all') (length out)) x out' → Writes types terms out x out'
+  judged_and_put out q a = answers_as (as_written ∙ sym (judged_in types terms (length out) few (judged_as (Ok tt) q))) a
+    where
+      same_bytes : 4 * length (file_of types terms) ≡ file_bytes (length types) (length terms)
+      same_bytes = omega (arith, file_length types terms)
 
-    pub file_written : {n : ℕ} → 4 * count ≤ length out → Wrote out 0 (bytes_of (take count all')) n out' → Writes types terms out (Ok n) out'
-    file_written h v =
-        written_as
-        (judged_in types terms (length out) few (judged_as (Ok tt) q)
-        ∙ rw (le-leb (file_bytes (length types) (length terms)) (length out) (omega (arith, h, count_is))))
-        (omega (arith, h, count_is, file_bytes_lem types terms)) (wrote_as (ap bytes_of front) v)
+      as_written : written (take count all') (length out)
+          ≡ unless (leb (file_bytes (length types) (length terms)) (length out)) 13 0 (passed (bytes_of (file_of types terms)))
+      as_written =
+          ap (λ (l : List ℕ). written l (length out)) front
+          ∙ ap (λ (n : ℕ). unless (leb n (length out)) 13 0 (passed (bytes_of (file_of types terms)))) same_bytes

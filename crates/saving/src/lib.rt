@@ -2,11 +2,12 @@
 
 #![tactic(auto)]
 
-ghost use Rattle.std.specs.Prelude.{◌≤◌, length};
+ghost use Rattle.std.specs.Prelude.{◌≡◌, ◌≤◌, leb, length};
 ghost use Rattle.calculus.specs.File.{bytes_of, file_of};
 ghost use Rattle.writing.specs.Wrote.{Wrote};
+ghost use Rattle.saving.specs.Saving.{file_bytes};
 ghost use Rattle.saving.specs.Answered.{Saves};
-ghost use Rattle.saving.specs.Parts.{FewWords, Writes};
+ghost use Rattle.saving.specs.Parts.{FewWords, written, Answers, Writes};
 
 use checker::judge;
 use nodes::refusals::{Numbers, Refusal, plain};
@@ -48,6 +49,16 @@ impl From<Unsaved> for Numbers {
     }
 }
 
+// Whether the file of a type and a term of so many words has at most 16,384 bytes. No sum is made, so that none wraps.
+fn fits(types: usize, terms: usize) -> bool
+    ensures { result ≡ leb (file_bytes types terms) 16384 }
+{
+    if 4092 < types {
+        return false;
+    }
+    terms <= 4092 - types
+}
+
 // The words of the file, from the buffer's start on. Returns how many they are.
 fn fill(types: &[u32], terms: &[u32], all: &mut [u32]) -> usize
     requires { FewWords types.now terms.now }
@@ -74,20 +85,29 @@ fn put_words(words: &[u32], out: &mut [u8]) -> usize
     bytes.at
 }
 
-// Saves words as `save` does, but for the zeros in the buffer. That the file is not too long is asked without a sum that could wrap.
+// Refusal 13, or the bytes of the file's words, put first in the buffer.
+fn put_file(words: &[u32], out: &mut [u8]) -> Result<usize, Unsaved>
+    requires { length words.now ≤ 4096 }
+    ensures { Answers (written words.now (length out.old)) result out.new }
+{
+    if out.len() < 4 * words.len() {
+        return Err(Unsaved::Short);
+    }
+    Ok(put_words(words, out))
+}
+
+// Saves words as `save` does, but for the zeros in the buffer.
 fn write(types: &[u32], terms: &[u32], out: &mut [u8]) -> Result<usize, Unsaved>
     ensures { Writes types.now terms.now out.old result out.new }
 {
-    if 4092 < types.len().saturating_add(terms.len()) {
+    let n = types.len();
+    if !fits(n, terms.len()) {
         return Err(Unsaved::Long);
     }
     let mut all = [0; 4096];
     let count = fill(types, terms, &mut all);
-    judge(&all[..count], types.len())?;
-    if out.len() < 4 * count {
-        return Err(Unsaved::Short);
-    }
-    Ok(put_words(&all[..count], out))
+    judge(&all[..count], n)?;
+    put_file(&all[..count], out)
 }
 
 // Saves the words of a declared type and of a term as a recipe file: for all words handed in and every buffer, whatever it held. Returns how many

@@ -1,14 +1,15 @@
--- Laws of numbers in decimal: they are spelt as the library spells them, with so many digits, and a reader has them back. Assumes nothing.
+-- Laws of numbers in decimal: they are spelt digit by digit, as the library does, with so many digits, and a reader has them back. Assumes nothing.
 use Prim.Native.Nat.{ℕ, zero, suc, ◌+◌, ◌-◌, ◌*◌, ◌/◌, ◌%◌, ◌^◌, ◌≤◌, ◌<◌}
 use mathlib.Core.List.{List, [], ◌∷◌, ◌++◌}
 use mathlib.Core.Logic.{◌⊎◌, inl, inr, ◌↔◌}
 use mathlib.Core.Path.{◌≡◌, refl, sym, ap, ◌∙◌, subst}
 use native.Mathlib.Decide.{dec_lt}
+use native.Mathlib.Nat.{pow-suc}
 use native.Mathlib.Omega.{arith}
 use lib.ListN.{length, length-append, get_or}
 use borrow.Author.Tests.{lt-ltb, le-ltb}
 use Rattle.std.specs.Fmt.{decimal as std_decimal}
-use Rattle.std.proofs.lemmas.Fmt.{AppendsLastDigit, decimal_from_appends, length-decimal-le, length-decimal-le_succ}
+use Rattle.std.proofs.lemmas.Fmt.{AppendsLastDigit, decimal_from_appends, length-decimal-le_succ}
 use Rattle.text.specs.Decimal.{digit, spelt, decimal, Digits, value_after, InDecimal}
 
 -- One digit, or the digits of the tenth and one more.
@@ -35,12 +36,31 @@ decimal_few : (n : ℕ) → n < 10 → decimal n ≡ digit n ∷ []
 unfolding decimal
 decimal_few n h = small n n h
 
-decimal_more : (n : ℕ) → 10 ≤ n → decimal n ≡ decimal (n / 10) ++ digit (n % 10) ∷ []
+pub decimal_small : (n : ℕ) → n < 10 → decimal n ≡ digit (n % 10) ∷ []
+decimal_small n h = let e : n % 10 ≡ n = omega arith in decimal_few n h ∙ rw e
+
+pub decimal_more : (n : ℕ) → 10 ≤ n → decimal n ≡ decimal (n / 10) ++ digit (n % 10) ∷ []
 unfolding decimal
 decimal_more zero h = absurd (omega (arith, h))
 decimal_more (suc n) h =
     let same = enough n (suc n / 10) (suc n / 10) (omega arith) (omega arith) in
     more n (suc n) h ∙ ap (λ (ds : List ℕ). ds ++ digit (suc n % 10) ∷ []) same
+
+-- A number below a power of ten has no more digits than the power says.
+pub decimal_length : (k n : ℕ) → n < 10 ^ suc k → length (decimal n) ≤ suc k
+decimal_length zero n h = rw (decimal_small n h) (omega arith)
+decimal_length (suc k) n h = by (dec_lt n 10) (λ g. decimal_length k (n / 10) g)
+  where
+    by : Dec (n < 10) → (n / 10 < 10 ^ suc k → length (decimal (n / 10)) ≤ suc k) → length (decimal n) ≤ suc (suc k)
+    by (yes g) fewer = rw (decimal_small n g) (omega arith)
+    by (no g) fewer =
+        let le : 10 ≤ n = omega arith in
+        omega (
+          arith,
+          ap length (decimal_more n le),
+          length-append (decimal (n / 10)) (digit (n % 10) ∷ []),
+          fewer (omega (arith, pow-suc 10 (suc k), h)),
+        )
 
 -- A number of 64 bits is spelt as the library spells it.
 steps : AppendsLastDigit spelt
@@ -50,10 +70,6 @@ pub decimal_is : (n : ℕ) → n < 2 ^ 64 → std_decimal n ≡ decimal n
 unfolding decimal
 decimal_is n h =
     sym (decimal_from_appends spelt steps (n + 1) n h (length-decimal-le_succ n h)) ∙ enough (n + 1) n n (omega arith) (omega arith)
-
--- A number of 64 bits below a power of ten has no more digits than the power says.
-pub decimal_length : (k n : ℕ) → n < 10 ^ suc k → n < 2 ^ 64 → length (decimal n) ≤ suc k
-decimal_length k n h i = omega (arith, ap length (decimal_is n i), length-decimal-le (suc k) n (omega arith) h i)
 
 -- What a reader must know of it.
 digits_append : (xs ys : List ℕ) → Digits xs → Digits ys → Digits (xs ++ ys)

@@ -3,6 +3,7 @@ use native.Mathlib.Omega.{arith}
 use Rattle.writing.proofs.Stores.{puts_then}
 use Rattle.text.proofs.Decimals.{decimal_length}
 use Rattle.lister.specs.Listing.{field}
+use Rattle.lister.proofs.Written.{digits_few}
 use Rattle.lister.proofs.field.Goals as goal
 
 pub returns : goal.returns
@@ -13,6 +14,6 @@ returns c =
     let d = c.put_decimal.ensures.wrote.place in
     record {
       put = puts_then c.put.ensures c.put_decimal.ensures;
-      bound = omega (arith, b, d, decimal_length 19 n (omega arith) (omega arith));
-      short = λ h. omega (arith, b, d, decimal_length 9 n (omega arith) (omega arith));
+      bound = omega (arith, b, d, decimal_length 19 n (omega arith));
+      short = λ h. omega (arith, b, d, digits_few n h);
     }

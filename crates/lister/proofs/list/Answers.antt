@@ -4,13 +4,17 @@ use native.Mathlib.Omega.{arith}
 use mathlib.Core.Path.{ap}
 use lib.ListN.{length}
 use Rattle.writing.proofs.Stores.{puts_as, padded_by}
-use Rattle.lister.proofs.Texts.{first_long, left_within, text_is}
+use Rattle.lister.proofs.Texts.{first_long, left_within, wanted_few, text_is}
 use Rattle.lister.proofs.list.Goals as goal
 
 pub lines-requires : goal.lines-requires
 lines-requires c =
-    let r = c.run-answer.ensures in
-    (left_within _ _ _ r.answer_is r.first_is, omega (arith, first_long _ _ _ r.answer_is r.first_is), omega (arith, c.new-listing.ensures))
+    let r = c.run-answer.ensures in (
+      left_within _ _ _ r.answer_is r.first_is,
+      wanted_few _ _ _ r.answer_is r.first_is,
+      omega (arith, first_long _ _ _ r.answer_is r.first_is),
+      omega (arith, c.new-listing.ensures),
+    )
 
 pub returns-clause-count : goal.returns-clause-count
 returns-clause-count c =

@@ -6,15 +6,14 @@ use native.Mathlib.Omega.{arith}
 use lib.ListN.{get_or}
 use lib.Seq.{take_all}
 use Rattle.writing.proofs.Stores.{puts_then, puts_as, puts_none}
-use Rattle.text.proofs.Decimals.{decimal_length}
 use Rattle.lister.specs.Listing.{fields}
-use Rattle.lister.proofs.Written.{fields_more}
+use Rattle.lister.proofs.Written.{digits_few, fields_more}
 use Rattle.lister.proofs.words_line.Goals as goal
 
 pub loop-word-init : goal.loop-word-init
 loop-word-init c =
     let first = ap (λ (ws : List ℕ). get_or ws 0 0) c.in-Some.ensures.cases.0 in
-    let few = decimal_length 9 c.from.result (omega (arith, c.from.ensures, first, c.type_inv.words 0)) (omega arith) in
+    let few = digits_few c.from.result (omega (arith, c.from.ensures, first, c.type_inv.words 0)) in
     record { bound = omega (arith, c.put_decimal.ensures.wrote.place, few); put = puts_none c.put_decimal.new.text }
 
 pub loop-word-preserved : goal.loop-word-preserved

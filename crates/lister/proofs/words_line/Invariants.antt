@@ -8,6 +8,6 @@ use Rattle.lister.proofs.words_line.Given as goal
 abbrev pub invariant-loop-word : goal.invariant-loop-word
 invariant-loop-word l =
     record {
-      bound : l.text.at ≤ 165 + 11 * l.word-index;
+      bound : l.text.at ≤ l.fn.text.at + 10 + 11 * l.word-index;
       put : Puts l.initial.text (fields (take l.word-index l.others)) l.text;
     }

@@ -4,11 +4,11 @@ use native.Mathlib.Omega.{arith}
 use lib.Seq.{length-take-le}
 use Rattle.std.specs.Prelude.{Err}
 use Rattle.std.proofs.lemmas.Result.{err_from_is_err_and}
-use Rattle.pricing.proofs.Billing.{bill_other, bill_run, bill_refused, of_numbers, short}
+use Rattle.pricing.proofs.Billing.{bill_other, bill_run, bill_costly, bill_refused, of_numbers, short}
 use Rattle.pricing.proofs.bill.Goals as goal
 
 pub returns-then-not-is_numbers : goal.returns-then-not-is_numbers
-returns-then-not-is_numbers c = bill_other _ _ _ _ _ _ c.is_numbers.ensures c.if-not-is_numbers.true
+returns-then-not-is_numbers c = bill_other _ _ _ _ _ _ c.is_numbers.ensures c.if-not-is_numbers.true c.refused.ensures
 
 pub returns-in_err-report : goal.returns-in_err-report
 returns-in_err-report c =
@@ -36,8 +36,14 @@ cost-requires c =
     (of_numbers c.requires c.is_numbers.ensures c.if-not-is_numbers.false) in
     omega (arith, length-take-le _ c.begin.new.first s.1, s.0)
 
-pub returns : goal.returns
-returns c =
+pub returns-in-Ok : goal.returns-in-Ok
+returns-in-Ok c =
     let k = c.begin.auto in
     bill_run _ _ _ _ _ _ c.is_numbers.ensures c.if-not-is_numbers.false (rw c.in_ok-report.was at c.begin.ensures) k.first k.second
-    c.cost.ensures
+    c.in-Ok.ensures
+
+pub returns-in-Err : goal.returns-in-Err
+returns-in-Err c =
+    let k = c.begin.auto in
+    bill_costly _ _ _ _ _ _ c.is_numbers.ensures c.if-not-is_numbers.false (rw c.in_ok-report.was at c.begin.ensures) k.first k.second
+    c.in-Err.ensures c.refused-in-Err.ensures
