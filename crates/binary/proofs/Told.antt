@@ -17,7 +17,7 @@ use Rattle.pieces.specs.declared.values.Value.TheVariants.{Number, Lambda}
 use Rattle.pieces.specs.declared.became.Became.{Became}
 use Rattle.pieces.specs.declared.became.Became.TheVariants.{Nothing, Becomes}
 use Rattle.pieces.specs.declared.became.Piece.TheVariants.{Part, Led, Substituted}
-use Rattle.pieces.specs.Pieces.{Few, Tells}
+use Rattle.pieces.specs.Pieces.{Tells}
 use Rattle.pieces.specs.Values.{BodyOf, Looks}
 use Rattle.pieces.proofs.Looks.{lambda_shown, on_shown, no_number, no_lambda}
 use Rattle.binary.specs.Chosen.{Sum, BothNumbers, OfApply, OfTwo, OfIf}
@@ -53,10 +53,10 @@ module _ {x y : List ℕ} where
   unfolding on_numbers
   no_second s u h = record { small = tt; of = λ l a b p q f. rw (on_shown _ _ (s.of l a p)) (no_number _ _ (u.of l b q) h) }
 
-  pub both_numbers : {n m : ℕ} → Few x → Few y → Looks x (Number n) → Looks y (Number m) → BothNumbers x y (Some (n, m))
+  pub both_numbers : {n m : ℕ} → n ≤ largest → m ≤ largest → Looks x (Number n) → Looks y (Number m) → BothNumbers x y (Some (n, m))
   unfolding on_numbers
   both_numbers g k s u =
-      record { small = (s.small g, u.small k); of = λ l a b p q f. rw (on_shown _ _ (s.of l a p)) (on_shown _ _ (u.of l b q)) }
+      record { small = (g, k); of = λ l a b p q f. rw (on_shown _ _ (s.of l a p)) (on_shown _ _ (u.of l b q)) }
 
 module _ {i : Language} {x y : List ℕ} where
   pub apply_other : {v : Value} {r : Became} → Looks x v → ((p : Bor (List ℕ)) → v ≡ Lambda p → ⊥) → Tells r (amiss (as_lang i) 2)

@@ -8,7 +8,7 @@ use borrow.Author.Tests.{eqb-true, eqb-false}
 use lib.Dec.{eqb}
 use lib.ListN.{length, get_or, drop, length-drop}
 use native.Mathlib.Omega.{arith}
-use Rattle.std.proofs.Common.{Option as Found, None, Some, Result, Ok, Err, is_ok}
+use Rattle.std.proofs.Common.{Option as Found, Some, Result, Ok, Err, is_ok}
 use Rattle.calculus.specs.Trees.{Ty, N, L, list, ◌to◌}
 use Rattle.calculus.specs.Words.{put_ty, size_ty}
 use Rattle.calculus.specs.Kinds.{type}
@@ -20,7 +20,7 @@ use Rattle.types.specs.declared.Former.TheVariants as f
 use Rattle.types.specs.References.{former_at, Written, Means, codomain, arrows}
 use Rattle.types.specs.Comparisons.{differ_at, Matched, lumps_compared, Says, Compares, Compared, Equality}
 use Rattle.types.specs.declared.Difference.{Difference}
-use Rattle.types.proofs.Pairs.{none_some, former_ty, other_former, other_firsts, other_formers as formed_differently, one_former}
+use Rattle.types.proofs.Pairs.{former_ty, other_former, other_firsts, other_formers as formed_differently, one_former}
 use Rattle.types.proofs.Matching.{if_differ, if_same_lem, same_in}
 use Rattle.types.proofs.Meanings.{means_former, means_in, tree_shape, argument_written, element_written}
 use Rattle.types.proofs.Frames.{means_codomain, means_arrows}
@@ -76,10 +76,9 @@ module _ (w ls : List ℕ) (p q room : ℕ) where
         λ e. d (eh ∙ means_former w ls lo hi p t mp ∙ ap Some e ∙ sym (means_former w ls lo' hi' q u mq) ∙ sym ei) in
         rw (formed_differently t u n) (p, refl, λ x. omega arith)
 
-    -- No type is meant.
-    pub no_type : h ≡ None → (r : Result (Unit {0}) Difference) → Compares w ls p q room r
-    no_type z r t u lo hi lo' hi' mp mq less =
-        absurd (none_some (sym z ∙ eh ∙ means_former w ls lo hi p t mp))
+    -- No type is meant: no type is formed so.
+    pub no_type : ((t : Ty) → h ≡ Some (former_ty t) → ⊥) → (r : Result (Unit {0}) Difference) → Compares w ls p q room r
+    no_type z r t u lo hi lo' hi' mp mq less = absurd (z t (eh ∙ means_former w ls lo hi p t mp))
 
     module _ (same : h ≡ i) where
       -- By cases on the shape, which both have.

@@ -1,5 +1,5 @@
 -- The ways out of the typing at a term with no part that is a term. Assumes nothing.
-use Prim.Native.Nat.{ℕ, suc, ◌+◌, ◌/◌}
+use Prim.Native.Nat.{ℕ, suc, ◌+◌, ◌/◌, ◌<◌}
 use mathlib.Core.List.{List}
 use mathlib.Core.Logic.{◌⊎◌, inl, inr}
 use mathlib.Core.Option.{Option, none, some}
@@ -43,7 +43,8 @@ module _ (w : List ℕ) (at : ℕ) (ls : List ℕ) (scope : ℕ) where
   pub no_term_there : {l : Lang} → Of l w at (λ e. ⊥) → Infers l w at scope ls ls (bad at)
   no_term_there none_seen = shown tt (λ e k d. absurd (none_seen e k d))
 
-  module _ {h : Found Shape} (N : Leaf w at h) where
+  -- A place of the words, behind the first.
+  module _ (behind : 0 < at) (within : at < length w) where
     index : (l : Lang) (i : ℕ) → get_or w at 0 ≡ word (by_language l 16 32) i → get_or w at 0 / 256 ≡ i
     index ml i q = omega (arith, q)
     index sc i q = omega (arith, q)
@@ -69,7 +70,7 @@ module _ (w : List ℕ) (at : ℕ) (ls : List ℕ) (scope : ℕ) where
           → ((t : Static l) (lo hi : ℕ) → WrittenStatic l w (p + 1) t → Refers l w ls lo hi q t) → Infers l w at scope ls ls (whole q (at + 1))
       unfolding infer fault size Answers
       bound p z q f =
-          shown (omega arith, omega (arith, N.within)) (λ e k d. as_variable (Answered l (whole q (at + 1))) one e (seen e k d))
+          shown (omega arith, omega (arith, within)) (λ e k d. as_variable (Answered l (whole q (at + 1))) one e (seen e k d))
         where
           by : (o : Option (Static l)) → Bound l w at o r → Answers l w ls at (at + 1) at (at + 1) o (whole q (at + 1))
           by none b = let y : ◌≡◌ {A = ℕ} 0 1 = cc in absurd (omega arith)
@@ -82,7 +83,7 @@ module _ (w : List ℕ) (at : ℕ) (ls : List ℕ) (scope : ℕ) where
           one i Γ k d s = by (type_at l Γ i) (bound_told i Γ k d s)
 
     past : (l : Lang) (q : Reference l) → Advances {l = l} at (length w) (whole q (at + 1))
-    past l q = (omega arith, omega (arith, N.within))
+    past l q = (omega arith, omega (arith, within))
 
     -- A number; and in ML a nil or a wrong, with its type behind.
     pub a_number : Of ml w at (Shaped ml s.Number) → Infers ml w at scope ls ls (whole at (at + 1))
@@ -90,7 +91,7 @@ module _ (w : List ℕ) (at : ℕ) (ls : List ℕ) (scope : ℕ) where
     a_number seen = shown (past ml at) (λ e k d. by e (seen e k d))
       where
         by : (e : Term ml) → Shaped ml s.Number e → Answered ml (whole at (at + 1)) e
-        by e (node.a_number {n = n}) Γ k d s = (at, refl, ap (option_map former_of) (tree_shape (term ml) w at (num n) k N.behind d))
+        by e (node.a_number {n = n}) Γ k d s = (at, refl, ap (option_map former_of) (tree_shape (term ml) w at (num n) k behind d))
 
     module _ {end : ℕ} (S : TypeEnd w (at + 1) end) where
       past_type : (q : ℕ) → Advances {l = ml} at (length w) (whole q end)
@@ -104,7 +105,7 @@ module _ (w : List ℕ) (at : ℕ) (ls : List ℕ) (scope : ℕ) where
           by e (node.a_nil {t = t}) Γ k d s =
               let y : Written w (at + 1) t = (k, past_word at _ w _ d) in
               let n : end ≡ at + suc (size_ty t) = omega (arith, S.is t y) in
-              (at, ap (whole at) n, (ap (option_map former_of) (tree_shape (term ml) w at (nil t) k N.behind d), y))
+              (at, ap (whole at) n, (ap (option_map former_of) (tree_shape (term ml) w at (nil t) k behind d), y))
 
       pub a_wrong : Of ml w at (Shaped ml s.Wrong) → Infers ml w at scope ls ls (whole (at + 1) end)
       unfolding infer fault size put Answers
@@ -143,7 +144,8 @@ module _ (w : List ℕ) (at : ℕ) (ls : List ℕ) (scope : ℕ) where
         by : (e : Term sc) → Shaped sc s.Wrong e → (size e ≡ 1) × ((Γ : Lambdas) → infer Γ e ≡ some tt)
         by e (node.a_wrong c t) = (refl, λ Γ. refl)
 
-    pub a_scheme_word : (x : Shape) → h ≡ Some x → (x ≡ s.Number) ⊎ ((x ≡ s.Nil) ⊎ (x ≡ s.Wrong)) → Infers sc w at scope ls ls (whole tt (at + 1))
-    a_scheme_word x e (inl q) = scheme_number (leaf_told N s.Number (e ∙ ap Some q) sc)
-    a_scheme_word x e (inr (inl q)) = scheme_nil (leaf_told N s.Nil (e ∙ ap Some q) sc)
-    a_scheme_word x e (inr (inr q)) = scheme_wrong (leaf_told N s.Wrong (e ∙ ap Some q) sc)
+  pub a_scheme_word : {h : Found Shape} → Leaf w at h → (x : Shape) → h ≡ Some x → (x ≡ s.Number) ⊎ ((x ≡ s.Nil) ⊎ (x ≡ s.Wrong))
+      → Infers sc w at scope ls ls (whole tt (at + 1))
+  a_scheme_word N x e (inl q) = scheme_number N.behind N.within (leaf_told N s.Number (e ∙ ap Some q) sc)
+  a_scheme_word N x e (inr (inl q)) = scheme_nil N.behind N.within (leaf_told N s.Nil (e ∙ ap Some q) sc)
+  a_scheme_word N x e (inr (inr q)) = scheme_wrong N.behind N.within (leaf_told N s.Wrong (e ∙ ap Some q) sc)

@@ -4,7 +4,7 @@ use Rattle.std.specs.Option.{option_map}
 use Rattle.nodes.specs.declared.kinds.Shape.{Shape}
 use Rattle.types.specs.declared.Former.{Former}
 use Rattle.types.specs.References.{shape_at, former_of, former_at}
-use Rattle.types.proofs.Pairs.{some_is, other_former}
+use Rattle.types.proofs.Pairs.{some_is, none_some, other_former}
 use Rattle.types.proofs.Matching.{passed_on}
 use Rattle.types.proofs.Formers.{one_way, two_ways}
 use Rattle.types.proofs.Comparing.{OneFormer, other_formers, lumps, no_parts, no_type, differ, lists, functions}
@@ -45,7 +45,7 @@ returns-in_default-former t c =
 
 pub returns-in_default : goal.returns-in_default
 returns-in_default t c = no_type _ _ _ _ _ _ (at_place _ _ c.formed-former.ensures c.shape_at-first.ensures.value) _
-    (at_place _ _ c.formed.ensures c.shape_at-second.ensures.value) c.in_default.is _
+    (at_place _ _ c.formed.ensures c.shape_at-second.ensures.value) (λ u e. none_some (sym c.in_default.is ∙ e)) _
 
 -- Lists.
 lists_compared : {t : ℕ} (c : After-compare_behind t) →

@@ -15,7 +15,7 @@ returns-in_default-clause-infers c = no_term_there _ _ _ _ (leaf_of_none c.requi
 pub returns-in_err-lambda-in-Variable-clause-infers : goal.returns-in_err-lambda-in-Variable-clause-infers
 returns-in_err-lambda-in-Variable-clause-infers c =
     rw (passed_on _ c.from_residual.ensures.1)
-    (unbound _ _ _ _ c.requires ml _ c.binder.ensures
+    (unbound _ _ _ _ c.requires.behind c.requires.within ml _ c.binder.ensures
     (leaf_told c.requires s.Variable (c.in-Some.is ∙ ap Some c.in-Variable.is) ml) _ c.in_err-lambda-in-Variable.was)
 
 pub returns-in_err-lambda-in-Variable-clause-passes : goal.returns-in_err-lambda-in-Variable-clause-passes
@@ -26,24 +26,25 @@ returns-in_ok-lambda-in-Variable-clause-passes c e = refl
 
 pub returns-in_ok-lambda-in-Variable-clause-infers : goal.returns-in_ok-lambda-in-Variable-clause-infers
 returns-in_ok-lambda-in-Variable-clause-infers c =
-    bound _ _ _ _ c.requires ml _ c.binder.ensures
+    bound _ _ _ _ c.requires.behind c.requires.within ml _ c.binder.ensures
     (leaf_told c.requires s.Variable (c.in-Some.is ∙ ap Some c.in-Variable.is) ml) _ c.in_ok-lambda-in-Variable.was _
     (λ t lo hi x. written_means _ _ lo hi _ t (omega arith) x)
 
 pub returns-in-Number-clause-infers : goal.returns-in-Number-clause-infers
 returns-in-Number-clause-infers c =
-    a_number _ _ _ _ c.requires (leaf_told c.requires s.Number (c.in-Some.is ∙ ap Some c.in-Number.is) ml)
+    a_number _ _ _ _ c.requires.behind c.requires.within (leaf_told c.requires s.Number (c.in-Some.is ∙ ap Some c.in-Number.is) ml)
 
 pub returns-in-Nil-clause-infers : goal.returns-in-Nil-clause-infers
 returns-in-Nil-clause-infers c =
-    a_nil _ _ _ _ c.requires c.type_end.ensures (leaf_told c.requires s.Nil (c.in-Some.is ∙ ap Some c.in-Nil.is) ml)
+    a_nil _ _ _ _ c.requires.behind c.requires.within c.type_end.ensures (leaf_told c.requires s.Nil (c.in-Some.is ∙ ap Some c.in-Nil.is) ml)
 
 pub returns-in-Nil-clause-passes : goal.returns-in-Nil-clause-passes
 returns-in-Nil-clause-passes c e = absurd (other_shape (c.in-Some.is ∙ ap Some c.in-Nil.is) (λ z. omega (arith, z)) e)
 
 pub returns-in-Wrong-clause-infers : goal.returns-in-Wrong-clause-infers
 returns-in-Wrong-clause-infers c =
-    a_wrong _ _ _ _ c.requires c.type_end-in-Wrong.ensures (leaf_told c.requires s.Wrong (c.in-Some.is ∙ ap Some c.in-Wrong.is) ml)
+    a_wrong _ _ _ _ c.requires.behind c.requires.within c.type_end-in-Wrong.ensures
+    (leaf_told c.requires s.Wrong (c.in-Some.is ∙ ap Some c.in-Wrong.is) ml)
 
 pub returns-in-Wrong-clause-passes : goal.returns-in-Wrong-clause-passes
 returns-in-Wrong-clause-passes c e = absurd (other_shape (c.in-Some.is ∙ ap Some c.in-Wrong.is) (λ z. omega (arith, z)) e)

@@ -13,7 +13,7 @@ returns-in_default-clause-infers c = no_term_there _ _ _ _ (leaf_of_none c.requi
 pub returns-in_err-binder-in-Variable-clause-infers : goal.returns-in_err-binder-in-Variable-clause-infers
 returns-in_err-binder-in-Variable-clause-infers c =
     rw (passed_on _ c.from_residual.ensures.1)
-    (unbound _ _ _ _ c.requires sc _ c.binder.ensures
+    (unbound _ _ _ _ c.requires.behind c.requires.within sc _ c.binder.ensures
     (leaf_told c.requires s.Variable (c.in-Some.is ∙ ap Some c.in-Variable.is) sc) _ c.in_err-binder-in-Variable.was)
 
 pub returns-in_err-binder-in-Variable-clause-passes : goal.returns-in_err-binder-in-Variable-clause-passes
@@ -24,7 +24,7 @@ returns-in_ok-binder-in-Variable-clause-passes c e = refl
 
 pub returns-in_ok-binder-in-Variable-clause-infers : goal.returns-in_ok-binder-in-Variable-clause-infers
 returns-in_ok-binder-in-Variable-clause-infers c =
-    bound _ _ _ _ c.requires sc _ c.binder.ensures
+    bound _ _ _ _ c.requires.behind c.requires.within sc _ c.binder.ensures
     (leaf_told c.requires s.Variable (c.in-Some.is ∙ ap Some c.in-Variable.is) sc) _ c.in_ok-binder-in-Variable.was tt (λ t lo hi x. tt)
 
 pub returns-in-Number-clause-infers : goal.returns-in-Number-clause-infers
