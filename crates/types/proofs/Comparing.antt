@@ -76,7 +76,7 @@ module _ (w ls : List ℕ) (p q room : ℕ) where
         λ e. d (eh ∙ means_former w ls lo hi p t mp ∙ ap Some e ∙ sym (means_former w ls lo' hi' q u mq) ∙ sym ei) in
         rw (formed_differently t u n) (p, refl, λ x. omega arith)
 
-    -- No type is meant: no type is formed so.
+    -- The first reference means no type, since no type is formed as its word says.
     pub no_type : ((t : Ty) → h ≡ Some (former_ty t) → ⊥) → (r : Result (Unit {0}) Difference) → Compares w ls p q room r
     no_type z r t u lo hi lo' hi' mp mq less = absurd (z t (eh ∙ means_former w ls lo hi p t mp))
 

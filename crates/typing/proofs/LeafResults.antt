@@ -43,7 +43,7 @@ module _ (w : List ℕ) (at : ℕ) (ls : List ℕ) (scope : ℕ) where
   pub no_term_there : {l : Lang} → Of l w at (λ e. ⊥) → Infers l w at scope ls ls (bad at)
   no_term_there none_seen = shown tt (λ e k d. absurd (none_seen e k d))
 
-  -- A place of the words, behind the first.
+  -- At a place of the words, behind the first.
   module _ (behind : 0 < at) (within : at < length w) where
     index : (l : Lang) (i : ℕ) → get_or w at 0 ≡ word (by_language l 16 32) i → get_or w at 0 / 256 ≡ i
     index ml i q = omega (arith, q)
@@ -144,6 +144,7 @@ module _ (w : List ℕ) (at : ℕ) (ls : List ℕ) (scope : ℕ) where
         by : (e : Term sc) → Shaped sc s.Wrong e → (size e ≡ 1) × ((Γ : Lambdas) → infer Γ e ≡ some tt)
         by e (node.a_wrong c t) = (refl, λ Γ. refl)
 
+  -- A number, a nil or a wrong of Scheme, by the shape of the leaf.
   pub a_scheme_word : {h : Found Shape} → Leaf w at h → (x : Shape) → h ≡ Some x → (x ≡ s.Number) ⊎ ((x ≡ s.Nil) ⊎ (x ≡ s.Wrong))
       → Infers sc w at scope ls ls (whole tt (at + 1))
   a_scheme_word N x e (inl q) = scheme_number N.behind N.within (leaf_told N s.Number (e ∙ ap Some q) sc)
